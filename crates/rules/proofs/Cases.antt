@@ -1,0 +1,177 @@
+-- Document 01, "On each side of a line": cases 6 to 12, played on memories of full size that held other numbers before the opening.
+-- One table, one computed test. Leans on the rules' definitions. Assumes nothing.
+use mathlib.Core.Path.{_≡_, refl}
+use mathlib.Core.Bool.{Bool, true, false, cond, not, _&&_, _||_}
+use mathlib.Core.List.{List, [], _∷_, _++_}
+use Prim.Native.Nat.{ℕ, zero, suc, _+_, _-_, _*_}
+use lib.Dec.{T, eqb}
+use lib.ListN.{length, getD, take, drop, set, replicate}
+use Rattle.lists.specs.Lists.{same, keep, place, without, allBelow, listed, padded, written, rows, flat, entriesIn, withEntries}
+use Rattle.query.specs.Query.{admits, lies, naming, pick, readNode, writeNode, named, readCount, writeCount, value}
+use Rattle.query.specs.Words.{columnOf, queryOf, wellMarked, isQuery, namesAll, recordOf, termValue, columnValue, tag, tags, labelWords, marks, keyWords, columnsIn, queryIn, isKey}
+use Rattle.rules.specs.declared.Outcome.{Outcome}
+use Rattle.rules.specs.declared.Outcome.the-variants.{Refused, Accepted, Answered, Long, Ended, Full}
+use Rattle.rules.specs.Table.{listOf, before, has, putIn, target, isFull, outside, effect, noRoom, changes}
+use Rattle.rules.specs.Nodes.{labelIn, pending, revision, withPending, withRevision, hasLabel, nodePlace, isPresent, nodeOf, withNode, evictNode, added, isFree, oldestFree, makeRoom, addedIn, ensured, markedIn, marked, isPending, unmarked, raised, unmarkedAll, isHigh, isWorn}
+use Rattle.rules.specs.Answers.{keyIn, lengthIn, revisionIn, listIn, hasKeyOf, atLeast, serves, fetchPlace, keyPlace, filed, isLong, someLong}
+use Rattle.rules.specs.Client.{kind, steps, sawMark, didChange, foundFull, entryOf, idle, isIdle, begun, queryAt, writeAt, lastStep, isBad, stepped, flag, noted, holding, wrote}
+use Rattle.rules.specs.Memory.{Mem, mem, withTable, withNodes, recordsIn, withRecords, storeIn, withStore, answersIn, withAnswers, columnsAt, clientIn, withClient, cleared, opened, renewed}
+use Rattle.rules.specs.Outcome.{Stepped}
+use Rattle.rules.specs.Refusals.{columns, client, isShort, badColumns, badQuery, isUnsound, noDesk, isCommitted, allIdle, openCode, beginCode, atDesk, stepCode, abandonCode, evictAnswerCode, evictNodeCode, renewCode}
+use Rattle.rules.specs.Steps.{nowAt, restored, answered, lookDid, fetchDid, tableDid, fileDid, readDid, markDid, writeTableDid, endOf, raiseDid, writeDid, progress}
+use Rattle.rules.specs.Calls.{unless, openDid, beginDid, stepDone, takenBack, abandoned, abandonDid, evictAnswerDid, evictNodeDid, renewDid}
+use Rattle.rules.specs.History.{Call, beginRead, beginInsert, beginDelete, step, abandon, evictAnswer, evictNode as dropNode, renew, untrayed, callDid}
+
+-- memories that held other numbers, as an opening with k columns leaves them
+abbrev fresh : ℕ → Mem
+fresh k = openDid (mem (replicate 8200 7) (replicate 8200 7) (replicate 10000 7) (replicate 2000 7)) k .mem
+
+-- the same with records of one column in the table
+abbrev stocked : List ℕ → Mem
+stocked vs = withTable (fresh 1) (written (set (fresh 1 .table) 0 (length vs)) 8 vs)
+
+-- the same with one node at this revision
+abbrev raisedTo : ℕ → Mem
+raisedTo x = withNodes (fresh 1) (written (set (fresh 1 .nodes) 1 1) 8 (labelWords (value 5 ∷ []) ++ (0 ∷ x ∷ 0 ∷ [])))
+
+-- what a row expects of a call, or of the memories
+pub data Expect : Type 0 where
+  goesOn : Expect
+  answers : List ℕ → Bool → Expect
+  gives : ℕ → Expect
+  ends : Bool → Expect
+
+abbrev tray : List ℕ
+tray = replicate 128 9
+
+abbrev agree : Bool → Bool → Bool
+agree true b = b
+agree false b = not b
+
+abbrev meets : Expect → Outcome → List ℕ → Bool
+meets goesOn Accepted t = true
+meets goesOn (Refused n) t = false
+meets goesOn (Answered n b) t = false
+meets goesOn Long t = false
+meets goesOn (Ended b) t = false
+meets goesOn Full t = false
+meets (answers l f) Accepted t = false
+meets (answers l f) (Refused n) t = false
+meets (answers l f) (Answered n b) t = eqb n (length l) && (agree f b && same t (written tray 0 l))
+meets (answers l f) Long t = false
+meets (answers l f) (Ended b) t = false
+meets (answers l f) Full t = false
+meets (gives x) Accepted t = false
+meets (gives x) (Refused n) t = eqb n x
+meets (gives x) (Answered n b) t = false
+meets (gives x) Long t = eqb x 12 && same t tray
+meets (gives x) (Ended b) t = false
+meets (gives x) Full t = eqb x 13
+meets (ends f) Accepted t = false
+meets (ends f) (Refused n) t = false
+meets (ends f) (Answered n b) t = false
+meets (ends f) Long t = false
+meets (ends f) (Ended b) t = agree f b
+meets (ends f) Full t = false
+
+-- one line of a row: a call and what it returns; or numbers that the memories hold then
+pub data Line : Type 0 where
+  does : Call → Expect → Line
+  noted-at : ℕ → List ℕ → Line
+  filed-under : ℕ → List ℕ → Line
+  filed-count : ℕ → Line
+  floor-is : ℕ → Line
+
+abbrev plays : Mem → List Line → Bool
+plays m [] = true
+plays m (does c x ∷ ls) = let r = callDid m c in meets x (r .out) (r .tray) && plays (r .mem) ls
+plays m (noted-at d l ∷ ls) = same (take (length l) (drop 13 (clientIn (m .desks) d))) l && plays m ls
+plays m (filed-under i l ∷ ls) = same (take (length l) (drop 8 (getD (answersIn (m .answers)) i []))) l && plays m ls
+plays m (filed-count n ∷ ls) = eqb (length (answersIn (m .answers))) n && plays m ls
+plays m (floor-is f ∷ ls) = eqb (storeIn (m .nodes) .floor) f && plays m ls
+
+pub record Row : Type 0 where
+  pub from : Mem
+  pub lines : List Line
+
+abbrev row : Mem → List Line → Row
+row m ls = record { from = m; lines = ls }
+
+abbrev all : List Row → Bool
+all [] = true
+all (r ∷ rs) = plays (r .from) (r .lines) && all rs
+
+-- n accepted steps of a desk that end nothing
+abbrev going : ℕ → ℕ → List Line
+going d zero = []
+going d (suc n) = does (step d tray) goesOn ∷ going d n
+
+abbrev one : ℕ → List ℕ
+one v = 1 ∷ v ∷ []
+
+abbrev read5 : ℕ → Line
+read5 d = does (beginRead d (one 5)) goesOn
+
+abbrev inserts5 : ℕ → Bool → List Line
+inserts5 d changed = does (beginInsert d (one 5)) goesOn ∷ going d 4 ++ (does (step d tray) (ends changed) ∷ [])
+
+abbrev insertsAgain : ℕ → List Line
+insertsAgain zero = []
+insertsAgain (suc n) = inserts5 1 false ++ insertsAgain n
+
+-- 6. k 1, empty table, read 5: answers 0 records at its fifth step; read again, at its third.
+abbrev case-6 : Row
+case-6 = row (fresh 1)
+    ((read5 0 ∷ going 0 4) ++ (does (step 0 tray) (answers [] false) ∷ read5 0 ∷ going 0 2) ++ (does (step 0 tray) (answers [] true) ∷ []))
+
+-- 7. k 1: read 5 makes its two looks (1 and 1); insert 5 runs to its end; the read takes list {5} and files it under 1, 1;
+-- the next read of 5 notes 2, 1 and goes to the table.
+abbrev case-7 : Row
+case-7 = row (fresh 1)
+    ((read5 0 ∷ going 0 2) ++ (noted-at 0 (1 ∷ 1 ∷ []) ∷ inserts5 1 true) ++ going 0 2
+    ++ (does (step 0 tray) (answers (5 ∷ []) false) ∷ filed-under 0 (1 ∷ 1 ∷ []) ∷ read5 0 ∷ going 0 2)
+    ++ (noted-at 0 (2 ∷ 1 ∷ []) ∷ going 0 2) ++ (does (step 0 tray) (answers (5 ∷ []) false) ∷ []))
+
+-- 8. k 1: insert 5 has marked node 5; a read of 5 answers at its fourth step and files nothing.
+abbrev case-8 : Row
+case-8 = row (fresh 1)
+    ((does (beginInsert 1 (one 5)) goesOn ∷ going 1 1) ++ (read5 0 ∷ going 0 3) ++ (does (step 0 tray) (answers [] false) ∷ filed-count 0 ∷ []))
+
+-- 9. Node 5 leaves at counter 7, floor 1: floor 7, back at 7, and an answer filed under 7 holds.
+abbrev case-9 : Row
+case-9 = row (fresh 1)
+    (inserts5 1 true ++ insertsAgain 5 ++ (read5 0 ∷ going 0 4)
+    ++ (does (step 0 tray) (answers (5 ∷ []) false) ∷ filed-under 0 (7 ∷ 1 ∷ []) ∷ floor-is 1 ∷ does (dropNode 0) goesOn ∷ floor-is 7 ∷ read5 0 ∷ going 0 2)
+    ++ (noted-at 0 (7 ∷ 1 ∷ []) ∷ does (step 0 tray) (answers (5 ∷ []) true) ∷ []))
+
+-- 10. 32 matching records are listed; 33 give 12.
+abbrev numbers : ℕ → List ℕ
+numbers n = listed (λ i. i) 0 n
+
+abbrev readAll : Line
+readAll = does (beginRead 0 (0 ∷ 0 ∷ [])) goesOn
+
+abbrev case-10-at : Row
+case-10-at = row (stocked (numbers 32)) ((readAll ∷ going 0 3) ++ (does (step 0 tray) (answers (numbers 32) false) ∷ []))
+
+abbrev case-10-above : Row
+case-10-above = row (stocked (numbers 33)) ((readAll ∷ going 0 2) ++ (does (step 0 tray) (gives 12) ∷ []))
+
+-- 11. Table of 2,048: inserting one already there ends unchanged; a new one gives 13.
+abbrev case-11 : Row
+case-11 = row (stocked (numbers 2048))
+    (inserts5 0 false ++ (does (beginInsert 1 (one 5000)) goesOn ∷ going 1 4) ++ (does (step 1 tray) (gives 13) ∷ []))
+
+-- 12. Highest counter 4,294,967,103: a write begins; 4,294,967,104: 10.
+abbrev case-12-at : Row
+case-12-at = row (raisedTo 4294967103) (does (beginInsert 0 (one 5)) goesOn ∷ [])
+
+abbrev case-12-above : Row
+case-12-above = row (raisedTo 4294967104) (does (beginInsert 0 (one 5)) (gives 10) ∷ does (beginRead 0 (one 5)) goesOn ∷ [])
+
+abbrev cases : List Row
+cases = case-6 ∷ case-7 ∷ case-8 ∷ case-9 ∷ case-10-at ∷ case-10-above ∷ case-11 ∷ case-12-at ∷ case-12-above ∷ []
+
+pub cases-6-to-12 : T (all cases)
+unfolding same keep place without allBelow listed padded written rows flat entriesIn withEntries admits lies naming pick readNode writeNode named readCount writeCount columnOf queryOf wellMarked isQuery namesAll recordOf termValue columnValue tag tags labelWords marks keyWords columnsIn queryIn isKey listOf before has putIn target isFull outside effect noRoom changes labelIn pending revision withPending withRevision hasLabel nodePlace isPresent nodeOf withNode evictNode added isFree oldestFree makeRoom addedIn ensured markedIn marked isPending unmarked raised unmarkedAll isHigh isWorn keyIn lengthIn revisionIn listIn hasKeyOf atLeast serves fetchPlace keyPlace filed isLong someLong kind steps sawMark didChange foundFull entryOf idle isIdle begun queryAt writeAt lastStep isBad stepped flag noted holding wrote recordsIn withRecords storeIn withStore answersIn withAnswers columnsAt clientIn withClient cleared opened renewed columns client isShort badColumns badQuery isUnsound noDesk isCommitted allIdle openCode beginCode atDesk stepCode abandonCode evictAnswerCode evictNodeCode renewCode nowAt restored answered lookDid fetchDid tableDid fileDid readDid markDid writeTableDid endOf raiseDid writeDid progress unless openDid beginDid stepDone takenBack abandoned abandonDid evictAnswerDid evictNodeDid renewDid untrayed callDid
+cases-6-to-12 = tt

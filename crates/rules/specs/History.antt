@@ -1,0 +1,92 @@
+-- Document 01, "A history and the plain table". Leans on Calls. Definitions only. Assumes nothing.
+use mathlib.Core.Bool.{Bool, true, false, cond, not, _&&_, _||_}
+use mathlib.Core.List.{List, [], _∷_, _++_}
+use Prim.Native.Nat.{ℕ, zero, suc, _+_}
+use lib.Dec.{eqb}
+use lib.ListN.{length}
+use Rattle.query.specs.Query.{Query, writeCount}
+use Rattle.query.specs.Words.{queryOf, recordOf}
+use Rattle.rules.specs.Table.{Table, Write, insert, delete, target, effect}
+use Rattle.rules.specs.Client.{reads, inserts, deletes}
+use Rattle.rules.specs.Memory.{Mem}
+use Rattle.rules.specs.Outcome.{Did, Stepped, stepDid, number}
+use Rattle.rules.specs.Calls.{beginDid, stepDone, abandonDid, evictAnswerDid, evictNodeDid, renewDid}
+
+-- "begins of reads, inserts and deletes, steps, abandonings, both puttings out, renewals, with any arguments.
+-- The tray may be another each time, of any length and contents."
+pub data Call : Type 0 where
+  beginRead : ℕ → List ℕ → Call
+  beginInsert : ℕ → List ℕ → Call
+  beginDelete : ℕ → List ℕ → Call
+  step : ℕ → List ℕ → Call
+  abandon : ℕ → Call
+  evictAnswer : ℕ → Call
+  evictNode : ℕ → Call
+  renew : Call
+
+-- what a call returns and leaves; a call that is lent no tray leaves none
+unfoldable pub untrayed : Did → Stepped
+untrayed x = stepDid (x .out) (x .mem) []
+
+unfoldable pub callDid : Mem → Call → Stepped
+callDid m (beginRead d a) = untrayed (beginDid m reads d a)
+callDid m (beginInsert d a) = untrayed (beginDid m inserts d a)
+callDid m (beginDelete d a) = untrayed (beginDid m deletes d a)
+callDid m (step d tray) = stepDone m tray d
+callDid m (abandon d) = untrayed (abandonDid m d)
+callDid m (evictAnswer i) = untrayed (evictAnswerDid m i)
+callDid m (evictNode i) = untrayed (evictNodeDid m i)
+callDid m renew = untrayed (renewDid m)
+
+-- "A call is accepted if it returns 0, 12 or 13."
+unfoldable pub isAccepted : ℕ → Bool
+isAccepted n = eqb n 0 || (eqb n 12 || eqb n 13)
+
+-- what the plain table notes at a desk: "the kind, the query and 0 steps"
+pub data Note : Type 0 where
+  nothing : Note
+  reading : Query → ℕ → Note
+  writing : Write → ℕ → Note
+
+-- "The plain table is fed the calls' arguments and the number each returned, and nothing from the memories."
+pub record Plain : Type 0 where
+  pub table : Table
+  pub notes : ℕ → Note
+
+-- "At the opening it has no records, and no desk has anything noted."
+unfoldable pub plainAtOpening : Plain
+plainAtOpening = record { table = []; notes = λ d. nothing }
+
+unfoldable pub noteAt : Plain → ℕ → Note → Plain
+noteAt p d x = record { table = p .table; notes = λ e. cond (eqb e d) x (p .notes e) }
+
+-- "An accepted step adds one to its desk's steps. If a write is noted there and its steps are now one more than it has nodes,
+-- it takes effect"
+unfoldable pub oneStep : Plain → ℕ → Note → Plain
+oneStep p d nothing = p
+oneStep p d (reading q n) = noteAt p d (reading q (n + 1))
+oneStep p d (writing w n) =
+    noteAt (record { table = cond (eqb (n + 1) (writeCount (target w) + 1)) (effect w (p .table)) (p .table); notes = p .notes }) d (writing w (n + 1))
+
+-- "An accepted abandoning takes away its desk's note." "Puttings out, renewals and refused calls change nothing."
+unfoldable pub fedAccepted : Plain → Call → Plain
+fedAccepted p (beginRead d a) = noteAt p d (reading (queryOf a) 0)
+fedAccepted p (beginInsert d a) = noteAt p d (writing (insert (recordOf (queryOf a))) 0)
+fedAccepted p (beginDelete d a) = noteAt p d (writing (delete (queryOf a)) 0)
+fedAccepted p (step d tray) = oneStep p d (p .notes d)
+fedAccepted p (abandon d) = noteAt p d nothing
+fedAccepted p (evictAnswer i) = p
+fedAccepted p (evictNode i) = p
+fedAccepted p renew = p
+
+unfoldable pub fed : Plain → Call → ℕ → Plain
+fed p c n = cond (isAccepted n) (fedAccepted p c) p
+
+-- the memories and the plain table after the calls of a history, from memories that an accepted opening has left
+unfoldable pub memAfter : Mem → List Call → Mem
+memAfter m [] = m
+memAfter m (c ∷ cs) = memAfter (callDid m c .mem) cs
+
+unfoldable pub plainAfter : Mem → Plain → List Call → Plain
+plainAfter m p [] = p
+plainAfter m p (c ∷ cs) = plainAfter (callDid m c .mem) (fed p c (number (callDid m c .out))) cs

@@ -1,0 +1,11 @@
+pub mod Sizes
+pub mod Table
+pub mod Nodes
+pub mod Answers
+pub mod Client
+pub mod Memory
+pub mod Outcome
+pub mod Refusals
+pub mod Steps
+pub mod Calls
+pub mod History

@@ -1,0 +1,65 @@
+-- Document 01, "One desk, step by step": what the table step lists, adds and removes (source document 002, definition 5).
+-- Leans on Query. Definitions only. Assumes nothing.
+use mathlib.Core.Bool.{Bool, true, false, cond, not, _&&_, _||_}
+use mathlib.Core.List.{List, [], _∷_, _++_}
+use Prim.Native.Nat.{ℕ}
+use lib.Dec.{eqb, ltb, leb}
+use lib.ListN.{length}
+use Rattle.lists.specs.Lists.{same, keep}
+use Rattle.rules.specs.Sizes.{maxRecords}
+use Rattle.query.specs.Query.{Query, Record, lies, naming}
+
+-- definition 2: a table, as the list of its records
+abbrev pub Table : Type 0
+Table = List Record
+
+-- "A query's list at a moment is the plain table's records in its subspace, in the table's order."
+unfoldable pub listOf : Query → Table → List Record
+listOf q t = keep (lies q) t
+
+-- "ascending by first column, then second, and so on"
+unfoldable pub before : Record → Record → Bool
+before [] s = false
+before (x ∷ r) [] = false
+before (x ∷ r) (y ∷ s) = ltb x y || (eqb x y && before r s)
+
+unfoldable pub has : Record → Table → Bool
+has r [] = false
+has r (s ∷ t) = same s r || has r t
+
+-- "a record goes in before the first greater one"
+unfoldable pub putIn : Record → Table → Table
+putIn r [] = r ∷ []
+putIn r (s ∷ t) = cond (before r s) (r ∷ s ∷ t) (s ∷ putIn r t)
+
+-- "Write (insert of a record, or delete of a query)."
+pub data Write : Type 0 where
+  insert : Record → Write
+  delete : Query → Write
+
+-- the query whose subspace a write changes
+unfoldable pub target : Write → Query
+target (insert r) = naming r
+target (delete q) = q
+
+-- "at the table step the table held 2,048 records, not this one"
+unfoldable pub isFull : Record → Table → Bool
+isFull r t = leb maxRecords (length t) && not (has r t)
+
+unfoldable pub outside : Query → Record → Bool
+outside q r = not (lies q r)
+
+-- "an insert puts its record in its ascending place, unless it is there already or 2,048 records are;
+-- a delete takes out every record in its subspace"
+unfoldable pub effect : Write → Table → Table
+effect (insert r) t = cond (has r t || leb maxRecords (length t)) t (putIn r t)
+effect (delete q) t = keep (outside q) t
+
+-- 13: the insert found no room
+unfoldable pub noRoom : Write → Table → Bool
+noRoom (insert r) t = isFull r t
+noRoom (delete q) t = false
+
+-- "whether the table changed": a write changes the records exactly if it changes their number
+unfoldable pub changes : Write → Table → Bool
+changes w t = not (eqb (length (effect w t)) (length t))
