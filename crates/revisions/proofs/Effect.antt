@@ -5,11 +5,7 @@ use mathlib.Core.Bool.{Bool, true, false, cond, _||_}
 use mathlib.Core.List.{List, [], _∷_}
 use Prim.Native.Nat.{ℕ, _+_, _≤_}
 use Rattle.lists.specs.Lists.{same}
-use Rattle.rules.specs.Nodes.{Node, Store, labelIn, pending, revision}
-
--- a label as a node keeps it
-abbrev pub Words : Type 0
-Words = List ℕ
+use Rattle.rules.specs.Nodes.{Words, Node, Store, labelIn, pending, revision}
 
 -- a label's first node: whether there is one, its revision (the floor where there is none), its pending writes
 unfoldable pub has : List Node → Words → Bool

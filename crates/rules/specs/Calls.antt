@@ -8,9 +8,9 @@ use lib.Dec.{eqb, ltb, leb}
 use lib.ListN.{length, getD}
 use Rattle.lists.specs.Lists.{listed, without}
 use Rattle.rules.specs.declared.Outcome.the-variants.{Refused, Accepted}
-use Rattle.query.specs.Query.{writeNode}
-use Rattle.query.specs.Words.{queryOf}
-use Rattle.rules.specs.Nodes.{Store, evictNode, unmarkedAll}
+use Rattle.query.specs.Query.{Query, writeNode}
+use Rattle.query.specs.Words.{queryOf, labelWords}
+use Rattle.rules.specs.Nodes.{Words, Store, evictNode, unmarkedAll}
 use Rattle.rules.specs.Client.{kind, steps, reads, idle, begun, queryAt}
 use Rattle.rules.specs.Memory.{Mem, withFiled, storeIn, answersIn, withAnswers, opened, renewed}
 use Rattle.rules.specs.Outcome.{Did, did, Stepped, stepDid}
@@ -32,6 +32,10 @@ unfoldable pub stepDone : Mem → List ℕ → ℕ → Stepped
 stepDone m tray d = cond (eqb (stepCode m tray d) 0) (progress m tray d) (stepDid (Refused (stepCode m tray d)) m tray)
 
 -- "**Abandon.** A reader's desk becomes idle. A writer before its table step takes back the marks it has set."
+-- the labels that a write has marked in its first n steps
+unfoldable pub marksSet : Query → ℕ → List Words
+marksSet q n = listed (λ j. labelWords (writeNode q j)) 0 n
+
 unfoldable pub takenBack : Mem → ℕ → Option Store → Did
 takenBack m d none = did (Refused 3) m
 takenBack m d (some s) = did Accepted (nowAt (restored m s) d idle)
@@ -40,7 +44,7 @@ unfoldable pub abandoned : Mem → ℕ → Did
 abandoned m d =
     cond (eqb (kind (client m d)) reads) (did Accepted (nowAt m d idle))
     (takenBack m d
-    (unmarkedAll (listed (writeNode (queryAt (columns m) (client m d))) 0 (steps (client m d))) (storeIn (m .nodes))))
+    (unmarkedAll (marksSet (queryAt (columns m) (client m d)) (steps (client m d))) (storeIn (m .nodes))))
 
 unfoldable pub abandonDid : Mem → ℕ → Did
 abandonDid m d = unless (abandonCode m d) m (abandoned m d)

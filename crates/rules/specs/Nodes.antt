@@ -1,5 +1,5 @@
 -- Document 01, "One desk, step by step": the revision nodes and the floor. A node is kept as its eight numbers (docs/LAYOUT.md).
--- Leans on Query. Definitions only. Assumes nothing.
+-- A label is given by the five numbers that a node keeps of it (query, `labelWords`). Leans on lists. Definitions only. Assumes nothing.
 use mathlib.Core.Bool.{Bool, true, false, cond, not, _&&_, _||_}
 use mathlib.Core.List.{List, [], _∷_, _++_}
 use mathlib.Core.Option.{Option, none, some}
@@ -8,14 +8,16 @@ use lib.Dec.{eqb, ltb, leb}
 use lib.ListN.{length, getD, take, drop, set}
 use Rattle.lists.specs.Lists.{same, place, without}
 use Rattle.rules.specs.Sizes.{maxNodes, maxPending, maxRevision, wornAbove}
-use Rattle.query.specs.Query.{Label}
-use Rattle.query.specs.Words.{labelWords}
+
+-- a label in five numbers
+abbrev pub Words : Type 0
+Words = List ℕ
 
 -- "label, counter, marks": the paper's counter is the node's revision, its marks are its pending writes
 abbrev pub Node : Type 0
 Node = List ℕ
 
-unfoldable pub labelIn : Node → List ℕ
+unfoldable pub labelIn : Node → Words
 labelIn n = take 5 n
 
 unfoldable pub pending : Node → ℕ
@@ -39,20 +41,20 @@ abbrev pub store : ℕ → List Node → Store
 store f ns = record { floor = f; nodes = ns }
 
 -- where a label's node stands: "of several entries that fit, the one nearest the start is used"
-unfoldable pub hasLabel : Label → Node → Bool
-hasLabel p n = same (labelIn n) (labelWords p)
+unfoldable pub hasLabel : Words → Node → Bool
+hasLabel p n = same (labelIn n) p
 
-unfoldable pub nodePlace : Label → List Node → ℕ
+unfoldable pub nodePlace : Words → List Node → ℕ
 nodePlace p ns = place (hasLabel p) ns
 
-unfoldable pub isPresent : Label → Store → Bool
+unfoldable pub isPresent : Words → Store → Bool
 isPresent p s = ltb (nodePlace p (s .nodes)) (length (s .nodes))
 
-unfoldable pub nodeOf : Label → Store → Node
+unfoldable pub nodeOf : Words → Store → Node
 nodeOf p s = getD (s .nodes) (nodePlace p (s .nodes)) []
 
 -- the label's node becomes n
-unfoldable pub withNode : Label → Node → Store → Store
+unfoldable pub withNode : Words → Node → Store → Store
 withNode p n s = store (s .floor) (set (s .nodes) (nodePlace p (s .nodes)) n)
 
 -- "A node's leaving sets the floor to the larger of floor and its counter." (The paper's putting out is an eviction.)
@@ -60,8 +62,8 @@ unfoldable pub evictNode : ℕ → Store → Store
 evictNode i s = store (max (s .floor) (revision (getD (s .nodes) i []))) (without i (s .nodes))
 
 -- "A missing node is added last, with the floor as counter and 0 marks"
-unfoldable pub added : Label → Store → Store
-added p s = store (s .floor) (s .nodes ++ ((labelWords p ++ (0 ∷ s .floor ∷ 0 ∷ [])) ∷ []))
+unfoldable pub added : Words → Store → Store
+added p s = store (s .floor) (s .nodes ++ ((p ++ (0 ∷ s .floor ∷ 0 ∷ [])) ∷ []))
 
 -- "if 1,024 are there, the oldest unmarked one is put out first"
 unfoldable pub isFree : Node → Bool
@@ -76,39 +78,39 @@ makeRoom s =
     (cond (ltb (oldestFree (s .nodes)) (length (s .nodes))) (some (evictNode (oldestFree (s .nodes)) s)) none)
 
 -- "and the floor is the one after that": the node takes the floor as the eviction has left it
-unfoldable pub addedIn : Label → Option Store → Option Store
+unfoldable pub addedIn : Words → Option Store → Option Store
 addedIn p none = none
 addedIn p (some s) = some (added p s)
 
 -- the store with the label's node present, or none: "no unmarked node to put out" (3)
-unfoldable pub ensured : Label → Store → Option Store
+unfoldable pub ensured : Words → Store → Option Store
 ensured p s = cond (isPresent p s) (some s) (addedIn p (makeRoom s))
 
 -- *mark*: "marks go up by one, a missing node being added as above"; none: "marks at 12 or more to add to" (3)
-unfoldable pub markedIn : Label → Option Store → Option Store
+unfoldable pub markedIn : Words → Option Store → Option Store
 markedIn p none = none
 markedIn p (some s) =
     cond (leb maxPending (pending (nodeOf p s))) none (some (withNode p (withPending (nodeOf p s) (pending (nodeOf p s) + 1)) s))
 
-unfoldable pub marked : Label → Store → Option Store
+unfoldable pub marked : Words → Store → Option Store
 marked p s = markedIn p (ensured p s)
 
 -- "a raise or the taking back of a mark finds its node missing or unmarked" (3)
-unfoldable pub isPending : Label → Store → Bool
+unfoldable pub isPending : Words → Store → Bool
 isPending p s = isPresent p s && ltb 0 (pending (nodeOf p s))
 
 -- the taking back of one mark
-unfoldable pub unmarked : Label → Store → Store
+unfoldable pub unmarked : Words → Store → Store
 unmarked p s = withNode p (withPending (nodeOf p s) (pending (nodeOf p s) - 1)) s
 
 -- *raise*: "counter up by one, marks down by one"; none: also "a counter at its largest to raise" (3)
-unfoldable pub raised : Label → Store → Option Store
+unfoldable pub raised : Words → Store → Option Store
 raised p s =
     cond (isPending p s && ltb (revision (nodeOf p s)) maxRevision)
     (some (unmarked p (withNode p (withRevision (nodeOf p s) (revision (nodeOf p s) + 1)) s))) none
 
 -- "takes back the marks it has set": all of them, or none where one is not there to be taken back
-unfoldable pub unmarkedAll : List Label → Store → Option Store
+unfoldable pub unmarkedAll : List Words → Store → Option Store
 unmarkedAll [] s = some s
 unmarkedAll (p ∷ ps) s = cond (isPending p s) (unmarkedAll ps (unmarked p s)) none
 

@@ -10,9 +10,10 @@ use Rattle.lists.specs.Lists.{flat, written}
 use Rattle.rules.specs.declared.Outcome.{Outcome}
 use Rattle.rules.specs.declared.Outcome.the-variants.{Refused, Accepted, Answered, Long, Ended, Full}
 use Rattle.rules.specs.Sizes.{maxList}
-use Rattle.query.specs.Query.{Query, Record, Label, readNode, writeNode, readCount, writeCount}
+use Rattle.query.specs.Query.{Query, Record, readNode, writeNode, readCount, writeCount}
+use Rattle.query.specs.Words.{labelWords}
 use Rattle.rules.specs.Table.{Write, target, listOf, effect, changes, noRoom}
-use Rattle.rules.specs.Nodes.{Store, ensured, marked, raised, nodeOf, revision, pending}
+use Rattle.rules.specs.Nodes.{Words, Store, ensured, marked, raised, nodeOf, revision, pending}
 use Rattle.rules.specs.Answers.{Entry, lengthIn, listIn, fetchPlace, filed}
 use Rattle.rules.specs.Client.{Client, kind, steps, sawMark, didChange, foundFull, entryOf, reads, idle, queryAt, writeAt, stepped, noted, holding, wrote}
 use Rattle.rules.specs.Memory.{Mem, withTable, withNodes, withFiled, withDesks, recordsIn, withRecords, storeIn, withStore, answersIn, withAnswers, withClient}
@@ -32,7 +33,7 @@ unfoldable pub answered : Mem → List ℕ → ℕ → ℕ → List ℕ → Bool
 answered m tray d n l cached = stepDid (Answered n cached) (nowAt m d idle) (written tray 0 l)
 
 -- **Read.** "A look at a node present notes its counter and whether its marks are above 0. A missing node is added last"
-unfoldable pub lookDid : Mem → List ℕ → ℕ → ℕ → Label → Option Store → Stepped
+unfoldable pub lookDid : Mem → List ℕ → ℕ → ℕ → Words → Option Store → Stepped
 lookDid m tray d j p none = stepDid (Refused 3) m tray
 lookDid m tray d j p (some s) =
     stepDid Accepted (nowAt (restored m s) d (noted j (revision (nodeOf p s)) (pending (nodeOf p s)) (client m d))) tray
@@ -60,7 +61,7 @@ fileDid m tray d e =
 
 unfoldable pub readDid : Mem → List ℕ → ℕ → Query → ℕ → Stepped
 readDid m tray d q i =
-    cond (ltb i (readCount q)) (lookDid m tray d i (readNode q i) (ensured (readNode q i) (storeIn (m .nodes))))
+    cond (ltb i (readCount q)) (lookDid m tray d i (labelWords (readNode q i)) (ensured (labelWords (readNode q i)) (storeIn (m .nodes))))
     (cond (eqb i (readCount q)) (fetchDid m tray d (fetchPlace (readCount q) (entryOf (client m d)) (answersIn (m .answers))))
     (cond (eqb i (readCount q + 1)) (tableDid m tray d (listOf q (recordsIn (columns m) (m .table))))
     (fileDid m tray d (entryOf (client m d)))))
@@ -90,9 +91,9 @@ raiseDid m tray d isLast (some s) =
 
 unfoldable pub writeDid : Mem → List ℕ → ℕ → Write → Query → ℕ → Stepped
 writeDid m tray d w q i =
-    cond (ltb i (writeCount q)) (markDid m tray d (marked (writeNode q i) (storeIn (m .nodes))))
+    cond (ltb i (writeCount q)) (markDid m tray d (marked (labelWords (writeNode q i)) (storeIn (m .nodes))))
     (cond (eqb i (writeCount q)) (writeTableDid m tray d w)
-    (raiseDid m tray d (eqb i (writeCount q + writeCount q)) (raised (writeNode q (i - (writeCount q + 1))) (storeIn (m .nodes)))))
+    (raiseDid m tray d (eqb i (writeCount q + writeCount q)) (raised (labelWords (writeNode q (i - (writeCount q + 1)))) (storeIn (m .nodes)))))
 
 unfoldable pub progress : Mem → List ℕ → ℕ → Stepped
 progress m tray d =
