@@ -5,7 +5,7 @@ use mathlib.Core.List.{List, [], _∷_, _++_}
 use Prim.Native.Nat.{ℕ}
 use lib.Dec.{eqb, ltb, leb}
 use lib.ListN.{length}
-use Rattle.lists.specs.Lists.{same, keep}
+use Rattle.lists.specs.Lists.{same, before, keep}
 use Rattle.rules.specs.Sizes.{maxRecords}
 use Rattle.query.specs.Query.{Query, Record, lies, naming}
 
@@ -17,17 +17,11 @@ Table = List Record
 unfoldable pub listOf : Query → Table → List Record
 listOf q t = keep (lies q) t
 
--- "ascending by first column, then second, and so on"
-unfoldable pub before : Record → Record → Bool
-before [] s = false
-before (x ∷ r) [] = false
-before (x ∷ r) (y ∷ s) = ltb x y || (eqb x y && before r s)
-
 unfoldable pub has : Record → Table → Bool
 has r [] = false
 has r (s ∷ t) = same s r || has r t
 
--- "a record goes in before the first greater one"
+-- "ascending by first column, then second, and so on" (lists, `before`); "a record goes in before the first greater one"
 unfoldable pub putIn : Record → Table → Table
 putIn r [] = r ∷ []
 putIn r (s ∷ t) = cond (before r s) (r ∷ s ∷ t) (s ∷ putIn r t)
