@@ -1,5 +1,6 @@
--- Document 01, "On each side of a line": cases 6 to 12, played on memories of full size that held other numbers before the opening.
--- One table, one computed test. Leans on the rules' definitions. Assumes nothing.
+-- Document 01, "On each side of a line": cases 1 to 12 as rows of one table, with one computed test. Rows 1 to 5 are those that query
+-- states about nodes; 6 to 12 are played on memories of full size that held other numbers before the opening.
+-- Leans on the rules' definitions. Assumes nothing.
 use mathlib.Core.Path.{_≡_, refl}
 use mathlib.Core.Bool.{Bool, true, false, cond, not, _&&_, _||_}
 use mathlib.Core.List.{List, [], _∷_, _++_}
@@ -7,8 +8,10 @@ use Prim.Native.Nat.{ℕ, zero, suc, _+_, _-_, _*_}
 use lib.Dec.{T, eqb}
 use lib.ListN.{length, getD, take, drop, set, replicate}
 use Rattle.lists.specs.Lists.{same, before, keep, place, without, allBelow, listed, padded, written, rows, flat, entriesIn, withEntries}
-use Rattle.query.specs.Query.{admits, lies, naming, pick, readNode, writeNode, named, readCount, writeCount, value}
+use Rattle.query.specs.Query.{admits, lies, naming, pick, readNode, writeNode, named, readCount, writeCount, readNodes, writeNodes, value}
+use Rattle.query.specs.Sheet.{turned, looks, sheetEntry, starsIn, starsOf}
 use Rattle.query.specs.Words.{columnOf, queryOf, wellMarked, isQuery, namesAll, recordOf, termValue, columnValue, tag, tags, labelWords, marks, keyWords, columnsIn, queryIn, isKey}
+use Rattle.query.proofs.Rows as nodes
 use Rattle.rules.specs.declared.Outcome.{Outcome}
 use Rattle.rules.specs.declared.Outcome.the-variants.{Refused, Accepted, Answered, Long, Ended, Full}
 use Rattle.rules.specs.Table.{listOf, has, putIn, target, isFull, outside, effect, noRoom, changes}
@@ -90,16 +93,21 @@ plays m (filed-under i l ∷ ls) = same (take (length l) (drop 8 (getD (answersI
 plays m (filed-count n ∷ ls) = eqb (length (answersIn (m .answers))) n && plays m ls
 plays m (floor-is f ∷ ls) = eqb (storeIn (m .nodes) .floor) f && plays m ls
 
-pub record Row : Type 0 where
-  pub from : Mem
-  pub lines : List Line
+pub data Row : Type 0 where
+  states : nodes.Row → Row
+  from : Mem → List Line → Row
 
-abbrev row : Mem → List Line → Row
-row m ls = record { from = m; lines = ls }
+abbrev pub holds : Row → Bool
+holds (states r) = nodes.holds r
+holds (from m ls) = plays m ls
 
-abbrev all : List Row → Bool
+abbrev pub all : List Row → Bool
 all [] = true
-all (r ∷ rs) = plays (r .from) (r .lines) && all rs
+all (r ∷ rs) = holds r && all rs
+
+abbrev stated : List nodes.Row → List Row
+stated [] = []
+stated (r ∷ rs) = states r ∷ stated rs
 
 -- n accepted steps of a desk that end nothing
 abbrev going : ℕ → ℕ → List Line
@@ -121,25 +129,25 @@ insertsAgain (suc n) = inserts5 1 false ++ insertsAgain n
 
 -- 6. k 1, empty table, read 5: answers 0 records at its fifth step; read again, at its third.
 abbrev case-6 : Row
-case-6 = row (fresh 1)
+case-6 = from (fresh 1)
     ((read5 0 ∷ going 0 4) ++ (does (step 0 tray) (answers [] false) ∷ read5 0 ∷ going 0 2) ++ (does (step 0 tray) (answers [] true) ∷ []))
 
 -- 7. k 1: read 5 makes its two looks (1 and 1); insert 5 runs to its end; the read takes list {5} and files it under 1, 1;
 -- the next read of 5 notes 2, 1 and goes to the table.
 abbrev case-7 : Row
-case-7 = row (fresh 1)
+case-7 = from (fresh 1)
     ((read5 0 ∷ going 0 2) ++ (noted-at 0 (1 ∷ 1 ∷ []) ∷ inserts5 1 true) ++ going 0 2
     ++ (does (step 0 tray) (answers (5 ∷ []) false) ∷ filed-under 0 (1 ∷ 1 ∷ []) ∷ read5 0 ∷ going 0 2)
     ++ (noted-at 0 (2 ∷ 1 ∷ []) ∷ going 0 2) ++ (does (step 0 tray) (answers (5 ∷ []) false) ∷ []))
 
 -- 8. k 1: insert 5 has marked node 5; a read of 5 answers at its fourth step and files nothing.
 abbrev case-8 : Row
-case-8 = row (fresh 1)
+case-8 = from (fresh 1)
     ((does (beginInsert 1 (one 5)) goesOn ∷ going 1 1) ++ (read5 0 ∷ going 0 3) ++ (does (step 0 tray) (answers [] false) ∷ filed-count 0 ∷ []))
 
 -- 9. Node 5 leaves at counter 7, floor 1: floor 7, back at 7, and an answer filed under 7 holds.
 abbrev case-9 : Row
-case-9 = row (fresh 1)
+case-9 = from (fresh 1)
     (inserts5 1 true ++ insertsAgain 5 ++ (read5 0 ∷ going 0 4)
     ++ (does (step 0 tray) (answers (5 ∷ []) false) ∷ filed-under 0 (7 ∷ 1 ∷ []) ∷ floor-is 1 ∷ does (dropNode 0) goesOn ∷ floor-is 7 ∷ read5 0 ∷ going 0 2)
     ++ (noted-at 0 (7 ∷ 1 ∷ []) ∷ does (step 0 tray) (answers (5 ∷ []) true) ∷ []))
@@ -152,26 +160,28 @@ abbrev readAll : Line
 readAll = does (beginRead 0 (0 ∷ 0 ∷ [])) goesOn
 
 abbrev case-10-at : Row
-case-10-at = row (stocked (numbers 32)) ((readAll ∷ going 0 3) ++ (does (step 0 tray) (answers (numbers 32) false) ∷ []))
+case-10-at = from (stocked (numbers 32)) ((readAll ∷ going 0 3) ++ (does (step 0 tray) (answers (numbers 32) false) ∷ []))
 
 abbrev case-10-above : Row
-case-10-above = row (stocked (numbers 33)) ((readAll ∷ going 0 2) ++ (does (step 0 tray) (gives 12) ∷ []))
+case-10-above = from (stocked (numbers 33)) ((readAll ∷ going 0 2) ++ (does (step 0 tray) (gives 12) ∷ []))
 
 -- 11. Table of 2,048: inserting one already there ends unchanged; a new one gives 13.
 abbrev case-11 : Row
-case-11 = row (stocked (numbers 2048))
+case-11 = from (stocked (numbers 2048))
     (inserts5 0 false ++ (does (beginInsert 1 (one 5000)) goesOn ∷ going 1 4) ++ (does (step 1 tray) (gives 13) ∷ []))
 
 -- 12. Highest counter 4,294,967,103: a write begins; 4,294,967,104: 10.
 abbrev case-12-at : Row
-case-12-at = row (raisedTo 4294967103) (does (beginInsert 0 (one 5)) goesOn ∷ [])
+case-12-at = from (raisedTo 4294967103) (does (beginInsert 0 (one 5)) goesOn ∷ [])
 
 abbrev case-12-above : Row
-case-12-above = row (raisedTo 4294967104) (does (beginInsert 0 (one 5)) (gives 10) ∷ does (beginRead 0 (one 5)) goesOn ∷ [])
+case-12-above = from (raisedTo 4294967104) (does (beginInsert 0 (one 5)) (gives 10) ∷ does (beginRead 0 (one 5)) goesOn ∷ [])
 
-abbrev cases : List Row
-cases = case-6 ∷ case-7 ∷ case-8 ∷ case-9 ∷ case-10-at ∷ case-10-above ∷ case-11 ∷ case-12-at ∷ case-12-above ∷ []
+abbrev pub cases : List Row
+cases =
+    stated nodes.cases
+    ++ (case-6 ∷ case-7 ∷ case-8 ∷ case-9 ∷ case-10-at ∷ case-10-above ∷ case-11 ∷ case-12-at ∷ case-12-above ∷ [])
 
-pub cases-6-to-12 : T (all cases)
-unfolding same keep place without allBelow listed padded written rows flat entriesIn withEntries admits lies naming pick readNode writeNode named readCount writeCount columnOf queryOf wellMarked isQuery namesAll recordOf termValue columnValue tag tags labelWords marks keyWords columnsIn queryIn isKey listOf before has putIn target isFull outside effect noRoom changes labelIn pending revision withPending withRevision hasLabel nodePlace isPresent nodeOf withNode evictNode added isFree oldestFree makeRoom addedIn ensured markedIn marked isPending unmarked raised unmarkedAll isHigh isWorn keyIn lengthIn revisionIn listIn hasKeyOf atLeast serves fetchPlace keyPlace filed isLong someLong kind steps sawMark didChange foundFull entryOf idle isIdle begun queryAt writeAt lastStep isBad stepped flag noted holding wrote recordsIn withRecords storeIn withStore answersIn withAnswers columnsAt clientIn withClient cleared opened renewed columns client isShort badColumns badQuery isUnsound noDesk isCommitted allIdle openCode beginCode atDesk stepCode abandonCode evictAnswerCode evictNodeCode renewCode nowAt restored answered lookDid fetchDid tableDid fileDid readDid markDid writeTableDid endOf raiseDid writeDid progress unless openDid beginDid stepDone takenBack marksSet abandoned abandonDid evictAnswerDid evictNodeDid renewDid untrayed callDid
-cases-6-to-12 = tt
+pub cases-1-to-12 : T (all cases)
+unfolding readNodes writeNodes sheetEntry turned looks starsOf starsIn same keep place without allBelow listed padded written rows flat entriesIn withEntries admits lies naming pick readNode writeNode named readCount writeCount columnOf queryOf wellMarked isQuery namesAll recordOf termValue columnValue tag tags labelWords marks keyWords columnsIn queryIn isKey listOf before has putIn target isFull outside effect noRoom changes labelIn pending revision withPending withRevision hasLabel nodePlace isPresent nodeOf withNode evictNode added isFree oldestFree makeRoom addedIn ensured markedIn marked isPending unmarked raised unmarkedAll isHigh isWorn keyIn lengthIn revisionIn listIn hasKeyOf atLeast serves fetchPlace keyPlace filed isLong someLong kind steps sawMark didChange foundFull entryOf idle isIdle begun queryAt writeAt lastStep isBad stepped flag noted holding wrote recordsIn withRecords storeIn withStore answersIn withAnswers columnsAt clientIn withClient cleared opened renewed columns client isShort badColumns badQuery isUnsound noDesk isCommitted allIdle openCode beginCode atDesk stepCode abandonCode evictAnswerCode evictNodeCode renewCode nowAt restored answered lookDid fetchDid tableDid fileDid readDid markDid writeTableDid endOf raiseDid writeDid progress unless openDid beginDid stepDone takenBack marksSet abandoned abandonDid evictAnswerDid evictNodeDid renewDid untrayed callDid
+cases-1-to-12 = tt
