@@ -1,0 +1,77 @@
+-- `Hall::open` meets its contract: a refusal, or the four clearings. Assumes nothing.
+use Rattle.hall.proofs.Laws.{turned-down, opens}
+use borrow.Author.Needs.{needs}
+use Rattle.hall.proofs.Hall.open.Statement.{statement}
+use Rattle.hall.proofs.Hall.open.Tie as tie
+
+open-code-requires : tie.Need-open-code-requires
+open-code-requires c κs = search needs
+
+same-length : tie.Need-same-length
+same-length c = search needs
+
+same-length-2 : tie.Need-same-length-2
+same-length-2 c = search needs
+
+same-length-3 : tie.Need-same-length-3
+same-length-3 c = search needs
+
+same-length-4 : tie.Need-same-length-4
+same-length-4 c = search needs
+
+returns : tie.Need-returns
+returns c = turned-down _ _ _ (c .before .open-code .ensures) (c .if1 .taken)
+
+clear-table-requires : tie.Need-clear-table-requires
+clear-table-requires c κs = search needs
+
+clear-nodes-requires : tie.Need-clear-nodes-requires
+clear-nodes-requires c κs = search needs
+
+clear-answers-requires : tie.Need-clear-answers-requires
+clear-answers-requires c κs = search needs
+
+clear-desks-requires : tie.Need-clear-desks-requires
+clear-desks-requires c κs = search needs
+
+same-length-5 : tie.Need-same-length-5
+same-length-5 c = search needs
+
+same-length-6 : tie.Need-same-length-6
+same-length-6 c = search needs
+
+same-length-7 : tie.Need-same-length-7
+same-length-7 c = search needs
+
+same-length-8 : tie.Need-same-length-8
+same-length-8 c = search needs
+
+returns-2 : tie.Need-returns-2
+returns-2 c =
+    let d = c .before .before in
+    let a = d .before .before .before .before in
+    let n = a .before .before .before .before in
+    let t = n .before .before .before .before in
+    let i = t .before .before in
+    opens _ _ _ (i .before .open-code .ensures) _ _ _ _ (i .if1 .left) (t .clear-table .ensures .1) (n .clear-nodes .ensures .1)
+    (a .clear-answers .ensures .1) (d .clear-desks .ensures .1)
+
+pub open-spec : {M : Type 1} → statement M
+open-spec =
+    tie.close
+    (tie.spec
+    open-code-requires
+    same-length
+    same-length-2
+    same-length-3
+    same-length-4
+    returns
+    clear-table-requires
+    clear-nodes-requires
+    clear-answers-requires
+    clear-desks-requires
+    same-length-5
+    same-length-6
+    same-length-7
+    same-length-8
+    returns-2)
