@@ -1,14 +1,13 @@
 -- Document 01, "On each side of a line": cases 1 to 12 as rows of one table, with one computed test. Rows 1 to 5 are those that query
 -- states about nodes; 6 to 12 are played on memories of full size that held other numbers before the opening.
 -- Leans on the rules' definitions. Assumes nothing.
-use mathlib.Core.Path.{_≡_, refl}
-use mathlib.Core.Bool.{Bool, true, false, cond, not, _&&_, _||_}
+use mathlib.Core.Bool.{Bool, true, false, not, _&&_}
 use mathlib.Core.List.{List, [], _∷_, _++_}
-use Prim.Native.Nat.{ℕ, zero, suc, _+_, _-_, _*_}
+use Prim.Native.Nat.{ℕ, zero, suc, _+_, _-_}
 use lib.Dec.{T, eqb}
 use lib.ListN.{length, getD, take, drop, set, replicate}
 use Rattle.lists.specs.Lists.{same, before, keep, place, without, allBelow, listed, padded, written, rows, flat, entriesIn, withEntries}
-use Rattle.query.specs.Query.{admits, lies, naming, pick, readNode, writeNode, named, readCount, writeCount, readNodes, writeNodes, value}
+use Rattle.query.specs.Query.{admits, lies, naming, pick, readNode, writeNode, named, readCount, writeCount, readNodes, writeNodes, value, Label}
 use Rattle.query.specs.Sheet.{turned, looks, sheetEntry, starsIn, starsOf}
 use Rattle.query.specs.Words.{columnOf, queryOf, wellMarked, isQuery, namesAll, recordOf, termValue, columnValue, tag, tags, labelWords, marks, keyWords, columnsIn, queryIn, isKey}
 use Rattle.query.proofs.Rows as nodes
@@ -19,11 +18,10 @@ use Rattle.rules.specs.Nodes.{labelIn, pending, revision, withPending, w
 use Rattle.rules.specs.Answers.{keyIn, lengthIn, revisionIn, listIn, hasKeyOf, atLeast, serves, fetchPlace, keyPlace, filed, isLong, someLong}
 use Rattle.rules.specs.Client.{kind, steps, sawMark, didChange, foundFull, entryOf, idle, isIdle, begun, queryAt, writeAt, lastStep, isBad, stepped, flag, noted, holding, wrote}
 use Rattle.rules.specs.Memory.{Mem, mem, withTable, withNodes, recordsIn, withRecords, storeIn, withStore, answersIn, withAnswers, columnsAt, clientIn, withClient, cleared, opened, renewed}
-use Rattle.rules.specs.Outcome.{Stepped}
 use Rattle.rules.specs.Refusals.{columns, client, isShort, badColumns, badQuery, isUnsound, noDesk, isCommitted, allIdle, openCode, beginCode, atDesk, stepCode, abandonCode, evictAnswerCode, evictNodeCode, renewCode}
 use Rattle.rules.specs.Steps.{nowAt, restored, answered, lookDid, fetchDid, tableDid, fileDid, readDid, markDid, writeTableDid, endOf, raiseDid, writeDid, progress}
 use Rattle.rules.specs.Calls.{unless, openDid, beginDid, stepDone, takenBack, marksSet, abandoned, abandonDid, evictAnswerDid, evictNodeDid, renewDid}
-use Rattle.rules.specs.History.{Call, beginRead, beginInsert, beginDelete, step, abandon, evictAnswer, evictNode as dropNode, renew, untrayed, callDid}
+use Rattle.rules.specs.History.{Call, beginRead, beginInsert, step, evictNode as dropNode, untrayed, callDid}
 
 -- memories that held other numbers, as an opening with k columns leaves them
 abbrev fresh : ℕ → Mem
@@ -37,12 +35,18 @@ stocked vs = withTable (fresh 1) (written (set (fresh 1 .table) 0 (length vs)) 8
 abbrev raisedTo : ℕ → Mem
 raisedTo x = withNodes (fresh 1) (written (set (fresh 1 .nodes) 1 1) 8 (labelWords (value 5 ∷ []) ++ (0 ∷ x ∷ 0 ∷ [])))
 
+-- the same with this floor and no node
+abbrev floorAt : ℕ → Mem
+floorAt x = withNodes (fresh 1) (set (fresh 1 .nodes) 0 x)
+
 -- what a row expects of a call, or of the memories
 pub data Expect : Type 0 where
   goesOn : Expect
   answers : List ℕ → Bool → Expect
-  gives : ℕ → Expect
+  refuses : ℕ → Expect
+  long : Expect
   ends : Bool → Expect
+  full : Expect
 
 abbrev tray : List ℕ
 tray = replicate 128 9
@@ -51,6 +55,7 @@ abbrev agree : Bool → Bool → Bool
 agree true b = b
 agree false b = not b
 
+-- whether an outcome is the one expected; an answer's tray holds its list and is otherwise as it was, and after 12 it is as it was
 abbrev meets : Expect → Outcome → List ℕ → Bool
 meets goesOn Accepted t = true
 meets goesOn (Refused n) t = false
@@ -64,18 +69,30 @@ meets (answers l f) (Answered n b) t = eqb n (length l) && (agree f b && same t 
 meets (answers l f) Long t = false
 meets (answers l f) (Ended b) t = false
 meets (answers l f) Full t = false
-meets (gives x) Accepted t = false
-meets (gives x) (Refused n) t = eqb n x
-meets (gives x) (Answered n b) t = false
-meets (gives x) Long t = eqb x 12 && same t tray
-meets (gives x) (Ended b) t = false
-meets (gives x) Full t = eqb x 13
+meets (refuses x) Accepted t = false
+meets (refuses x) (Refused n) t = eqb n x
+meets (refuses x) (Answered n b) t = false
+meets (refuses x) Long t = false
+meets (refuses x) (Ended b) t = false
+meets (refuses x) Full t = false
+meets long Accepted t = false
+meets long (Refused n) t = false
+meets long (Answered n b) t = false
+meets long Long t = same t tray
+meets long (Ended b) t = false
+meets long Full t = false
 meets (ends f) Accepted t = false
 meets (ends f) (Refused n) t = false
 meets (ends f) (Answered n b) t = false
 meets (ends f) Long t = false
 meets (ends f) (Ended b) t = agree f b
 meets (ends f) Full t = false
+meets full Accepted t = false
+meets full (Refused n) t = false
+meets full (Answered n b) t = false
+meets full Long t = false
+meets full (Ended b) t = false
+meets full Full t = true
 
 -- one line of a row: a call and what it returns; or numbers that the memories hold then
 pub data Line : Type 0 where
@@ -83,7 +100,9 @@ pub data Line : Type 0 where
   noted-at : ℕ → List ℕ → Line
   filed-under : ℕ → List ℕ → Line
   filed-count : ℕ → Line
+  table-count : ℕ → Line
   floor-is : ℕ → Line
+  node-is : ℕ → Label → ℕ → Line
 
 abbrev plays : Mem → List Line → Bool
 plays m [] = true
@@ -91,6 +110,10 @@ plays m (does c x ∷ ls) = let r = callDid m c in meets x (r .out) (r .tray) &&
 plays m (noted-at d l ∷ ls) = same (take (length l) (drop 13 (clientIn (m .desks) d))) l && plays m ls
 plays m (filed-under i l ∷ ls) = same (take (length l) (drop 8 (getD (answersIn (m .answers)) i []))) l && plays m ls
 plays m (filed-count n ∷ ls) = eqb (length (answersIn (m .answers))) n && plays m ls
+plays m (table-count n ∷ ls) = eqb (length (recordsIn 1 (m .table))) n && plays m ls
+plays m (node-is i p x ∷ ls) =
+    let n = getD (storeIn (m .nodes) .nodes) i [] in
+    same (labelIn n) (labelWords p) && (eqb (revision n) x && plays m ls)
 plays m (floor-is f ∷ ls) = eqb (storeIn (m .nodes) .floor) f && plays m ls
 
 pub data Row : Type 0 where
@@ -146,11 +169,14 @@ case-8 = from (fresh 1)
     ((does (beginInsert 1 (one 5)) goesOn ∷ going 1 1) ++ (read5 0 ∷ going 0 3) ++ (does (step 0 tray) (answers [] false) ∷ filed-count 0 ∷ []))
 
 -- 9. Node 5 leaves at counter 7, floor 1: floor 7, back at 7, and an answer filed under 7 holds.
+abbrev node5 : ℕ → Line
+node5 i = node-is i (value 5 ∷ []) 7
+
 abbrev case-9 : Row
 case-9 = from (fresh 1)
     (inserts5 1 true ++ insertsAgain 5 ++ (read5 0 ∷ going 0 4)
-    ++ (does (step 0 tray) (answers (5 ∷ []) false) ∷ filed-under 0 (7 ∷ 1 ∷ []) ∷ floor-is 1 ∷ does (dropNode 0) goesOn ∷ floor-is 7 ∷ read5 0 ∷ going 0 2)
-    ++ (noted-at 0 (7 ∷ 1 ∷ []) ∷ does (step 0 tray) (answers (5 ∷ []) true) ∷ []))
+    ++ (does (step 0 tray) (answers (5 ∷ []) false) ∷ filed-under 0 (7 ∷ 1 ∷ []) ∷ floor-is 1 ∷ node5 0 ∷ does (dropNode 0) goesOn ∷ floor-is 7 ∷ read5 0 ∷ going 0 2)
+    ++ (node5 2 ∷ noted-at 0 (7 ∷ 1 ∷ []) ∷ does (step 0 tray) (answers (5 ∷ []) true) ∷ []))
 
 -- 10. 32 matching records are listed; 33 give 12.
 abbrev numbers : ℕ → List ℕ
@@ -163,24 +189,29 @@ abbrev case-10-at : Row
 case-10-at = from (stocked (numbers 32)) ((readAll ∷ going 0 3) ++ (does (step 0 tray) (answers (numbers 32) false) ∷ []))
 
 abbrev case-10-above : Row
-case-10-above = from (stocked (numbers 33)) ((readAll ∷ going 0 2) ++ (does (step 0 tray) (gives 12) ∷ []))
+case-10-above = from (stocked (numbers 33)) ((readAll ∷ going 0 2) ++ (does (step 0 tray) long ∷ readAll ∷ []))
 
 -- 11. Table of 2,048: inserting one already there ends unchanged; a new one gives 13.
 abbrev case-11 : Row
 case-11 = from (stocked (numbers 2048))
-    (inserts5 0 false ++ (does (beginInsert 1 (one 5000)) goesOn ∷ going 1 4) ++ (does (step 1 tray) (gives 13) ∷ []))
+    (inserts5 0 false ++ (does (beginInsert 1 (one 5000)) goesOn ∷ going 1 4) ++ (does (step 1 tray) full ∷ table-count 2048 ∷ does (beginInsert 1 (one 5000)) goesOn ∷ []))
 
 -- 12. Highest counter 4,294,967,103: a write begins; 4,294,967,104: 10.
 abbrev case-12-at : Row
 case-12-at = from (raisedTo 4294967103) (does (beginInsert 0 (one 5)) goesOn ∷ [])
 
 abbrev case-12-above : Row
-case-12-above = from (raisedTo 4294967104) (does (beginInsert 0 (one 5)) (gives 10) ∷ does (beginRead 0 (one 5)) goesOn ∷ [])
+case-12-above = from (raisedTo 4294967104) (does (beginInsert 0 (one 5)) (refuses 10) ∷ does (beginRead 0 (one 5)) goesOn ∷ [])
+
+abbrev case-12-floor : List Row
+case-12-floor =
+    from (floorAt 4294967103) (does (beginInsert 0 (one 5)) goesOn ∷ [])
+    ∷ from (floorAt 4294967104) (does (beginInsert 0 (one 5)) (refuses 10) ∷ []) ∷ []
 
 abbrev pub cases : List Row
 cases =
     stated nodes.cases
-    ++ (case-6 ∷ case-7 ∷ case-8 ∷ case-9 ∷ case-10-at ∷ case-10-above ∷ case-11 ∷ case-12-at ∷ case-12-above ∷ [])
+    ++ (case-6 ∷ case-7 ∷ case-8 ∷ case-9 ∷ case-10-at ∷ case-10-above ∷ case-11 ∷ case-12-at ∷ case-12-above ∷ case-12-floor)
 
 pub cases-1-to-12 : T (all cases)
 unfolding readNodes writeNodes sheetEntry turned looks starsOf starsIn same keep place without allBelow listed padded written rows flat entriesIn withEntries admits lies naming pick readNode writeNode named readCount writeCount columnOf queryOf wellMarked isQuery namesAll recordOf termValue columnValue tag tags labelWords marks keyWords columnsIn queryIn isKey listOf before has putIn target isFull outside effect noRoom changes labelIn pending revision withPending withRevision hasLabel nodePlace isPresent nodeOf withNode evictNode added isFree oldestFree makeRoom addedIn ensured markedIn marked isPending unmarked raised unmarkedAll isHigh isWorn keyIn lengthIn revisionIn listIn hasKeyOf atLeast serves fetchPlace keyPlace filed isLong someLong kind steps sawMark didChange foundFull entryOf idle isIdle begun queryAt writeAt lastStep isBad stepped flag noted holding wrote recordsIn withRecords storeIn withStore answersIn withAnswers columnsAt clientIn withClient cleared opened renewed columns client isShort badColumns badQuery isUnsound noDesk isCommitted allIdle openCode beginCode atDesk stepCode abandonCode evictAnswerCode evictNodeCode renewCode nowAt restored answered lookDid fetchDid tableDid fileDid readDid markDid writeTableDid endOf raiseDid writeDid progress unless openDid beginDid stepDone takenBack marksSet abandoned abandonDid evictAnswerDid evictNodeDid renewDid untrayed callDid

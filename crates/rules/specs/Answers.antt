@@ -1,9 +1,9 @@
 -- Document 01, "One desk, step by step": the filed answers, fetch and file. A filed answer is a cache entry: it is kept as its
 -- 152 numbers (docs/LAYOUT.md). Leans on lists. Definitions only. Assumes nothing.
-use mathlib.Core.Bool.{Bool, true, false, cond, not, _&&_, _||_}
+use mathlib.Core.Bool.{Bool, cond, _&&_}
 use mathlib.Core.List.{List, [], _∷_, _++_}
-use Prim.Native.Nat.{ℕ, zero, suc, _+_, _-_, _*_}
-use lib.Dec.{eqb, ltb, leb}
+use Prim.Native.Nat.{ℕ, _+_, _*_}
+use lib.Dec.{ltb, leb}
 use lib.ListN.{length, getD, take, drop}
 use Rattle.lists.specs.Lists.{same, place, without, allBelow}
 use Rattle.rules.specs.Sizes.{maxAnswers, maxList}

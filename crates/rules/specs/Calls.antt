@@ -1,11 +1,10 @@
 -- The calls of document 01, each as one outcome and one set of memories for any contents and any arguments: what the contracts cite.
 -- Leans on Refusals and Steps. Definitions only. Assumes nothing.
-use mathlib.Core.Bool.{Bool, true, false, cond, not, _&&_, _||_}
-use mathlib.Core.List.{List, [], _∷_, _++_}
+use mathlib.Core.Bool.{cond}
+use mathlib.Core.List.{List}
 use mathlib.Core.Option.{Option, none, some}
-use Prim.Native.Nat.{ℕ, zero, suc, _+_, _-_, _*_}
-use lib.Dec.{eqb, ltb, leb}
-use lib.ListN.{length, getD}
+use Prim.Native.Nat.{ℕ}
+use lib.Dec.{eqb}
 use Rattle.lists.specs.Lists.{listed, without}
 use Rattle.rules.specs.declared.Outcome.the-variants.{Refused, Accepted}
 use Rattle.query.specs.Query.{Query, writeNode}

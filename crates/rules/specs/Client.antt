@@ -1,10 +1,10 @@
 -- Document 01, "One desk, step by step": the state of one desk. The paper's desk is a client of the cache: it is kept as its 157
 -- numbers (docs/LAYOUT.md). Leans on Query and Answers. Definitions only. Assumes nothing.
-use mathlib.Core.Bool.{Bool, true, false, cond, not, _&&_, _||_}
-use mathlib.Core.List.{List, [], _∷_, _++_}
-use Prim.Native.Nat.{ℕ, zero, suc, _+_, _-_, _*_}
+use mathlib.Core.Bool.{Bool, cond, not, _&&_, _||_}
+use mathlib.Core.List.{List, _∷_}
+use Prim.Native.Nat.{ℕ, _+_}
 use lib.Dec.{eqb, ltb, leb}
-use lib.ListN.{length, getD, take, drop, set, replicate}
+use lib.ListN.{length, getD, drop, set, replicate}
 use Rattle.lists.specs.Lists.{same, padded, flat, written}
 use Rattle.rules.specs.Sizes.{maxList}
 use Rattle.query.specs.Query.{Query, Record, readCount, writeCount}

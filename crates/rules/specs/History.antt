@@ -1,9 +1,8 @@
 -- Document 01, "A history and the plain table". Leans on Calls. Definitions only. Assumes nothing.
-use mathlib.Core.Bool.{Bool, true, false, cond, not, _&&_, _||_}
-use mathlib.Core.List.{List, [], _∷_, _++_}
-use Prim.Native.Nat.{ℕ, zero, suc, _+_}
+use mathlib.Core.Bool.{Bool, cond, _||_}
+use mathlib.Core.List.{List, [], _∷_}
+use Prim.Native.Nat.{ℕ, _+_}
 use lib.Dec.{eqb}
-use lib.ListN.{length}
 use Rattle.query.specs.Query.{Query, writeCount}
 use Rattle.query.specs.Words.{queryOf, recordOf}
 use Rattle.rules.specs.Table.{Table, Write, insert, delete, target, effect}

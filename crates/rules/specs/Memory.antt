@@ -1,14 +1,12 @@
 -- Document 01, "The hall's stock": what each memory holds and where (docs/LAYOUT.md has the pictures). Leans on the entries above.
 -- Definitions only. Assumes nothing.
-use mathlib.Core.Bool.{Bool, true, false, cond, not, _&&_, _||_}
-use mathlib.Core.List.{List, [], _∷_, _++_}
-use Prim.Native.Nat.{ℕ, zero, suc, _+_, _-_, _*_}
-use lib.Dec.{eqb, ltb, leb}
-use lib.ListN.{length, getD, take, drop, set, replicate}
+use mathlib.Core.List.{List, [], _++_}
+use Prim.Native.Nat.{ℕ, _+_, _*_}
+use lib.ListN.{getD, take, drop, set, replicate}
 use Rattle.lists.specs.Lists.{entriesIn, withEntries, written}
 use Rattle.rules.specs.Sizes.{tableLeast, nodesLeast, answersLeast, desksLeast}
 use Rattle.rules.specs.Table.{Table}
-use Rattle.rules.specs.Nodes.{Node, Store, store}
+use Rattle.rules.specs.Nodes.{Store, store}
 use Rattle.rules.specs.Answers.{Entry}
 use Rattle.rules.specs.Client.{Client}
 

@@ -1,11 +1,11 @@
 -- Document 01, "One desk, step by step": the revision nodes and the floor. A node is kept as its eight numbers (docs/LAYOUT.md).
 -- A label is given by the five numbers that a node keeps of it (query, `labelWords`). Leans on lists. Definitions only. Assumes nothing.
-use mathlib.Core.Bool.{Bool, true, false, cond, not, _&&_, _||_}
+use mathlib.Core.Bool.{Bool, cond, _&&_, _||_}
 use mathlib.Core.List.{List, [], _∷_, _++_}
 use mathlib.Core.Option.{Option, none, some}
-use Prim.Native.Nat.{ℕ, zero, suc, _+_, _-_, max}
+use Prim.Native.Nat.{ℕ, _+_, _-_, max}
 use lib.Dec.{eqb, ltb, leb}
-use lib.ListN.{length, getD, take, drop, set}
+use lib.ListN.{length, getD, take, set}
 use Rattle.lists.specs.Lists.{same, place, without}
 use Rattle.rules.specs.Sizes.{maxNodes, maxPending, maxRevision, wornAbove}
 

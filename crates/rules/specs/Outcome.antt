@@ -1,5 +1,5 @@
 -- What a call returns and leaves. Definitions only. Assumes nothing.
-use mathlib.Core.Bool.{Bool, true, false}
+use mathlib.Core.Bool.{true, false}
 use mathlib.Core.List.{List}
 use Prim.Native.Nat.{ℕ}
 use Rattle.rules.specs.declared.Outcome.{Outcome}
@@ -24,23 +24,17 @@ count Long = 0
 count (Ended b) = 0
 count Full = 0
 
--- "whether it was filed before"
-unfoldable pub wasFiled : Outcome → Bool
-wasFiled (Refused n) = false
-wasFiled Accepted = false
-wasFiled (Answered n b) = b
-wasFiled Long = false
-wasFiled (Ended b) = false
-wasFiled Full = false
-
--- "says whether the table changed"
-unfoldable pub hasChanged : Outcome → Bool
-hasChanged (Refused n) = false
-hasChanged Accepted = false
-hasChanged (Answered n b) = false
-hasChanged Long = false
-hasChanged (Ended b) = b
-hasChanged Full = false
+-- what has ended, and how: 0 nothing; an answer, "whether it was filed before": 1 from file, 2 from the table; a write's end, which
+-- "says whether the table changed": 3 changed, 4 unchanged. A number above 0 has none.
+unfoldable pub ending : Outcome → ℕ
+ending (Refused n) = 0
+ending Accepted = 0
+ending (Answered n true) = 1
+ending (Answered n false) = 2
+ending Long = 0
+ending (Ended true) = 3
+ending (Ended false) = 4
+ending Full = 0
 
 -- what a call leaves
 pub record Did : Type 0 where

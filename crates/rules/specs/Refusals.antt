@@ -1,8 +1,8 @@
 -- Document 01, "What the controller turns down": the smallest number that applies, or 0. Leans on Memory. Definitions only.
 -- Assumes nothing. 3 that only a step or an abandoning can find (a node missing, unmarked, ..) stands in Steps.
-use mathlib.Core.Bool.{Bool, true, false, cond, not, _&&_, _||_}
-use mathlib.Core.List.{List, [], _∷_, _++_}
-use Prim.Native.Nat.{ℕ, zero, suc, _+_, _-_, _*_}
+use mathlib.Core.Bool.{Bool, cond, not, _&&_, _||_}
+use mathlib.Core.List.{List, []}
+use Prim.Native.Nat.{ℕ}
 use lib.Dec.{eqb, ltb, leb}
 use lib.ListN.{length, getD}
 use Rattle.lists.specs.Lists.{allBelow}

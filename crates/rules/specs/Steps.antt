@@ -1,10 +1,10 @@
 -- Document 01, "One desk, step by step": one step of client d, after its refusals. Leans on Memory and the entries.
 -- Definitions only. Assumes nothing.
-use mathlib.Core.Bool.{Bool, true, false, cond, not, _&&_, _||_}
-use mathlib.Core.List.{List, [], _∷_, _++_}
+use mathlib.Core.Bool.{Bool, true, false, cond, not, _&&_}
+use mathlib.Core.List.{List, []}
 use mathlib.Core.Option.{Option, none, some}
-use Prim.Native.Nat.{ℕ, zero, suc, _+_, _-_, _*_}
-use lib.Dec.{eqb, ltb, leb}
+use Prim.Native.Nat.{ℕ, _+_, _-_}
+use lib.Dec.{eqb, ltb}
 use lib.ListN.{length, getD}
 use Rattle.lists.specs.Lists.{flat, written}
 use Rattle.rules.specs.declared.Outcome.{Outcome}
@@ -12,7 +12,7 @@ use Rattle.rules.specs.declared.Outcome.the-variants.{Refused, Accepted,
 use Rattle.rules.specs.Sizes.{maxList}
 use Rattle.query.specs.Query.{Query, Record, readNode, writeNode, readCount, writeCount}
 use Rattle.query.specs.Words.{labelWords}
-use Rattle.rules.specs.Table.{Write, target, listOf, effect, changes, noRoom}
+use Rattle.rules.specs.Table.{Write, listOf, effect, changes, noRoom}
 use Rattle.rules.specs.Nodes.{Words, Store, ensured, marked, raised, nodeOf, revision, pending}
 use Rattle.rules.specs.Answers.{Entry, lengthIn, listIn, fetchPlace, filed}
 use Rattle.rules.specs.Client.{Client, kind, steps, sawMark, didChange, foundFull, entryOf, reads, idle, queryAt, writeAt, stepped, noted, holding, wrote}

@@ -1,9 +1,8 @@
 -- Document 01, "One desk, step by step": what the table step lists, adds and removes (source document 002, definition 5).
 -- Leans on Query. Definitions only. Assumes nothing.
-use mathlib.Core.Bool.{Bool, true, false, cond, not, _&&_, _||_}
-use mathlib.Core.List.{List, [], _∷_, _++_}
-use Prim.Native.Nat.{ℕ}
-use lib.Dec.{eqb, ltb, leb}
+use mathlib.Core.Bool.{Bool, false, cond, not, _&&_, _||_}
+use mathlib.Core.List.{List, [], _∷_}
+use lib.Dec.{eqb, leb}
 use lib.ListN.{length}
 use Rattle.lists.specs.Lists.{same, before, keep}
 use Rattle.rules.specs.Sizes.{maxRecords}
