@@ -1,0 +1,18 @@
+-- What the functions over the answers memory ask of it, and what one that gives a list leaves. The rules themselves are those of the crate
+-- rules. Definitions only. Assumes nothing.
+use mathlib.Core.Path.{_≡_}
+use mathlib.Core.List.{List}
+use Prim.Native.Nat.{ℕ, _≤_}
+use lib.ListN.{length, getD}
+use Rattle.lists.specs.Lists.{written}
+use Rattle.rules.specs.Answers.{Entry, lengthIn, listIn}
+
+-- an answers memory that is long enough, and holds no more answers than are kept
+pub record Fit (s : List ℕ) : Type 0 where
+  pub long : 10000 ≤ length s
+  pub few : getD s 0 0 ≤ 64
+
+-- r is the number of records of e, and they stand from the tray's start on; what the tray had behind them stays
+pub record Gave (k : ℕ) (e : Entry) (tray : List ℕ) (r : ℕ) (after : List ℕ) : Type 0 where
+  pub count : r ≡ lengthIn e
+  pub list : after ≡ written tray 0 (listIn k e)

@@ -1,0 +1,184 @@
+// The filed answers over their lent memory: search, file, evict, empty, and the copy of a list into the tray. An entry is 152 numbers
+// (docs/LAYOUT.md): key at 0, list length at 7, revisions from 8, list from 24. The rules stand in the crate rules.
+ghost use mathlib.Core.Path.{_≡_};
+ghost use mathlib.Core.List.{[], _∷_, _++_};
+ghost use Prim.Native.Nat.{_≤_, _<_};
+ghost use lib.ListN.{length, getD};
+ghost use Rattle.lists.specs.Lists.{without, allBelow};
+ghost use Rattle.rules.specs.Answers.{hasKeyOf, atLeast, serves, fetchPlace, keyPlace, filed, someLong, lengthIn};
+ghost use Rattle.rules.specs.Memory.{answersIn, withAnswers};
+ghost use Rattle.answers.specs.Answers.{Fit, Gave};
+
+// Whether the entry e answers x's query.
+fn has_key(e: &[u32], x: &[u32]) -> bool
+    requires { ⌜ (7 ≤ length (now e)) × (7 ≤ length (now x)) ⌝ }
+    ensures { λ r. ⌜ r ≡ hasKeyOf (now (x .entry)) (now (e .entry)) ⌝ }
+{
+    words::same(&e[..7], &x[..7])
+}
+
+// Whether each of e's first n revisions is at least x's.
+fn is_recent(e: &[u32], x: &[u32], n: usize) -> bool
+    requires { ⌜ (length (now e) ≡ 152) × ((length (now x) ≡ 152) × (n ≤ 16)) ⌝ }
+    ensures { λ r. ⌜ r ≡ allBelow n (atLeast (now (x .entry)) (now (e .entry))) ⌝ }
+{
+    let mut j = 0;
+    while j < n {
+        if e[8 + j] < x[8 + j] {
+            return false;
+        }
+        j += 1;
+    }
+    true
+}
+
+// Whether e may be answered with to the client whose own entry x is. Few entries have the key, so it is compared first.
+fn may_serve(e: &[u32], x: &[u32], n: usize) -> bool
+    requires { ⌜ (length (now e) ≡ 152) × ((length (now x) ≡ 152) × (n ≤ 16)) ⌝ }
+    ensures { λ r. ⌜ r ≡ serves n (now (x .entry)) (now (e .entry)) ⌝ }
+{
+    if has_key(e, x) {
+        is_recent(e, x, n)
+    } else {
+        false
+    }
+}
+
+// The place of the first entry that may be answered with, or the count where none may.
+pub fn fetch(answers: &[u32], entry: &[u32], n: usize) -> usize
+    requires { ⌜ Fit (now answers) × ((length (now entry) ≡ 152) × (n ≤ 16)) ⌝ }
+    ensures { λ r. ⌜ r ≡ fetchPlace n (now (entry .entry)) (answersIn (now (answers .entry))) ⌝ }
+{
+    let count = answers[0] as usize;
+    let mut at = 8;
+    let mut i = 0;
+    while i < count {
+        let end = at + 152;
+        if may_serve(&answers[at..end], entry, n) {
+            return i;
+        }
+        at = end;
+        i += 1;
+    }
+    count
+}
+
+// The place of the first entry that answers the same query, or the count where none does.
+pub fn find_key(answers: &[u32], entry: &[u32]) -> usize
+    requires { ⌜ Fit (now answers) × (7 ≤ length (now entry)) ⌝ }
+    ensures { λ r. ⌜ r ≡ keyPlace (now (entry .entry)) (answersIn (now (answers .entry))) ⌝ }
+{
+    let count = answers[0] as usize;
+    let mut at = 8;
+    let mut i = 0;
+    while i < count {
+        let end = at + 152;
+        if has_key(&answers[at..end], entry) {
+            return i;
+        }
+        at = end;
+        i += 1;
+    }
+    count
+}
+
+// Whether some filed list's length is out of range.
+pub fn some_long(answers: &[u32]) -> bool
+    requires { ⌜ Fit (now answers) ⌝ }
+    ensures { λ r. ⌜ r ≡ someLong (answersIn (now (answers .entry))) ⌝ }
+{
+    let count = answers[0] as usize;
+    let mut at = 8;
+    let mut i = 0;
+    while i < count {
+        if 32 < answers[at + 7] {
+            return true;
+        }
+        at += 152;
+        i += 1;
+    }
+    false
+}
+
+// Puts entry in behind the last.
+fn append(answers: &mut [u32], entry: &[u32])
+    requires { ⌜ Fit (now answers) × ((length (now entry) ≡ 152) × (getD (now answers) 0 0 < 64)) ⌝ }
+    ensures { λ _. ⌜ now (answers .exit) ≡ withAnswers (now (answers .entry)) (answersIn (now (answers .entry)) ++ (now (entry .entry) ∷ [])) ⌝ }
+{
+    let count = answers[0];
+    let at = 8 + count as usize * 152;
+    words::write(answers, at, entry);
+    answers[0] = count + 1;
+}
+
+// Takes the entry at place i out and puts entry in behind the last: the count stays.
+fn replace(answers: &mut [u32], i: usize, entry: &[u32])
+    requires { ⌜ Fit (now answers) × ((i < getD (now answers) 0 0) × (length (now entry) ≡ 152)) ⌝ }
+    ensures { λ _. ⌜ now (answers .exit) ≡ withAnswers (now (answers .entry)) (without i (answersIn (now (answers .entry))) ++ (now (entry .entry) ∷ [])) ⌝ }
+{
+    let end = 8 + answers[0] as usize * 152;
+    let at = 8 + i * 152;
+    words::remove(answers, at, 152, end);
+    let last = end - 152;
+    words::write(answers, last, entry);
+}
+
+// Files entry: an answer to the same query goes out, failing that the oldest where 64 are kept, and entry goes last.
+pub fn file(answers: &mut [u32], entry: &[u32])
+    requires { ⌜ Fit (now answers) × (length (now entry) ≡ 152) ⌝ }
+    ensures { λ _. ⌜ now (answers .exit) ≡ withAnswers (now (answers .entry)) (filed (now (entry .entry)) (answersIn (now (answers .entry)))) ⌝ }
+{
+    let count = answers[0] as usize;
+    let i = find_key(answers, entry);
+    if i < count {
+        replace(answers, i, entry);
+    } else if count < 64 {
+        append(answers, entry);
+    } else {
+        replace(answers, 0, entry);
+    }
+}
+
+// Takes the entry at place i out; the rest close up.
+pub fn evict(answers: &mut [u32], i: usize)
+    requires { ⌜ Fit (now answers) × (i < getD (now answers) 0 0) ⌝ }
+    ensures { λ _. ⌜ now (answers .exit) ≡ withAnswers (now (answers .entry)) (without i (answersIn (now (answers .entry)))) ⌝ }
+{
+    let count = answers[0];
+    let end = 8 + count as usize * 152;
+    let at = 8 + i * 152;
+    words::remove(answers, at, 152, end);
+    answers[0] = count - 1;
+}
+
+// Takes all entries out. Only what they used is cleared.
+pub fn empty(answers: &mut [u32])
+    requires { ⌜ Fit (now answers) ⌝ }
+    ensures { λ _. ⌜ now (answers .exit) ≡ withAnswers (now (answers .entry)) [] ⌝ }
+{
+    let n = answers[0] as usize * 152;
+    words::clear(&mut answers[8..], n);
+    answers[0] = 0;
+}
+
+// Copies an entry's list, k numbers for each record, to the tray's start, and gives the number of its records.
+pub fn give_list(entry: &[u32], k: usize, tray: &mut [u32]) -> u32
+    requires { ⌜ (length (now entry) ≡ 152) × ((lengthIn (now entry) ≤ 32) × ((k ≤ 4) × (128 ≤ length (now tray)))) ⌝ }
+    ensures { λ r. ⌜ Gave k (now (entry .entry)) (now (tray .entry)) r (now (tray .exit)) ⌝ }
+{
+    let count = entry[7];
+    let n = count as usize * k;
+    let end = 24 + n;
+    words::write(tray, 0, &entry[24..end]);
+    count
+}
+
+// The same with the filed answer at place i.
+pub fn give(answers: &[u32], i: usize, k: usize, tray: &mut [u32]) -> u32
+    requires { ⌜ Fit (now answers) × ((i < getD (now answers) 0 0) × ((lengthIn (getD (answersIn (now answers)) i []) ≤ 32) × ((k ≤ 4) × (128 ≤ length (now tray))))) ⌝ }
+    ensures { λ r. ⌜ Gave k (getD (answersIn (now (answers .entry))) i []) (now (tray .entry)) r (now (tray .exit)) ⌝ }
+{
+    let at = 8 + i * 152;
+    let end = at + 152;
+    give_list(&answers[at..end], k, tray)
+}

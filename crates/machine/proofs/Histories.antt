@@ -1,0 +1,303 @@
+-- Demand 3 for every history of the machine, told by places in its list of calls and results, with no bookkeeping in the statements:
+-- the table is the plain table; an answer is its query's list on the plain table after one of the read's moments; the limits on steps.
+-- Then, for every history: the table is ascending; demand 2's last sentence. Leans on Claims, Log, Ascending and Gets. Assumes nothing.
+use mathlib.Core.Path.{_≡_, refl, sym, ap, _∙_, subst}
+use mathlib.Core.Bool.{Bool, true, false, _&&_, not, cond, true≢false, and-false}
+use mathlib.Core.List.{List, [], _∷_, _++_}
+use Prim.Native.Nat.{ℕ, suc, _+_, _≤_, _<_}
+use native.Mathlib.Omega.{arith}
+use lib.Dec.{eqb}
+use borrow.Author.Tests.{eqb-true, eqb-false, not-true}
+use lib.ListN.{length, take, length-append}
+use Rattle.rules.specs.Table.{Table}
+use Rattle.machine.proofs.Base.{byTest, and-true-l, and-true-r, upd, upd-same, upd-other, In}
+use Rattle.machine.proofs.Keys.{Key, Val, valueOf, nodesOf}
+use Rattle.machine.proofs.Machine.{State, Desk, idle, looking, Ans, opened}
+use Rattle.machine.proofs.Machine.{Call, begin-read, begin-write, step, abandon, out-answer, out-node, renew}
+use Rattle.machine.proofs.Machine.{Result, refused, went, answered, long, ended, full}
+use Rattle.machine.proofs.Did
+use Rattle.machine.proofs.Did.{Did}
+use Rattle.machine.proofs.Book.{Act, reads, writes, Job, no-job, job, Book, next-book, accepted-book, step-book, begin-book, abandon-book}
+use Rattle.machine.proofs.Book.{tick, turn, job-after, tabled-at, isRefused, blank-book}
+use Rattle.machine.proofs.BookInv.{JobOk}
+use Rattle.machine.proofs.Claims.{Hist, next, fresh, WasAt, Limited, Good, good-limits, good-next, claims, opened-good}
+use Rattle.machine.proofs.Tidy.{Tidy, did-tidy, did-cols, opened-tidy}
+use Rattle.machine.proofs.Ascending.{TableGood, table-good, opened-table}
+use Rattle.machine.proofs.Calm.{Calm, calm-next, calm-start, CalmInv, opened-calm}
+use Rattle.machine.proofs.Gets.{did-calm, gets}
+use Rattle.machine.proofs.Log.{Entry, entry, after, plainTable, now-after, tabs-are, startOf, isEnd, ends, goesOn, stepped, stepsOf, UnderWay}
+use Rattle.machine.proofs.Log.{JobFrom, linked, refused-on}
+
+-- ---- A history: every call did what it may do
+abbrev pub Run : State → List Entry → State → Type 0
+Run s [] t = t ≡ s
+Run s (e ∷ l) t = (m : State) × Did s (e .call) (e .result) m × Run m l t
+
+pub run-good : (l : List Entry) (s t : State) (h : Hist) → Good s h → Run s l t → Good t (after h l)
+unfolding after
+run-good [] s t h g r = rw r g
+run-good (e ∷ l) s t h g r = run-good l (r .0) t (next h (e .call) (e .result)) (good-next s h g (r .1)) (r .2)
+
+-- ---- Claim 1: the table
+pub tables : (k : ℕ) → k ≤ 4 → (l : List Entry) (s : State) → Run (opened k) l s → s .tab ≡ plainTable l
+unfolding plainTable
+tables k b l s r = run-good l (opened k) s fresh (opened-good k b) r .plain .table
+
+-- ---- Claim 2: the answers
+-- an answer v of desk d after the log l: a read is under way there, and v was its key's list after a call from its begin on to this one
+pub record WasList (l : List Entry) (d : ℕ) (v : Val) (f : Bool) : Type 0 where
+  pub key : Key
+  pub underWay : UnderWay l d (reads key)
+  pub moment : ℕ
+  pub later : length (underWay .earlier) < moment
+  pub upto : moment ≤ suc (length l)
+  pub was : v ≡ valueOf key (plainTable (take moment (l ++ (entry (step d) (answered v f) ∷ []))))
+
+after-append : (l : List Entry) (h : Hist) (e : Entry) → after h (l ++ (e ∷ [])) ≡ next (after h l) (e .call) (e .result)
+unfolding after
+after-append [] h e = refl
+after-append (c ∷ l) h e = after-append l (next h (c .call) (c .result)) e
+
+was-list : (l : List Entry) (d : ℕ) (v : Val) (f : Bool) (B : Book) (j : Job) → B .now ≡ suc (length l)
+    → ((i : ℕ) → i ≤ B .now → B .tabs i ≡ plainTable (take i (l ++ (entry (step d) (answered v f) ∷ []))))
+    → JobFrom l d j → WasAt B j v → WasList l d v f
+was-list l d v f B no-job n t u w = absurd w
+was-list l d v f B (job (writes x) m b i) n t u w = absurd w
+was-list l d v f B (job (reads q) m b i) n t u w =
+    let y = u .1 in
+    record {
+      key = q;
+      underWay = u .0;
+      moment = w .0;
+      later = let z = w .1 in omega arith;
+      upto = let z = w .2 in omega arith;
+      was = w .3 ∙ ap (valueOf q) (t (w .0) (w .2));
+    }
+
+pub answers : (k : ℕ) → k ≤ 4 → (l : List Entry) (s t : State) → Run (opened k) l s → (d : ℕ) (v : Val) (f : Bool)
+    → Did s (step d) (answered v f) t → WasList l d v f
+answers k b l s t r d v f o =
+    let h = after fresh l in
+    let e = entry (step d) (answered v f) in
+    let g = run-good l (opened k) s fresh (opened-good k b) r in
+    let eq = after-append l fresh e in
+    let len = length-append l (e ∷ []) in
+    let n : next h (step d) (answered v f) .book .now ≡ suc (length l) =
+    let z = now-after (l ++ (e ∷ [])) fresh in
+    let y : fresh .book .now ≡ 0 = unfold fresh in unfold blank-book in refl in
+    ap (λ (x : Hist). x .book .now) (sym eq) ∙ (omega arith) in
+    was-list l d v f (next h (step d) (answered v f) .book) (h .book .jobs d) n
+    (λ i le. ap (λ (x : Hist). x .book .tabs i) (sym eq) ∙ tabs-are (l ++ (e ∷ [])) i (omega arith))
+    (linked l d) (claims s h g o .answer)
+
+-- ---- Claim 3: the limits
+-- an accepted begin at desk d
+unfoldable startsAt : ℕ → Call → Result → Bool
+startsAt d (begin-read e q) a = eqb e d && not (isRefused a)
+startsAt d (begin-write e w) a = eqb e d && not (isRefused a)
+startsAt d (step e) a = false
+startsAt d (abandon e) a = false
+startsAt d (out-answer i) a = false
+startsAt d (out-node i) a = false
+startsAt d renew a = false
+
+refused-starts : (d : ℕ) (c : Call) (n : ℕ) → startsAt d c (refused n) ≡ false
+unfolding startsAt isRefused
+refused-starts d (begin-read e q) n = and-false (eqb e d)
+refused-starts d (begin-write e w) n = and-false (eqb e d)
+refused-starts d (step e) n = refl
+refused-starts d (abandon e) n = refl
+refused-starts d (out-answer i) n = refl
+refused-starts d (out-node i) n = refl
+refused-starts d renew n = refl
+
+-- there is none where a desk is busy
+not-here : (s : State) (d e : ℕ) (b : Bool) → s .desks e ≡ idle → (s .desks d ≡ idle → ⊥) → (eqb e d && b) ≡ false
+not-here s d e b i ne = byTest (eqb e d)
+    (λ k. absurd (ne (subst (λ y. s .desks y ≡ idle) (eqb-true e d k) i)))
+    (λ k. rw k refl)
+
+did-starts : (s : State) (d : ℕ) {c : Call} {a : Result} {t : State} → Did s c a t → (s .desks d ≡ idle → ⊥) → startsAt d c a ≡ false
+unfolding startsAt
+did-starts s d (Did.nothing {c} {n} e) ne = refused-starts d c n
+did-starts s d (Did.began {d = e} l i k) ne = not-here s d e _ i ne
+did-starts s d (Did.began-write {d = e} l i k o) ne = not-here s d e _ i ne
+did-starts s d (Did.looked l e k m n) ne = refl
+did-starts s d (Did.missed l e k y) ne = refl
+did-starts s d (Did.hit l e k i f) ne = refl
+did-starts s d (Did.too-long l e k) ne = refl
+did-starts s d (Did.listed l e k) ne = refl
+did-starts s d (Did.took l e k) ne = refl
+did-starts s d (Did.filed l e) ne = refl
+did-starts s d (Did.marked l e k m) ne = refl
+did-starts s d (Did.wrote l e k) ne = refl
+did-starts s d (Did.raised l e k m) ne = refl
+did-starts s d (Did.last l e k m) ne = refl
+did-starts s d (Did.gave-up l e) ne = refl
+did-starts s d (Did.took-back l e m) ne = refl
+did-starts s d (Did.put-out l) ne = refl
+did-starts s d (Did.node-out l m) ne = refl
+did-starts s d (Did.renewed i) ne = refl
+
+abbrev isJob : Job → Bool
+isJob no-job = false
+isJob (job x n b t) = true
+
+busy : (B : Book) (d : ℕ) (j : Job) (y : Desk) → isJob j ≡ true → JobOk B d j y → y ≡ idle → ⊥
+busy B d j y e o k = true≢false (sym e ∙ ap isJob (subst (λ z. JobOk B d j z) k o))
+
+-- a job that is there goes on over a call that neither ends nor begins one at its desk
+abbrev GoesOn : (ℕ → Job) → ℕ → Act → ℕ → ℕ → Type 0
+GoesOn js d x n b = (t : ℕ) × (js d ≡ job x n b t)
+
+still-on : (js : ℕ → Job) (d : ℕ) (x : Act) (n b t : ℕ) → js d ≡ job x n b t → GoesOn js d x (n + 0) b
+still-on js d x n b t e = let z : n + 0 ≡ n = omega arith in rw z (t, e)
+
+upd-on : (js : ℕ → Job) (d e : ℕ) (y : Job) (x : Act) (n b t : ℕ) → eqb e d ≡ false → js d ≡ job x n b t → GoesOn (upd js e y) d x (n + 0) b
+upd-on js d e y x n b t k i =
+    let ne : e ≡ d → ⊥ = eqb-false e d k in
+    still-on (upd js e y) d x n b t (upd-other js e y d (λ z. ne (sym z)) ∙ i)
+
+went-on : (js : ℕ → Job) (d : ℕ) (x : Act) (n b t : ℕ) (a : Result) → isRefused a ≡ false → isEnd a ≡ false
+    → GoesOn (upd js d (job-after x (suc n) b t a)) d x (n + 1) b
+unfolding isRefused isEnd job-after
+went-on js d x n b t (refused m) r f = absurd (true≢false r)
+went-on js d x n b t went r f =
+    let z : n + 1 ≡ suc n = omega arith in rw z (t, upd-same js d (job x (suc n) b t))
+went-on js d x n b t (answered v c) r f = absurd (true≢false f)
+went-on js d x n b t long r f = absurd (true≢false f)
+went-on js d x n b t (ended c) r f = absurd (true≢false f)
+went-on js d x n b t full r f = absurd (true≢false f)
+
+step-on : (B : Book) (e d : ℕ) (j : Job) (a : Result) (T : Table) (x : Act) (n b t : ℕ) → B .jobs e ≡ j → B .jobs d ≡ job x n b t
+    → isRefused a ≡ false
+    → (eqb e d && isEnd a) ≡ false → GoesOn (step-book B e j a T .jobs) d x (n + cond (eqb e d && not (isRefused a)) 1 0) b
+unfolding step-book tick turn
+step-on B e d j a T x n b t k i r f = byTest (eqb e d)
+    (λ y. let y′ = eqb-true e d y in
+    let w : j ≡ job x n b t = sym k ∙ ap (B .jobs) y′ ∙ i in
+    rw (w, y, r, y′) (went-on (B .jobs) d x n b (tabled-at x (suc n) (suc (B .now)) t) a r (rw y at f)))
+    (λ y. rw y (other-on j y))
+  where
+    other-on : (j : Job) → eqb e d ≡ false → GoesOn (step-book B e j a T .jobs) d x (n + 0) b
+    other-on no-job y = still-on (B .jobs) d x n b t i
+    other-on (job x′ n′ b′ t′) y = upd-on (B .jobs) d e _ x n b t y i
+
+abandon-on : (B : Book) (e d : ℕ) (j : Job) (a : Result) (T : Table) (x : Act) (n b t : ℕ) → B .jobs d ≡ job x n b t → isRefused a ≡ false
+    → (eqb e d && not (isRefused a)) ≡ false → GoesOn (abandon-book B e j a T .jobs) d x (n + 0) b
+unfolding abandon-book tick turn
+abandon-on B e d no-job a T x n b t i r f = still-on (B .jobs) d x n b t i
+abandon-on B e d (job x′ n′ b′ t′) a T x n b t i r f = byTest (eqb e d)
+    (λ y. absurd (true≢false (rw (y, r) at f)))
+    (λ y. upd-on (B .jobs) d e no-job x n b t y i)
+
+begin-on : (js : ℕ → Job) (d e : ℕ) (y : Job) (a : Result) (x : Act) (n b t : ℕ) → js d ≡ job x n b t → isRefused a ≡ false
+    → (eqb e d && not (isRefused a)) ≡ false → GoesOn (upd js e y) d x (n + 0) b
+begin-on js d e y a x n b t i r f = byTest (eqb e d)
+    (λ k. absurd (true≢false (rw (k, r) at f)))
+    (λ k. upd-on js d e y x n b t k i)
+
+accepted-on : (B : Book) (c : Call) (a : Result) (T : Table) (d : ℕ) (x : Act) (n b t : ℕ) → B .jobs d ≡ job x n b t → isRefused a ≡ false
+    → ends d c a ≡ false → startsAt d c a ≡ false → GoesOn (accepted-book B c a T .jobs) d x (n + stepped d c a) b
+unfolding accepted-book begin-book tick turn ends startsAt stepped
+accepted-on B (begin-read e q) a T d x n b t i r f g = begin-on (B .jobs) d e _ a x n b t i r g
+accepted-on B (begin-write e w) a T d x n b t i r f g = begin-on (B .jobs) d e _ a x n b t i r g
+accepted-on B (step e) a T d x n b t i r f g = step-on B e d (B .jobs e) a T x n b t refl i r f
+accepted-on B (abandon e) a T d x n b t i r f g = abandon-on B e d (B .jobs e) a T x n b t i r f
+accepted-on B (out-answer j) a T d x n b t i r f g = still-on (B .jobs) d x n b t i
+accepted-on B (out-node j) a T d x n b t i r f g = still-on (B .jobs) d x n b t i
+accepted-on B renew a T d x n b t i r f g = still-on (B .jobs) d x n b t i
+
+next-on : (B : Book) (c : Call) (a : Result) (T : Table) (d : ℕ) (x : Act) (n b t : ℕ) → B .jobs d ≡ job x n b t
+    → ends d c a ≡ false → startsAt d c a ≡ false → GoesOn (next-book B c a T .jobs) d x (n + stepped d c a) b
+unfolding next-book isRefused tick turn
+next-on B c (refused m) T d x n b t i f g = rw (refused-on d c m .1) (still-on (B .jobs) d x n b t i)
+next-on B c went T d x n b t i f g = accepted-on B c went T d x n b t i refl f g
+next-on B c (answered v y) T d x n b t i f g = accepted-on B c (answered v y) T d x n b t i refl f g
+next-on B c long T d x n b t i f g = accepted-on B c long T d x n b t i refl f g
+next-on B c (ended y) T d x n b t i f g = accepted-on B c (ended y) T d x n b t i refl f g
+next-on B c full T d x n b t i f g = accepted-on B c full T d x n b t i refl f g
+
+-- and over a whole run that does not end it
+run-on : (l : List Entry) (s t : State) (h : Hist) (d : ℕ) (x : Act) (n b i : ℕ) → Good s h → Run s l t → h .book .jobs d ≡ job x n b i
+    → goesOn d l ≡ true → GoesOn (after h l .book .jobs) d x (n + stepsOf d l) b
+unfolding after goesOn stepsOf next
+run-on [] s t h d x n b i g r e f = still-on (h .book .jobs) d x n b i e
+run-on (c ∷ l) s t h d x n b i g r e f =
+    let no = not-true (ends d (c .call) (c .result)) (and-true-l (not (ends d (c .call) (c .result))) _ f) in
+    let st = did-starts s d (r .1) (busy (h .book) d (h .book .jobs d) (s .desks d) (rw e refl) (g .book .job d)) in
+    let o = next-on (h .book) (c .call) (c .result) (next h (c .call) (c .result) .plain .table) d x n b i e no st in
+    let p = run-on l (r .0) t (next h (c .call) (c .result)) d x (n + stepped d (c .call) (c .result)) b (o .0) (good-next s h g (r .1)) (r .2) (o .1)
+    (and-true-r (not (ends d (c .call) (c .result))) _ f) in
+    let z : n + stepped d (c .call) (c .result) + stepsOf d l ≡ n + (stepped d (c .call) (c .result) + stepsOf d l) = omega arith in
+    rw z at p
+
+run-split : (p l : List Entry) (s t : State) → Run s (p ++ l) t → (m : State) × Run s p m × Run m l t
+run-split [] l s t r = (s, refl, r)
+run-split (e ∷ p) l s t r = let z = run-split p l (r .0) t (r .2) in (z .0, (r .0, r .1, z .1), z .2)
+
+begin-jobs : (B : Book) (x : Act) (d : ℕ) (a : Result) (T : Table) → isRefused a ≡ false
+    → next-book B (startOf x d) a T .jobs d ≡ job x 0 (suc (B .now)) 0
+unfolding next-book accepted-book begin-book turn startOf
+begin-jobs B (reads q) d a T r = rw r (upd-same (B .jobs) d (job (reads q) 0 (suc (B .now)) 0))
+begin-jobs B (writes w) d a T r = rw r (upd-same (B .jobs) d (job (writes w) 0 (suc (B .now)) 0))
+
+-- the accepted step with which it ends at the latest
+abbrev pub limit : Act → ℕ
+limit (reads q) = 19
+limit (writes w) = 33
+
+below-limit : (x : Act) (n b t : ℕ) → Limited (job x n b t) → n < limit x
+below-limit (reads q) n b t l = l
+below-limit (writes w) n b t l = l
+
+-- what is under way has made fewer
+pub limits : (k : ℕ) → k ≤ 4 → (l : List Entry) (s : State) → Run (opened k) l s → (d : ℕ) (x : Act) (u : UnderWay l d x)
+    → stepsOf d (u .since) < limit x
+unfolding after next
+limits k b l s r d x u =
+    let e = entry (startOf x d) (u .result) in
+    let z = run-split (u .earlier) (e ∷ u .since) (opened k) s (subst (λ y. Run (opened k) y s) (u .split) r) in
+    let h = after fresh (u .earlier) in
+    let g = run-good (u .earlier) (opened k) (z .0) fresh (opened-good k b) (z .1) in
+    let m = next h (startOf x d) (u .result) in
+    let r2 = z .2 in
+    let g2 = good-next (z .0) h g (r2 .1) in
+    let j : m .book .jobs d ≡ job x 0 (suc (h .book .now)) 0 = begin-jobs (h .book) x d (u .result) (m .plain .table) (u .taken) in
+    let o = run-on (u .since) (r2 .0) s m d x 0 (suc (h .book .now)) 0 g2 (r2 .2) j (u .on) in
+    let g3 = run-good (u .since) (r2 .0) s m g2 (r2 .2) in
+    let y = below-limit x (0 + stepsOf d (u .since)) (suc (h .book .now)) (o .0) (subst Limited (o .1) (good-limits s (after m (u .since)) g3 d)) in
+    omega arith
+
+-- ---- The table of a history
+run-table : (l : List Entry) (s t : State) → Tidy s → TableGood (s .cols) (s .tab) → Run s l t → TableGood (s .cols) (t .tab)
+run-table [] s t v g r = rw r g
+run-table (e ∷ l) s t v g r =
+    let w = did-tidy s v (r .1) in
+    subst (λ n. TableGood n (t .tab)) (did-cols s v (r .1)) (run-table l (r .0) t w (table-good s v (r .1) g) (r .2))
+
+pub tables-good : (k : ℕ) → k ≤ 4 → (l : List Entry) (s : State) → Run (opened k) l s → TableGood k (s .tab)
+unfolding opened
+tables-good k b l s r = run-table l (opened k) s (opened-tidy k b) (opened-table k) r
+
+-- ---- Demand 2's last sentence for every history
+-- the flags along a run
+unfoldable pub calm-after : (l : List Entry) (s t : State) → Run s l t → Calm → Calm
+calm-after [] s t r k = k
+calm-after (e ∷ l) s t r k = calm-after l (r .0) t (r .2) (calm-next s (e .call) (e .result) (r .0) k)
+
+run-calm : (l : List Entry) (s t : State) (r : Run s l t) (k : Calm) → Tidy s → CalmInv s k → Tidy t × CalmInv t (calm-after l s t r k)
+unfolding calm-after
+run-calm [] s t r k v u = rw r (v, u)
+run-calm (e ∷ l) s t r k v u =
+    let w = did-tidy s v (r .1) in
+    run-calm l (r .0) t (r .2) (calm-next s (e .call) (e .result) (r .0) k) w (did-calm s k v w u (r .1))
+
+pub fetches : (k : ℕ) → k ≤ 4 → (l : List Entry) (s t : State) (r : Run (opened k) l s) (d : ℕ) (a : Result) → Did s (step d) a t
+    → isRefused a ≡ false
+    → (q : Key) (ns : List ℕ) (saw : Bool) → s .desks d ≡ looking q ns saw → length (nodesOf q) ≤ length ns
+    → (x : Ans) → In x (s .filed) → x .query ≡ q
+    → calm-after l (opened k) s r calm-start .onDesk d ≡ true → calm-after l (opened k) s r calm-start .onFile q ≡ true → a ≡ answered (x .list) true
+fetches k b l s t r d a o f q ns saw e n x i y m g =
+    let z = run-calm l (opened k) s r calm-start (opened-tidy k b) (opened-calm k) in
+    gets s (calm-after l (opened k) s r calm-start) (z .0) (z .1) o f q ns saw e n x i y m g

@@ -1,0 +1,188 @@
+-- What a read asks and gets, and the nodes of reads and writes: all that the machine and its theory know of queries and of the table.
+-- A later kind of read changes this file. Leans on Sharing, rules' Table and query's nodes. Assumes nothing.
+use mathlib.Core.Path.{_≡_, refl, ap, ap₂, _∙_}
+use mathlib.Core.Logic.{_⊎_, inl, inr}
+use mathlib.Core.Bool.{Bool, true, false, _&&_, false≢true}
+use mathlib.Core.List.{List, [], _∷_, map}
+use Prim.Native.Nat.{ℕ, zero, suc, _*_, _^_, _≤_, _<_}
+use native.Mathlib.Omega.{arith}
+use lib.Dec.{eqb, leb}
+use borrow.Author.Tests.{eqb-true, eq-eqb}
+use lib.ListN.{length}
+use Rattle.lists.specs.Lists.{listed, flat}
+use Rattle.query.specs.declared.Column.{Column}
+use Rattle.query.specs.declared.Column.the-variants.{Is, Wildcard}
+use Rattle.query.specs.Query.{Query, Record, Meet, readNode, writeNode, named, readCount, writeCount, readNodes, writeNodes}
+use Rattle.query.specs.Words.{labelWords}
+use Rattle.rules.specs.Sizes.{maxList}
+use Rattle.rules.specs.Table.{Table, Write, target, listOf, effect}
+use Rattle.machine.proofs.Base.{Code, byTest, clash, and-true-l, and-true-r, In}
+use Rattle.machine.proofs.Sharing.{fits, fits-meet, meet-fits, fit-codes, codes-fit, effect-list}
+
+-- ---- The interface
+-- what a read asks: the key of its answer
+pub record Key : Type 0 where
+  pub asked : Query
+
+-- what it gets: how many records, and their numbers, record after record
+pub record Val : Type 0 where
+  pub count : ℕ
+  pub numbers : List ℕ
+
+unfoldable pub valueOf : Key → Table → Val
+valueOf k t = record { count = length (listOf (k .asked) t); numbers = flat (listOf (k .asked) t) }
+
+-- it may be answered: "More than 32 records ends the read with 12."
+unfoldable pub short : Val → Bool
+short v = leb (v .count) maxList
+
+-- the labels of a read's and of a write's nodes, as a node keeps them
+unfoldable pub nodesOf : Key → List Code
+nodesOf k = map labelWords (readNodes (k .asked))
+
+unfoldable pub marksOf : Write → List Code
+marksOf w = map labelWords (writeNodes (target w))
+
+unfoldable pub width : Key → ℕ
+width k = length (k .asked)
+
+unfoldable pub widthOf : Write → ℕ
+widthOf w = length (target w)
+
+unfoldable pub sameColumn : Column → Column → Bool
+sameColumn (Is v) (Is u) = eqb v u
+sameColumn (Is v) Wildcard = false
+sameColumn Wildcard (Is u) = false
+sameColumn Wildcard Wildcard = true
+
+unfoldable pub sameQuery : Query → Query → Bool
+sameQuery [] [] = true
+sameQuery [] (d ∷ w) = false
+sameQuery (c ∷ q) [] = false
+sameQuery (c ∷ q) (d ∷ w) = sameColumn c d && sameQuery q w
+
+unfoldable pub sameKey : Key → Key → Bool
+sameKey k m = sameQuery (k .asked) (m .asked)
+
+-- a write that counts against a kept answer
+unfoldable pub touches : Key → Write → Bool
+touches k w = fits (k .asked) (target w)
+
+unfoldable pub no-key : Key
+no-key = record { asked = [] }
+
+-- they share a node
+abbrev pub Shares : Key → Write → Type 0
+Shares k w = (p : Code) × In p (nodesOf k) × In p (marksOf w)
+
+-- ---- Keys that are the same
+sameColumn-eq : (a b : Column) → sameColumn a b ≡ true → a ≡ b
+unfolding sameColumn
+sameColumn-eq (Is v) (Is u) e = ap Is (eqb-true v u e)
+sameColumn-eq (Is v) Wildcard e = absurd (false≢true e)
+sameColumn-eq Wildcard (Is u) e = absurd (false≢true e)
+sameColumn-eq Wildcard Wildcard e = refl
+
+sameQuery-eq : (q w : Query) → sameQuery q w ≡ true → q ≡ w
+unfolding sameQuery
+sameQuery-eq [] [] e = refl
+sameQuery-eq [] (d ∷ w) e = absurd (false≢true e)
+sameQuery-eq (c ∷ q) [] e = absurd (false≢true e)
+sameQuery-eq (c ∷ q) (d ∷ w) e =
+    ap₂ _∷_ (sameColumn-eq c d (and-true-l (sameColumn c d) _ e)) (sameQuery-eq q w (and-true-r (sameColumn c d) _ e))
+
+sameColumn-refl : (c : Column) → sameColumn c c ≡ true
+unfolding sameColumn
+sameColumn-refl (Is v) = eq-eqb v v refl
+sameColumn-refl Wildcard = refl
+
+sameQuery-refl : (q : Query) → sameQuery q q ≡ true
+unfolding sameQuery
+sameQuery-refl [] = refl
+sameQuery-refl (c ∷ q) = rw (sameColumn-refl c) (sameQuery-refl q)
+
+key-eq : (q r : Query) → q ≡ r → _≡_ {A = Key} (record { asked = q }) (record { asked = r })
+key-eq q r e = rw e refl
+
+pub sameKey-eq : (k m : Key) → sameKey k m ≡ true → k ≡ m
+unfolding sameKey
+sameKey-eq k m e = key-eq (k .asked) (m .asked) (sameQuery-eq (k .asked) (m .asked) e)
+
+pub sameKey-refl : (k : Key) → sameKey k k ≡ true
+unfolding sameKey
+sameKey-refl k = sameQuery-refl (k .asked)
+
+pub sameKey-sym : (q r : Key) → sameKey q r ≡ false → sameKey r q ≡ false
+sameKey-sym q r e = byTest (sameKey r q) (λ i. clash (rw (sameKey-eq r q i) (sameKey-refl q)) e) (λ i. i)
+
+-- ---- How many nodes
+length-map : {A B : Type 0} (f : A → B) (l : List A) → length (map f l) ≡ length l
+length-map f [] = refl
+length-map f (x ∷ l) = ap suc (length-map f l)
+
+length-listed : {A : Type 0} (f : ℕ → A) (i n : ℕ) → length (listed f i n) ≡ n
+unfolding listed
+length-listed f i zero = refl
+length-listed f i (suc n) = ap suc (length-listed f (suc i) n)
+
+pub length-nodesOf : (k : Key) → length (nodesOf k) ≡ readCount (k .asked)
+unfolding nodesOf readNodes
+length-nodesOf k = length-map labelWords (readNodes (k .asked)) ∙ length-listed (readNode (k .asked)) 0 (readCount (k .asked))
+
+pub length-marksOf : (w : Write) → length (marksOf w) ≡ writeCount (target w)
+unfolding marksOf writeNodes
+length-marksOf w = length-map labelWords (writeNodes (target w)) ∙ length-listed (writeNode (target w)) 0 (writeCount (target w))
+
+power-few : (k : ℕ) → k ≤ 4 → 2 ^ k ≤ 16
+power-few zero l = omega arith
+power-few (suc zero) l = omega arith
+power-few (suc (suc zero)) l = omega arith
+power-few (suc (suc (suc zero))) l = omega arith
+power-few (suc (suc (suc (suc zero)))) l = omega arith
+power-few (suc (suc (suc (suc (suc k))))) l = absurd (omega arith)
+
+power-some : (k : ℕ) → 0 < 2 ^ k
+power-some zero = omega arith
+power-some (suc k) = let a = power-some k in let e : 2 ^ suc k ≡ 2 * 2 ^ k = omega arith in omega arith
+
+named-most : (q : Query) → named q ≤ length q
+unfolding named
+named-most [] = omega arith
+named-most (Is v ∷ q) = let a = named-most q in omega arith
+named-most (Wildcard ∷ q) = let a = named-most q in omega arith
+
+pub read-few : (q : Key) (k : ℕ) → width q ≡ k → k ≤ 4 → length (nodesOf q) ≤ 16
+unfolding width readCount
+read-few q k e l = rw (length-nodesOf q) (power-few (named (q .asked)) (let a = named-most (q .asked) in omega arith))
+
+pub write-few : (w : Write) (k : ℕ) → widthOf w ≡ k → k ≤ 4 → length (marksOf w) ≤ 16
+unfolding widthOf writeCount
+write-few w k e l = rw (length-marksOf w) (power-few (length (target w)) (omega arith))
+
+pub marks-some : (w : Write) → 0 < length (marksOf w)
+unfolding writeCount
+marks-some w = rw (length-marksOf w) (power-some (length (target w)))
+
+-- ---- Reads and writes
+value-eq : (a b : List Record) → a ≡ b → _≡_ {A = Val} (record { count = length a; numbers = flat a }) (record { count = length b; numbers = flat b })
+value-eq a b e = rw e refl
+
+-- of one hall: a write leaves an answer alone, or shares a node with its key
+pub effect-value : (w : Write) (k : Key) (t : Table) → width k ≡ widthOf w → (valueOf k (effect w t) ≡ valueOf k t) ⊎ Shares k w
+unfolding valueOf nodesOf marksOf
+effect-value w k t f = elim (effect-list w (k .asked) t)
+    [ inl e ↦ inl (value-eq (listOf (k .asked) (effect w t)) (listOf (k .asked) t) e) | inr e ↦ inr (fit-codes (k .asked) (target w) e) ]
+
+-- and one that shares a node counts
+pub shared-touches : (k : Key) (w : Write) {p : Code} → In p (nodesOf k) → In p (marksOf w) → touches k w ≡ true
+unfolding nodesOf marksOf touches
+shared-touches k w i j = codes-fit (k .asked) (target w) i j
+
+-- that is: its query meets the key's
+pub touches-meets : (k : Key) (w : Write) → touches k w ≡ true → Meet (k .asked) (target w)
+unfolding touches
+touches-meets k w e = fits-meet (k .asked) (target w) e
+
+pub meets-touches : (k : Key) (w : Write) → Meet (k .asked) (target w) → touches k w ≡ true
+unfolding touches
+meets-touches k w m = meet-fits (k .asked) (target w) m

@@ -1,0 +1,162 @@
+-- Which labels a desk holds a mark of, and which it owes: has still to raise, past its table step. How often a label stands among them.
+-- Leans on Machine and on revisions' Effect. Assumes nothing.
+use mathlib.Core.Path.{_≡_, refl, sym, ap}
+use mathlib.Core.Logic.{_⊎_, inl, inr}
+use mathlib.Core.Bool.{Bool, true, false, false≢true}
+use mathlib.Core.List.{List, [], _∷_, _++_}
+use Prim.Native.Nat.{ℕ, suc, _+_, _≤_, _<_}
+use native.Mathlib.Omega.{arith}
+use lib.Dec.{ltb}
+use borrow.Author.Tests.{ltb-true, ltb-false}
+use lib.ListN.{length, getD, take, drop}
+use lib.Seq.{take-suc, drop-cons, take-all}
+use Rattle.lists.specs.Lists.{same}
+use Rattle.rules.specs.Table.{Write}
+use Rattle.rules.specs.Nodes.{Store}
+use Rattle.revisions.proofs.Effect.{eff, mrk, one, tally, lifts, Raised}
+use Rattle.machine.proofs.Base.{Code, byTest, same-eq, same-refl, sumBelow, sumBelow-change, sumBelow-ge, sumBelow-none, upd, upd-same}
+use Rattle.machine.proofs.Base.{upd-other, In, here, there}
+use Rattle.machine.proofs.Keys.{marksOf}
+use Rattle.machine.proofs.Machine.{State, Desk, idle, looking, tabling, filing, marking, raising}
+use Rattle.machine.proofs.Did.{readersDesk}
+
+-- ---- What a desk holds and owes
+unfoldable pub holds : Desk → List Code
+holds idle = []
+holds (looking q ns saw) = []
+holds (tabling q ns saw) = []
+holds (filing q ns l) = []
+holds (marking w i) = take i (marksOf w)
+holds (raising w j c f) = drop j (marksOf w)
+
+-- a write owes what it holds if its raises lift the revisions
+unfoldable pub owing : Bool → List Code → List Code
+owing true ps = ps
+owing false ps = []
+
+-- every write's do
+unfoldable pub owes : Desk → List Code
+owes idle = []
+owes (looking q ns saw) = []
+owes (tabling q ns saw) = []
+owes (filing q ns l) = []
+owes (marking w i) = []
+owes (raising w j c f) = owing true (drop j (marksOf w))
+
+-- how many desks hold a label
+unfoldable pub held-of : (ℕ → Desk) → Code → ℕ
+held-of f p = sumBelow 12 (λ d. tally p (holds (f d)))
+
+-- some desk owes it
+abbrev pub Owed : State → Code → Type 0
+Owed s p = (d : ℕ) × (d < 12) × (0 < tally p (owes (s .desks d)))
+
+-- ---- Tallies
+tally-append : (q : Code) (ps rs : List Code) → tally q (ps ++ rs) ≡ tally q ps + tally q rs
+unfolding tally
+tally-append q [] rs = omega arith
+tally-append q (p ∷ ps) rs = let a = tally-append q ps rs in omega arith
+
+pub tally-take : (q : Code) (ps : List Code) (i : ℕ) → i < length ps → tally q (take (suc i) ps) ≡ tally q (take i ps) + one (getD ps i []) q
+unfolding tally
+tally-take q ps i l =
+    let a : tally q (take (suc i) ps) ≡ tally q (take i ps ++ (getD ps i [] ∷ [])) = ap (tally q) (take-suc ps i [] l) in
+    let b = tally-append q (take i ps) (getD ps i [] ∷ []) in
+    omega arith
+
+pub tally-drop : (q : Code) (ps : List Code) (i : ℕ) → i < length ps → tally q (drop i ps) ≡ one (getD ps i []) q + tally q (drop (suc i) ps)
+unfolding tally
+tally-drop q ps i l = ap (tally q) (drop-cons ps i [] l)
+
+pub take-whole : (q : Code) (ps : List Code) (i : ℕ) → length ps ≤ i → tally q (take i ps) ≡ tally q ps
+take-whole q ps i l = ap (tally q) (take-all i ps l)
+
+one-self : (p : Code) → one p p ≡ 1
+unfolding one
+one-self p = rw (same-refl p) refl
+
+pub tally-in : (q : Code) (ps : List Code) → In q ps → 0 < tally q ps
+unfolding tally
+tally-in q (p ∷ ps) (here e) = let a : one p q ≡ 1 = rw e (one-self p) in omega arith
+tally-in q (p ∷ ps) (there i) = let a = tally-in q ps i in omega arith
+
+pub tally-pos : (p : Code) (ps : List Code) → 0 < tally p ps → In p ps
+unfolding tally one
+tally-pos p [] h = absurd (omega arith)
+tally-pos p (r ∷ ps) h = byTest (same r p)
+    (λ e. here (sym (same-eq r p e)))
+    (λ e. there (tally-pos p ps (let z : 1 ≤ 0 + tally p ps = rw e at h in omega arith)))
+
+-- ---- Over the desks
+-- one desk changes
+pub held-upd : (f : ℕ → Desk) (d : ℕ) (x : Desk) (p : Code) → d < 12
+    → held-of (upd f d x) p + tally p (holds (f d)) ≡ held-of f p + tally p (holds x)
+unfolding held-of
+held-upd f d x p l =
+    let a = sumBelow-change 12 (λ e. tally p (holds (f e))) (λ e. tally p (holds (upd f d x e))) d l
+    (λ j ne. ap (λ y. tally p (holds y)) (sym (upd-other f d x j ne))) in
+    let b : tally p (holds (upd f d x d)) ≡ tally p (holds x) = ap (λ y. tally p (holds y)) (upd-same f d x) in
+    rw b at a
+
+pub none-held : (f : ℕ → Desk) (p : Code) → ((d : ℕ) → f d ≡ idle) → held-of f p ≡ 0
+unfolding held-of holds tally
+none-held f p e = sumBelow-none 12 (λ d. tally p (holds (f d))) (λ j l. rw (e j) refl)
+
+-- an owed label is held, and so it has a mark
+pub owes-held : (p : Code) (x : Desk) → tally p (owes x) ≤ tally p (holds x)
+unfolding owes owing holds tally
+owes-held p idle = omega arith
+owes-held p (looking q ns saw) = omega arith
+owes-held p (tabling q ns saw) = omega arith
+owes-held p (filing q ns l) = omega arith
+owes-held p (marking w i) = omega arith
+owes-held p (raising w j c f) = omega arith
+
+pub owed-marked : (s : State) (p : Code) → held-of (s .desks) p ≡ mrk (s .store) p → Owed s p → 0 < mrk (s .store) p
+unfolding held-of
+owed-marked s p h o =
+    let a = sumBelow-ge 12 (λ d. tally p (holds (s .desks d))) (o .0) (o .1) in
+    let b = owes-held p (s .desks (o .0)) in
+    let c = o .2 in
+    omega arith
+
+-- a reader holds and owes nothing
+pub reader-holds : (p : Code) (x : Desk) → readersDesk x ≡ true → tally p (holds x) ≡ 0
+unfolding holds tally
+reader-holds p idle e = refl
+reader-holds p (looking q ns saw) e = refl
+reader-holds p (tabling q ns saw) e = refl
+reader-holds p (filing q ns l) e = refl
+reader-holds p (marking w i) e = absurd (false≢true e)
+reader-holds p (raising w j c f) e = absurd (false≢true e)
+
+pub reader-owes : (p : Code) (x : Desk) → readersDesk x ≡ true → tally p (owes x) ≡ 0
+reader-owes p x e = let a = owes-held p x in let b = reader-holds p x e in omega arith
+
+-- ---- A raise
+-- it lifts the revision of its label alone
+pub raise-up : (p : Code) (s t : Store) → Raised true (p ∷ []) s t → (q : Code) → eff t q ≡ eff s q + one p q
+unfolding lifts tally
+raise-up p s t m q = let a = m .up q in omega arith
+
+pub raise-less : (p : Code) (s t : Store) → Raised true (p ∷ []) s t → (q : Code) → mrk t q + one p q ≡ mrk s q
+unfolding tally
+raise-less p s t m q = let a = m .less q in omega arith
+
+-- an owed label stays owed, or its revision has grown
+pub raise-owed : (s : State) (d : ℕ) (w : Write) (j : ℕ) (c f : Bool) (t : Store) → s .desks d ≡ raising w j c f → j < length (marksOf w)
+    → Raised true (getD (marksOf w) j [] ∷ []) (s .store) t → (p : Code) → 0 < tally p (owes (s .desks d))
+    → (0 < tally p (drop (suc j) (marksOf w))) ⊎ (eff (s .store) p < eff t p)
+unfolding owes owing
+raise-owed s d w j c f t e l m p k =
+    let k′ : 0 < tally p (drop j (marksOf w)) = rw e at k in
+    let a = tally-drop p (marksOf w) j l in
+    let b = raise-up (getD (marksOf w) j []) (s .store) t m p in
+    byTest (ltb 0 (tally p (drop (suc j) (marksOf w))))
+    (λ i. inl (ltb-true 0 (tally p (drop (suc j) (marksOf w))) i))
+    (λ i. let z = ltb-false 0 (tally p (drop (suc j) (marksOf w))) i in inr (omega arith))
+
+-- ---- A mark taken back
+pub back-up : (ps : List Code) (s t : Store) → Raised false ps s t → (q : Code) → eff t q ≡ eff s q
+unfolding lifts
+back-up ps s t m q = let a = m .up q in omega arith
