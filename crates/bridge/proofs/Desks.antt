@@ -1,0 +1,285 @@
+-- Which desk of the machine a client stands for in each phase, and that what a step leaves is sound again. Leans on View and Clients.
+-- Assumes nothing.
+use mathlib.Core.Path.{_≡_, refl, sym, ap, ap₂, _∙_}
+use mathlib.Core.Bool.{Bool, true, false, not, _&&_, _||_}
+use mathlib.Core.List.{List, [], _∷_}
+use Prim.Native.Nat.{ℕ, _+_, _-_, _≤_, _<_}
+use native.Mathlib.Omega.{arith}
+use lib.Dec.{eqb, ltb, leb}
+use borrow.Author.Tests.{ltb-false, leb-false, eqb-true, eqb-false, le-ltb, le-leb, lt-leb, eq-eqb, ne-eqb, not-false}
+use lib.ListN.{length, getD, length-replicate}
+use Rattle.query.specs.declared.Column.the-variants.{Is, Wildcard}
+use Rattle.query.specs.Query.{Query, naming, named, readCount, writeCount}
+use Rattle.query.specs.Words.{recordOf, namesAll, queryIn, isKey}
+use Rattle.query.proofs.Nodes.{named-most}
+use Rattle.query.proofs.Words.{query-in-key, key-is-key}
+use Rattle.rules.specs.Sizes.{maxList}
+use Rattle.rules.specs.Table.{Write, insert, delete, target}
+use Rattle.rules.specs.Answers.{Entry, keyIn, lengthIn}
+use Rattle.rules.specs.Client.{Client, kind, steps, sawMark, didChange, foundFull, entryOf, isIdle, queryAt, writeAt, lastStep, isBad, begun, reads, inserts, deletes}
+use Rattle.rules.specs.Client as rules
+use Rattle.laws.proofs.Lists.{same-refl, same-eq}
+use Rattle.revisions.proofs.Base.{or-false-l, or-false-r}
+use Rattle.machine.proofs.Base.{byTest, clash}
+use Rattle.machine.proofs.Keys.{Key}
+use Rattle.machine.proofs.Machine.{Desk, idle, looking, tabling, filing, marking, raising}
+use Rattle.bridge.proofs.View.{keyOf, valueIn, revisionsIn, looksOf, readerOf, writerOf, busyDesk, deskOf}
+use Rattle.bridge.proofs.Clients.{Next}
+use Rattle.bridge.proofs.Clients.{begun-kind, begun-steps, begun-saw, begun-key, begun-length}
+
+-- ---- Soundness
+-- what a busy client that is sound keeps to
+pub record Busy (k : ℕ) (c : Client) : Type 0 where
+  pub low : 1 ≤ kind c
+  pub high : kind c ≤ 3
+  pub key : isKey k (keyIn (entryOf c)) ≡ true
+  pub names : kind c ≡ inserts → namesAll (queryAt k c) ≡ true
+  pub going : steps c < lastStep (kind c) (queryAt k c)
+  pub short : lengthIn (entryOf c) ≤ maxList
+
+pub and-not : (a b : Bool) → (a && not b) ≡ false → a ≡ true → b ≡ true
+and-not true true e f = refl
+and-not true false e f = sym e
+and-not false b e f = clash f refl
+
+-- the tests of a busy client
+faults : ℕ → Client → Bool
+faults k c =
+    (eqb (kind c) 0 || ltb 3 (kind c))
+    || (not (isKey k (keyIn (entryOf c)))
+    || ((eqb (kind c) inserts && not (namesAll (queryAt k c)))
+    || (leb (lastStep (kind c) (queryAt k c)) (steps c)
+    || ltb maxList (lengthIn (entryOf c)))))
+
+bad-faults : (k : ℕ) (c : Client) → isBad k c ≡ (not (isIdle c) && faults k c)
+unfolding isBad faults
+bad-faults k c = refl
+
+faults-busy : (k : ℕ) (c : Client) → faults k c ≡ false → Busy k c
+unfolding faults
+faults-busy k c h =
+    let a = or-false-l (eqb (kind c) 0 || ltb 3 (kind c)) _ h in
+    let r = or-false-r (eqb (kind c) 0 || ltb 3 (kind c)) _ h in
+    let b = or-false-l (not (isKey k (keyIn (entryOf c)))) _ r in
+    let s = or-false-r (not (isKey k (keyIn (entryOf c)))) _ r in
+    let d = or-false-l (eqb (kind c) inserts && not (namesAll (queryAt k c))) _ s in
+    let t = or-false-r (eqb (kind c) inserts && not (namesAll (queryAt k c))) _ s in
+    let e = or-false-l (leb (lastStep (kind c) (queryAt k c)) (steps c)) _ t in
+    let f = or-false-r (leb (lastStep (kind c) (queryAt k c)) (steps c)) _ t in
+    let z : kind c ≡ 0 → ⊥ = eqb-false (kind c) 0 (or-false-l (eqb (kind c) 0) _ a) in
+    record {
+      low = omega arith;
+      high = ltb-false 3 (kind c) (or-false-r (eqb (kind c) 0) _ a);
+      key = not-false _ b;
+      names = λ i. and-not (eqb (kind c) inserts) (namesAll (queryAt k c)) d (eq-eqb (kind c) inserts i);
+      going = leb-false _ _ e;
+      short = ltb-false _ _ f;
+    }
+
+pub busy-of : (k : ℕ) (c : Client) → isBad k c ≡ false → isIdle c ≡ false → Busy k c
+busy-of k c h e = faults-busy k c (rw e at (sym (bad-faults k c) ∙ h))
+
+names-off : (k : ℕ) (c : Client) → Busy k c → (eqb (kind c) inserts && not (namesAll (queryAt k c))) ≡ false
+names-off k c b = byTest (eqb (kind c) inserts) (λ e. rw (e, b .names (eqb-true (kind c) inserts e))) (λ e. rw e)
+
+busy-faults : (k : ℕ) (c : Client) → Busy k c → faults k c ≡ false
+unfolding faults
+busy-faults k c b =
+    let l = b .low in
+    rw (ne-eqb (kind c) 0 (λ z. omega arith), le-ltb 3 (kind c) (b .high), b .key, names-off k c b, lt-leb _ _ (b .going), le-ltb _ _ (b .short))
+
+and-false : (a : Bool) → (a && false) ≡ false
+and-false true = refl
+and-false false = refl
+
+pub busy-sound : (k : ℕ) (c : Client) → Busy k c → isBad k c ≡ false
+busy-sound k c b = bad-faults k c ∙ rw (busy-faults k c b) (and-false (not (isIdle c)))
+
+-- ---- An idle client
+pub idle-is : isIdle rules.idle ≡ true
+unfolding isIdle
+idle-is = same-refl rules.idle
+
+pub idle-sound : (k : ℕ) → isBad k rules.idle ≡ false
+idle-sound k = bad-faults k rules.idle ∙ rw idle-is
+
+pub idle-wide : length rules.idle ≡ 157
+unfolding rules.idle
+idle-wide = length-replicate {A = ℕ} 157 0
+
+pub idle-desk : (k : ℕ) → deskOf k rules.idle ≡ idle
+unfolding deskOf
+idle-desk k = rw idle-is
+
+idle-kind : (c : Client) → isIdle c ≡ true → kind c ≡ 0
+unfolding isIdle kind rules.idle
+idle-kind c e = ap (λ (x : Client). getD x 0 0) (same-eq c rules.idle e)
+
+pub busy-not-idle : (k : ℕ) (c : Client) → Busy k c → isIdle c ≡ false
+busy-not-idle k c b = byTest (isIdle c) (λ e. absurd (let z = idle-kind c e in let l = b .low in omega arith)) (λ e. e)
+
+-- ---- What a call leaves at a desk: a sound client, which stands for x
+pub record Left (k : ℕ) (t : Client) (x : Desk) : Type 0 where
+  pub sound : isBad k t ≡ false
+  pub wide : length t ≡ 157
+  pub desk : deskOf k t ≡ x
+
+pub idle-left : (k : ℕ) → Left k rules.idle idle
+idle-left k = record { sound = idle-sound k; wide = idle-wide; desk = idle-desk k }
+
+-- ---- A busy client's desk
+pub busy-desk : (k : ℕ) (c : Client) → Busy k c → deskOf k c ≡ busyDesk k c
+unfolding deskOf
+busy-desk k c b = rw (busy-not-idle k c b)
+
+module _ (k : ℕ) (c : Client) (b : Busy k c) (r : kind c ≡ reads) where
+  reader-desk : deskOf k c ≡ readerOf k (entryOf c) (steps c) (sawMark c)
+  unfolding busyDesk
+  reader-desk = busy-desk k c b ∙ rw (eq-eqb (kind c) reads r)
+
+  pub looking-desk : steps c ≤ looksOf k (entryOf c) → deskOf k c ≡ looking (keyOf k (entryOf c)) (revisionsIn (steps c) (entryOf c)) (sawMark c)
+  unfolding readerOf
+  looking-desk h = reader-desk ∙ rw (le-leb _ _ h)
+
+  pub tabling-desk : steps c ≡ looksOf k (entryOf c) + 1
+      → deskOf k c ≡ tabling (keyOf k (entryOf c)) (revisionsIn (looksOf k (entryOf c)) (entryOf c)) (sawMark c)
+  unfolding readerOf
+  tabling-desk h = reader-desk ∙ rw (lt-leb (steps c) (looksOf k (entryOf c)) (omega arith), eq-eqb _ _ h)
+
+  pub filing-desk : looksOf k (entryOf c) + 1 < steps c
+      → deskOf k c ≡ filing (keyOf k (entryOf c)) (revisionsIn (looksOf k (entryOf c)) (entryOf c)) (valueIn k (entryOf c))
+  unfolding readerOf
+  filing-desk h = reader-desk ∙ rw (lt-leb (steps c) (looksOf k (entryOf c)) (omega arith), ne-eqb (steps c) (looksOf k (entryOf c) + 1) (λ e. omega arith))
+
+module _ (k : ℕ) (c : Client) (b : Busy k c) (r : kind c ≡ reads → ⊥) where
+  writer-desk : deskOf k c ≡ writerOf (writeAt k c) (steps c) (didChange c) (foundFull c)
+  unfolding busyDesk
+  writer-desk = busy-desk k c b ∙ rw (ne-eqb (kind c) reads r)
+
+  pub marking-desk : steps c ≤ writeCount (target (writeAt k c)) → deskOf k c ≡ marking (writeAt k c) (steps c)
+  unfolding writerOf
+  marking-desk h = writer-desk ∙ rw (le-leb _ _ h)
+
+  pub raising-desk : writeCount (target (writeAt k c)) < steps c
+      → deskOf k c ≡ raising (writeAt k c) (steps c - (writeCount (target (writeAt k c)) + 1)) (didChange c) (foundFull c)
+  unfolding writerOf
+  raising-desk h = writer-desk ∙ rw (lt-leb _ _ h)
+
+-- ---- A write's query
+naming-record : (q : Query) → named q ≡ length q → naming (recordOf q) ≡ q
+unfolding naming recordOf named
+naming-record [] e = refl
+naming-record (Is v ∷ q) e = ap (λ (t : Query). Is v ∷ t) (naming-record q (omega arith))
+naming-record (Wildcard ∷ q) e = absurd (let z = named-most q in omega arith)
+
+names-record : (q : Query) → namesAll q ≡ true → naming (recordOf q) ≡ q
+unfolding namesAll
+names-record q e = naming-record q (eqb-true _ _ e)
+
+pub target-insert : (q : Query) → namesAll q ≡ true → target (insert (recordOf q)) ≡ q
+unfolding target
+target-insert q e = names-record q e
+
+pub target-delete : (q : Query) → target (delete q) ≡ q
+unfolding target
+target-delete q = refl
+
+pub write-target : (k : ℕ) (c : Client) → Busy k c → target (writeAt k c) ≡ queryAt k c
+unfolding writeAt
+write-target k c b = byTest (eqb (kind c) inserts) (λ e. rw e (inserting e)) (λ e. rw e deleting)
+  where
+    inserting : eqb (kind c) inserts ≡ true → target (insert (recordOf (queryAt k c))) ≡ queryAt k c
+    inserting e = target-insert (queryAt k c) (b .names (eqb-true _ _ e))
+
+    deleting : target (delete (queryAt k c)) ≡ queryAt k c
+    deleting = target-delete (queryAt k c)
+
+-- ---- One step more
+module _ (k : ℕ) (c t : Client) (n : Next c t) where
+  pub next-query : queryAt k t ≡ queryAt k c
+  unfolding queryAt
+  next-query = ap (queryIn k) (n .keys)
+
+  pub next-key : keyOf k (entryOf t) ≡ keyOf k (entryOf c)
+  unfolding keyOf
+  next-key = λ i. record { asked = queryIn k (n .keys i) }
+
+  pub next-looks : looksOf k (entryOf t) ≡ looksOf k (entryOf c)
+  unfolding looksOf
+  next-looks = ap (λ (x : List ℕ). readCount (queryIn k x)) (n .keys)
+
+  pub next-write : writeAt k t ≡ writeAt k c
+  unfolding writeAt
+  next-write = rw (n .kinds, next-query)
+
+  pub next-busy : Busy k c → steps c + 1 < lastStep (kind c) (queryAt k c) → lengthIn (entryOf t) ≤ maxList → Busy k t
+  next-busy b h s = record {
+    low = rw (n .kinds) (b .low);
+    high = rw (n .kinds) (b .high);
+    key = rw (n .keys) (b .key);
+    names = λ e. rw next-query (b .names (sym (n .kinds) ∙ e));
+    going = rw (n .kinds, next-query, n .one) h;
+    short = s;
+  }
+
+-- how many steps
+pub last-read : (k : ℕ) (c : Client) → kind c ≡ reads → lastStep (kind c) (queryAt k c) ≡ looksOf k (entryOf c) + 3
+unfolding lastStep looksOf queryAt
+last-read k c r = rw (eq-eqb (kind c) reads r)
+
+pub last-write : (k : ℕ) (c : Client) → (kind c ≡ reads → ⊥) → lastStep (kind c) (queryAt k c) ≡ writeCount (queryAt k c) + 1 + writeCount (queryAt k c)
+unfolding lastStep
+last-write k c r = rw (ne-eqb (kind c) reads r)
+
+last-some : (x : ℕ) (q : Query) → 0 < lastStep x q
+unfolding lastStep
+last-some x q = byTest (eqb x reads) (λ e. rw e (omega arith)) (λ e. rw e (omega arith))
+
+-- ---- What a begin leaves
+module _ (k x : ℕ) (q : Query) (l : length q ≡ k) (few : k ≤ 4) where
+  pub begun-query : queryAt k (begun x q) ≡ q
+  unfolding queryAt
+  begun-query = ap (queryIn k) (begun-key x q (omega arith)) ∙ query-in-key k q l
+
+  pub begun-busy : 1 ≤ x → x ≤ 3 → (x ≡ inserts → namesAll q ≡ true) → Busy k (begun x q)
+  begun-busy lo hi f = record {
+    low = rw (begun-kind x q (omega arith)) lo;
+    high = rw (begun-kind x q (omega arith)) hi;
+    key = rw (begun-key x q (omega arith)) (key-is-key k q l);
+    names = λ e. rw begun-query (f (sym (begun-kind x q (omega arith)) ∙ e));
+    going = rw (begun-steps x q (omega arith)) (last-some (kind (begun x q)) (queryAt k (begun x q)));
+    short = let z = begun-length x q (omega arith) in omega arith;
+  }
+
+  begun-asked : keyOf k (entryOf (begun x q)) ≡ record { asked = q }
+  unfolding keyOf queryAt
+  begun-asked = λ i. record { asked = begun-query i }
+
+pub looking-eq : {q r : Key} {ns ms : List ℕ} {a b : Bool} → q ≡ r → ns ≡ ms → a ≡ b → looking q ns a ≡ looking r ms b
+looking-eq e f g = λ i. looking (e i) (f i) (g i)
+
+no-revisions : (i : ℕ) (e : Entry) → i ≡ 0 → revisionsIn i e ≡ []
+unfolding revisionsIn
+no-revisions i e h = rw h
+
+pub begun-reads : (k : ℕ) (q : Query) → length q ≡ k → k ≤ 4 → Busy k (begun reads q) → deskOf k (begun reads q) ≡ looking (record { asked = q }) [] false
+begun-reads k q l few b =
+    let z = begun-steps reads q (omega arith) in
+    looking-desk k (begun reads q) b (begun-kind reads q (omega arith)) (omega arith)
+    ∙ looking-eq (begun-asked k reads q l few) (no-revisions (steps (begun reads q)) (entryOf (begun reads q)) z) (begun-saw reads q (omega arith))
+
+-- a write that begins
+pub begun-insert : (k : ℕ) (q : Query) → length q ≡ k → k ≤ 4 → writeAt k (begun inserts q) ≡ insert (recordOf q)
+unfolding writeAt
+begun-insert k q l few = rw (begun-kind inserts q (omega arith), begun-query k inserts q l few)
+
+pub begun-delete : (k : ℕ) (q : Query) → length q ≡ k → k ≤ 4 → writeAt k (begun deletes q) ≡ delete q
+unfolding writeAt
+begun-delete k q l few = rw (begun-kind deletes q (omega arith), begun-query k deletes q l few)
+
+pub begun-writes : (k x : ℕ) (q : Query) (w : Write) → length q ≡ k → k ≤ 4 → (x ≡ reads → ⊥) → Busy k (begun x q) → writeAt k (begun x q) ≡ w
+    → deskOf k (begun x q) ≡ marking w 0
+begun-writes k x q w l few ne b e =
+    let z = begun-steps x q (omega arith) in
+    let y = begun-kind x q (omega arith) in
+    marking-desk k (begun x q) b (λ r. ne (sym y ∙ r)) (omega arith) ∙ ap₂ marking e z

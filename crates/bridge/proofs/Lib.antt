@@ -1,0 +1,14 @@
+pub mod View
+pub mod Clients
+pub mod Desks
+pub mod Phases
+pub mod Memories
+pub mod States
+pub mod Refusals
+pub mod Answers
+pub mod Steps
+pub mod Reading
+pub mod Writing
+pub mod Others
+pub mod Opening
+pub mod Bridge
