@@ -1,0 +1,20 @@
+-- What the functions of src/keys.rt give, where crates/query/specs has no name for it. Definitions only. Assumes nothing.
+use mathlib.Core.Bool.{Bool, true, _&&_, _||_}
+use mathlib.Core.List.{List, [], _∷_}
+use Prim.Native.Nat.{ℕ, _/_, _%_}
+use lib.Dec.{eqb}
+use Rattle.query.specs.declared.Column.{Column}
+use Rattle.query.specs.declared.Column.the-variants.{Is, Wildcard}
+
+-- the mark of one column
+unfoldable pub markOf : Column → ℕ
+markOf (Is v) = 1
+markOf Wildcard = 0
+
+-- a value has a mark, or is 0
+unfoldable pub keeps : ℕ → ℕ → Bool
+keeps m v = eqb (m % 2) 1 || eqb v 0
+
+unfoldable pub zeroUnder : ℕ → List ℕ → Bool
+zeroUnder m [] = true
+zeroUnder m (v ∷ vs) = keeps m v && zeroUnder (m / 2) vs

@@ -1,0 +1,134 @@
+// Queries in code: an array of four columns, of which the first k are in use and the rest are wildcards.
+// Leans on query for the column and for the rules.
+ghost use mathlib.Core.Path.{_≡_};
+ghost use Prim.Native.Nat.{_≤_};
+ghost use lib.ListN.{length, take};
+ghost use Rattle.query.specs.Query.{admits, lies};
+ghost use Rattle.query.specs.Words.{isQuery, columnOf, queryOf, wellMarked};
+ghost use Rattle.columns.specs.Columns.{columnMarked, four, takenOf};
+use query::Column;
+
+pub mod keys; // keys.rt: marks, values and keys
+pub mod labels; // labels.rt: the labels of nodes
+pub mod sheet; // sheet.rt: the fixed sheet
+
+// Whether a column takes the value x.
+pub fn admits(col: Column, x: u32) -> bool
+    ensures { λ r. ⌜ r ≡ admits col x ⌝ }
+{
+    let Column::Is(v) = col else {
+        return true;
+    };
+    v == x
+}
+
+// Whether a record lies in a query's subspace: the one test that all callers share. It ends at the first column that fails.
+pub fn lies(cols: [Column; 4], rec: &[u32]) -> bool
+    requires { ⌜ length (now rec) ≤ 4 ⌝ }
+    ensures { λ r. ⌜ r ≡ lies (take (length (now (rec .entry))) cols) (now (rec .entry)) ⌝ }
+{
+    let mut i = 0;
+    while i < rec.len() {
+        let col = cols[i];
+        let x = rec[i];
+        if !admits(col, x) {
+            return false;
+        }
+        i += 1;
+    }
+    true
+}
+
+// What an insert takes from a query: whether it names every column, and the values up to the first wildcard, zeros behind.
+pub struct Taken {
+    pub ok: bool,
+    pub values: [u32; 4],
+}
+
+// An insert takes each column's value, and refuses a wildcard.
+pub fn take_record(cols: [Column; 4], k: usize) -> Taken
+    requires { ⌜ k ≤ 4 ⌝ }
+    ensures { λ r. ⌜ r ≡ takenOf (take k cols) ⌝ }
+{
+    let mut values = [0u32; 4];
+    let mut i = 0;
+    while i < k {
+        let col = cols[i];
+        let Column::Is(v) = col else {
+            return Taken { ok: false, values };
+        };
+        values[i] = v;
+        i += 1;
+    }
+    Taken { ok: true, values }
+}
+
+// Whether a mark and its value are those of a column: no mark above 1, no value under a wildcard.
+fn is_column(mark: u32, v: u32) -> bool
+    ensures { λ r. ⌜ r ≡ columnMarked mark v ⌝ }
+{
+    if mark == 0 {
+        return v == 0;
+    }
+    mark == 1
+}
+
+// Whether the columns as they arrive are well marked, each mark with its value.
+fn well_marked(asked: &[u32]) -> bool
+    ensures { λ r. ⌜ r ≡ wellMarked (now (asked .entry)) ⌝ }
+{
+    let mut i = 0;
+    while i < asked.len() {
+        if i + 1 == asked.len() {
+            return false;
+        }
+        let mark = asked[i];
+        let v = asked[i + 1];
+        if !is_column(mark, v) {
+            return false;
+        }
+        i += 2;
+    }
+    true
+}
+
+// Whether what arrives is a query of k columns.
+pub fn is_query(asked: &[u32], k: u32) -> bool
+    ensures { λ r. ⌜ r ≡ isQuery k (now (asked .entry)) ⌝ }
+{
+    if asked.len() != 2 * (k as usize) {
+        return false;
+    }
+    well_marked(asked)
+}
+
+// The column of a mark and a value.
+fn column_of(mark: u32, v: u32) -> Column
+    ensures { λ r. ⌜ r ≡ columnOf mark v ⌝ }
+{
+    if mark == 0 {
+        Column::Wildcard
+    } else {
+        Column::Is(v)
+    }
+}
+
+// The columns of what arrives, at most four, wildcards behind.
+pub fn columns_of(asked: &[u32]) -> [Column; 4]
+    requires { ⌜ length (now asked) ≤ 8 ⌝ }
+    ensures { λ r. ⌜ r ≡ four (queryOf (now (asked .entry))) ⌝ }
+{
+    let wildcard = Column::Wildcard;
+    let mut cols = [wildcard; 4];
+    let mut i = 0;
+    let mut from = 0;
+    while from + 1 < asked.len() {
+        let mark = asked[from];
+        let v = asked[from + 1];
+        let col = column_of(mark, v);
+        cols[i] = col;
+        i += 1;
+        from += 2;
+    }
+    cols
+}
