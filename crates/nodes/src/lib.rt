@@ -1,0 +1,271 @@
+// Functions over the nodes memory: the floor at 0, the count at 1, nodes of 8 numbers from place 8 on (docs/LAYOUT.md). Each finds a node by
+// one scan. What they leave stands in the rules' Nodes.antt, read and written back by the rules' Memory.antt.
+ghost use mathlib.Core.Path.{_≡_};
+ghost use mathlib.Core.Bool.{Bool, true, false};
+ghost use mathlib.Core.List.{[]};
+ghost use Prim.Native.Nat.{_+_, _≤_, _<_, max};
+ghost use lib.ListN.{length, getD, take, drop};
+ghost use Rattle.lists.specs.Lists.{same};
+ghost use Rattle.rules.specs.Nodes.{store, nodePlace, oldestFree, evictNode, added, makeRoom, ensured, marked, raised, isPending, unmarked, isWorn};
+ghost use Rattle.rules.specs.Memory.{storeIn, withStore};
+ghost use Rattle.nodes.specs.Nodes.{Fit, did, tried, saw, looked, put, placed};
+
+// What a look saw: the node's revision and its pending writes; or that it is missing and there is no room for it.
+pub enum Sight {
+    Seen { revision: u32, pending: u32 },
+    Stuck,
+}
+
+// Where a node stands that was to be made present.
+enum Spot {
+    At(usize),
+    Nowhere,
+}
+
+// Whether the label's five numbers stand at `at`.
+fn has_label(nodes: &[u32], at: usize, label: &[u32]) -> bool
+    requires { ⌜ (at + 5 ≤ length (now nodes)) × (length (now label) ≡ 5) ⌝ }
+    ensures { λ r. ⌜ r ≡ same (take 5 (drop at (now (nodes .entry)))) (now (label .entry)) ⌝ }
+{
+    if nodes[at] != label[0] {
+        return false;
+    }
+    if nodes[at + 1] != label[1] {
+        return false;
+    }
+    if nodes[at + 2] != label[2] {
+        return false;
+    }
+    if nodes[at + 3] != label[3] {
+        return false;
+    }
+    if nodes[at + 4] != label[4] {
+        return false;
+    }
+    true
+}
+
+// The place of the label's node, or the number of nodes where there is none.
+pub fn find(nodes: &[u32], label: &[u32]) -> usize
+    requires { ⌜ Fit (now nodes) × (length (now label) ≡ 5) ⌝ }
+    ensures { λ r. ⌜ r ≡ nodePlace (now (label .entry)) (storeIn (now (nodes .entry)) .nodes) ⌝ }
+{
+    let n = nodes[1] as usize;
+    let mut i = 0;
+    while i < n {
+        if has_label(nodes, 8 + i * 8, label) {
+            return i;
+        }
+        i += 1;
+    }
+    i
+}
+
+// The place of the oldest node with no pending write, or the number of nodes where there is none.
+pub fn find_free(nodes: &[u32]) -> usize
+    requires { ⌜ Fit (now nodes) ⌝ }
+    ensures { λ r. ⌜ r ≡ oldestFree (storeIn (now (nodes .entry)) .nodes) ⌝ }
+{
+    let n = nodes[1] as usize;
+    let mut i = 0;
+    while i < n {
+        if nodes[8 + i * 8 + 5] == 0 {
+            return i;
+        }
+        i += 1;
+    }
+    i
+}
+
+// The larger of a and b.
+fn larger(a: u32, b: u32) -> u32
+    ensures { λ r. ⌜ r ≡ max a b ⌝ }
+{
+    if a < b { b } else { a }
+}
+
+// Takes node i out; the floor becomes its revision if that is larger.
+pub fn evict(nodes: &mut [u32], i: usize)
+    requires { ⌜ Fit (now nodes) × (i < getD (now nodes) 1 0) ⌝ }
+    ensures { λ _. ⌜ now (nodes .exit) ≡ withStore (now (nodes .entry)) (evictNode i (storeIn (now (nodes .entry)))) ⌝ }
+{
+    let n = nodes[1];
+    let at = 8 + i * 8;
+    let floor = nodes[0];
+    let higher = larger(floor, nodes[at + 6]);
+    words::remove(nodes, at, 8, 8 + n as usize * 8);
+    nodes[1] = n - 1;
+    nodes[0] = higher;
+}
+
+// Adds the label's node last, with the floor as revision and no pending write.
+pub fn add(nodes: &mut [u32], label: &[u32])
+    requires { ⌜ Fit (now nodes) × ((getD (now nodes) 1 0 < 1024) × (length (now label) ≡ 5)) ⌝ }
+    ensures { λ _. ⌜ now (nodes .exit) ≡ withStore (now (nodes .entry)) (added (now (label .entry)) (storeIn (now (nodes .entry)))) ⌝ }
+{
+    let n = nodes[1];
+    let floor = nodes[0];
+    let node = [
+        label[0],
+        label[1],
+        label[2],
+        label[3],
+        label[4],
+        0,
+        floor,
+        0,
+    ];
+    words::write(nodes, 8 + n as usize * 8, &node);
+    nodes[1] = n + 1;
+}
+
+// Makes room for one node more: where 1,024 are there, the oldest with no pending write leaves. False: there is none.
+fn make_room(nodes: &mut [u32]) -> bool
+    requires { ⌜ Fit (now nodes) ⌝ }
+    ensures { λ r. ⌜ did r (now (nodes .exit)) ≡ tried (now (nodes .entry)) (makeRoom (storeIn (now (nodes .entry)))) ⌝ }
+{
+    let n = nodes[1] as usize;
+    if n < 1024 {
+        return true;
+    }
+    let i = find_free(nodes);
+    if n <= i {
+        return false;
+    }
+    evict(nodes, i);
+    true
+}
+
+// Makes the label's node present.
+fn ensure(nodes: &mut [u32], label: &[u32]) -> Spot
+    requires { ⌜ Fit (now nodes) × (length (now label) ≡ 5) ⌝ }
+    ensures { λ r. ⌜ put r (now (nodes .exit)) ≡ placed (now (label .entry)) (now (nodes .entry)) (ensured (now (label .entry)) (storeIn (now (nodes .entry)))) ⌝ }
+{
+    let i = find(nodes, label);
+    if i < nodes[1] as usize {
+        return Spot::At(i);
+    }
+    if !make_room(nodes) {
+        return Spot::Nowhere;
+    }
+    let n = nodes[1] as usize;
+    add(nodes, label);
+    Spot::At(n)
+}
+
+// Looks at the label's node, which is added where it is missing.
+pub fn look(nodes: &mut [u32], label: &[u32]) -> Sight
+    requires { ⌜ Fit (now nodes) × (length (now label) ≡ 5) ⌝ }
+    ensures { λ r. ⌜ saw r (now (nodes .exit)) ≡ looked (now (label .entry)) (now (nodes .entry)) (ensured (now (label .entry)) (storeIn (now (nodes .entry)))) ⌝ }
+{
+    let spot = ensure(nodes, label);
+    let Spot::At(i) = spot else {
+        return Sight::Stuck;
+    };
+    let at = 8 + i * 8;
+    let pending = nodes[at + 5];
+    let revision = nodes[at + 6];
+    Sight::Seen {
+        revision: revision,
+        pending: pending,
+    }
+}
+
+// One pending write more at the label's node, which is added where it is missing. False: no room, or 12 pending already.
+pub fn mark(nodes: &mut [u32], label: &[u32]) -> bool
+    requires { ⌜ Fit (now nodes) × (length (now label) ≡ 5) ⌝ }
+    ensures { λ r. ⌜ did r (now (nodes .exit)) ≡ tried (now (nodes .entry)) (marked (now (label .entry)) (storeIn (now (nodes .entry)))) ⌝ }
+{
+    let spot = ensure(nodes, label);
+    let Spot::At(i) = spot else {
+        return false;
+    };
+    let at = 8 + i * 8 + 5;
+    let pending = nodes[at];
+    if 12 <= pending {
+        return false;
+    }
+    let more = pending + 1;
+    nodes[at] = more;
+    true
+}
+
+// Whether the label's node is there and has a pending write.
+pub fn is_pending(nodes: &[u32], label: &[u32]) -> bool
+    requires { ⌜ Fit (now nodes) × (length (now label) ≡ 5) ⌝ }
+    ensures { λ r. ⌜ r ≡ isPending (now (label .entry)) (storeIn (now (nodes .entry))) ⌝ }
+{
+    let i = find(nodes, label);
+    if nodes[1] as usize <= i {
+        return false;
+    }
+    0 < nodes[8 + i * 8 + 5]
+}
+
+// One pending write fewer at the label's node.
+pub fn unmark(nodes: &mut [u32], label: &[u32])
+    requires { ⌜ Fit (now nodes) × ((length (now label) ≡ 5) × (isPending (now label) (storeIn (now nodes)) ≡ true)) ⌝ }
+    ensures { λ _. ⌜ now (nodes .exit) ≡ withStore (now (nodes .entry)) (unmarked (now (label .entry)) (storeIn (now (nodes .entry)))) ⌝ }
+{
+    let i = find(nodes, label);
+    let at = 8 + i * 8 + 5;
+    let pending = nodes[at];
+    let fewer = pending - 1;
+    nodes[at] = fewer;
+}
+
+// The label's node: revision up by one, pending writes down by one. False: it is missing, has none pending, or its revision is the largest.
+pub fn raise(nodes: &mut [u32], label: &[u32]) -> bool
+    requires { ⌜ Fit (now nodes) × (length (now label) ≡ 5) ⌝ }
+    ensures { λ r. ⌜ did r (now (nodes .exit)) ≡ tried (now (nodes .entry)) (raised (now (label .entry)) (storeIn (now (nodes .entry)))) ⌝ }
+{
+    let i = find(nodes, label);
+    if nodes[1] as usize <= i {
+        return false;
+    }
+    let at = 8 + i * 8;
+    let pending = nodes[at + 5];
+    if pending == 0 {
+        return false;
+    }
+    let revision = nodes[at + 6];
+    if 4294967295 <= revision {
+        return false;
+    }
+    let next = revision + 1;
+    let fewer = pending - 1;
+    nodes[at + 6] = next;
+    nodes[at + 5] = fewer;
+    true
+}
+
+// Whether the floor or a revision is too high for another write.
+pub fn is_worn(nodes: &[u32]) -> bool
+    requires { ⌜ Fit (now nodes) ⌝ }
+    ensures { λ r. ⌜ r ≡ isWorn (storeIn (now (nodes .entry))) ⌝ }
+{
+    if 4294967103 < nodes[0] {
+        return true;
+    }
+    let n = nodes[1] as usize;
+    let mut i = 0;
+    while i < n {
+        if 4294967103 < nodes[8 + i * 8 + 6] {
+            return true;
+        }
+        i += 1;
+    }
+    false
+}
+
+// Takes every node out; the floor is 1.
+pub fn empty(nodes: &mut [u32])
+    requires { ⌜ Fit (now nodes) ⌝ }
+    ensures { λ _. ⌜ now (nodes .exit) ≡ withStore (now (nodes .entry)) (store 1 []) ⌝ }
+{
+    let n = nodes[1] as usize * 8;
+    let e = 8 + n;
+    words::clear(&mut nodes[8..e], n);
+    nodes[1] = 0;
+    nodes[0] = 1;
+}
