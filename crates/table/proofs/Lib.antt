@@ -1,0 +1,6 @@
+pub mod Tables
+pub mod Memory
+pub mod Gathering
+pub mod Seeking
+pub mod Deleting
+pub mod Sets

@@ -1,0 +1,149 @@
+// The code over the table memory: its count at place 0, its records one after another from place 8 on (docs/LAYOUT.md).
+// What is listed, added and removed are the rules' definitions; specs/Table.antt names what they leave open.
+ghost use mathlib.Core.Path.{_≡_};
+ghost use Prim.Native.Nat.{_+_, _≤_};
+ghost use lib.ListN.{length, take, drop};
+ghost use Rattle.lists.specs.Lists.{written, flat};
+ghost use Rattle.rules.specs.Table.{insert, delete, effect, listOf};
+ghost use Rattle.rules.specs.Memory.{recordsIn, withRecords};
+ghost use Rattle.table.specs.Table.{Fit, gathered, spotOf, insertedAs, gone};
+use query::Column;
+use words::Order;
+
+// The most records that a table holds, and that a read lists.
+const RECORDS: usize = 2048;
+
+const LIST: usize = 32;
+
+// What an insert did.
+pub enum Inserted {
+    Added,
+    // The record was there already.
+    Present,
+    // There was no room for it.
+    Full,
+}
+
+// Where a record belongs.
+enum Spot {
+    // It is in the table.
+    There,
+    // Before the record at this place, or behind the last.
+    At(usize),
+}
+
+// Writes the records in the query's subspace, at most 32, to `out`, and says how many there are, or 33 of more than 32.
+pub fn gather(table: &[u32], k: usize, cols: [Column; 4], out: &mut [u32]) -> usize
+    requires { ⌜ Fit k (now table) ⌝ }
+    requires { ⌜ length (now out) ≡ 128 ⌝ }
+    ensures { λ r. ⌜ r ≡ gathered (listOf (take k cols) (recordsIn k (now (table .entry)))) ⌝ }
+    ensures { λ _. ⌜ now (out .exit) ≡ written (now (out .entry)) 0 (flat (take 32 (listOf (take k cols) (recordsIn k (now (table .entry)))))) ⌝ }
+{
+    let n = table[0] as usize;
+    let mut i = 0;
+    let mut at = 8;
+    let mut j = 0;
+    let mut to = 0;
+    while i < n {
+        let e = at + k;
+        let rec = &table[at..e];
+        if columns::lies(cols, rec) {
+            if j == LIST {
+                return LIST + 1;
+            }
+            words::write(out, to, rec);
+            to += k;
+            j += 1;
+        }
+        at = e;
+        i += 1;
+    }
+    j
+}
+
+// One scan: whether the record is there, anywhere, and if not the place of the first greater one.
+fn seek(table: &[u32], rec: &[u32]) -> Spot
+    requires { ⌜ Fit (length (now rec)) (now table) ⌝ }
+    ensures { λ r. ⌜ r ≡ spotOf (now (rec .entry)) (recordsIn (length (now (rec .entry))) (now (table .entry))) ⌝ }
+{
+    let k = rec.len();
+    let n = table[0] as usize;
+    let mut i = 0;
+    let mut at = 8;
+    let mut spot = 0;
+    while i < n {
+        let e = at + k;
+        match words::compare(&table[at..e], rec) {
+            Order::Same => return Spot::There,
+            Order::Before => {
+                // While no greater one was met, the spot is behind all that were.
+                if spot == i {
+                    spot += 1;
+                }
+            }
+            Order::After => {}
+        }
+        at = e;
+        i += 1;
+    }
+    Spot::At(spot)
+}
+
+// Puts the record in before the first greater one, unless it is there already or 2,048 records are.
+pub fn insert(table: &mut [u32], rec: &[u32]) -> Inserted
+    requires { ⌜ Fit (length (now rec)) (now table) ⌝ }
+    ensures { λ r. ⌜ r ≡ insertedAs (now (rec .entry)) (recordsIn (length (now (rec .entry))) (now (table .entry))) ⌝ }
+    ensures { λ _. ⌜ now (table .exit) ≡ withRecords (length (now (rec .entry))) (now (table .entry)) (effect (insert (now (rec .entry))) (recordsIn (length (now (rec .entry))) (now (table .entry)))) ⌝ }
+{
+    let spot = seek(table, rec);
+    let Spot::At(i) = spot else {
+        return Inserted::Present;
+    };
+    let n = table[0] as usize;
+    if RECORDS <= n {
+        return Inserted::Full;
+    }
+    let k = rec.len();
+    let at = 8 + i * k;
+    let e = 8 + n * k;
+    words::insert(table, at, e, rec);
+    table[0] = (n + 1) as u32;
+    Inserted::Added
+}
+
+// Copies a record to where it is to stand; while nothing has gone it stands there.
+fn settle(table: &mut [u32], from: usize, to: usize, k: usize)
+    requires { ⌜ (to ≤ from) × (from + k ≤ length (now table)) ⌝ }
+    ensures { λ _. ⌜ now (table .exit) ≡ written (now (table .entry)) to (take k (drop from (now (table .entry)))) ⌝ }
+{
+    if to != from {
+        words::slide(table, from, to, k);
+    }
+}
+
+// Takes out every record in the query's subspace, and says how many went. The others close up, and what they free is 0.
+pub fn delete(table: &mut [u32], k: usize, cols: [Column; 4]) -> usize
+    requires { ⌜ Fit k (now table) ⌝ }
+    ensures { λ r. ⌜ r ≡ gone (take k cols) (recordsIn k (now (table .entry))) ⌝ }
+    ensures { λ _. ⌜ now (table .exit) ≡ withRecords k (now (table .entry)) (effect (delete (take k cols)) (recordsIn k (now (table .entry)))) ⌝ }
+{
+    let n = table[0] as usize;
+    let mut i = 0;
+    let mut from = 8;
+    let mut j = 0;
+    let mut to = 8;
+    while i < n {
+        let e = from + k;
+        if !columns::lies(cols, &table[from..e]) {
+            settle(table, from, to, k);
+            to += k;
+            j += 1;
+        }
+        from = e;
+        i += 1;
+    }
+    let freed = from - to;
+    words::clear(&mut table[to..from], freed);
+    table[0] = j as u32;
+    n - j
+}
