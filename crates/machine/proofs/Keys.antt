@@ -4,20 +4,24 @@ use mathlib.Core.Path.{_≡_, refl, ap, ap₂, _∙_}
 use mathlib.Core.Logic.{_⊎_, inl, inr}
 use mathlib.Core.Bool.{Bool, true, false, _&&_, false≢true}
 use mathlib.Core.List.{List, [], _∷_, map}
-use Prim.Native.Nat.{ℕ, zero, suc, _*_, _^_, _≤_, _<_}
+use Prim.Native.Nat.{ℕ, suc, _≤_, _<_}
 use native.Mathlib.Omega.{arith}
 use lib.Dec.{eqb, leb}
 use borrow.Author.Tests.{eqb-true, eq-eqb}
 use lib.ListN.{length}
-use Rattle.lists.specs.Lists.{listed, flat}
+use Rattle.lists.specs.Lists.{flat}
 use Rattle.query.specs.declared.Column.{Column}
 use Rattle.query.specs.declared.Column.the-variants.{Is, Wildcard}
-use Rattle.query.specs.Query.{Query, Record, Meet, readNode, writeNode, named, readCount, writeCount, readNodes, writeNodes}
+use Rattle.query.specs.Query.{Query, Record, Meet, readNode, writeNode, readCount, writeCount, readNodes, writeNodes}
 use Rattle.query.specs.Words.{labelWords}
 use Rattle.rules.specs.Sizes.{maxList}
 use Rattle.rules.specs.Table.{Table, Write, target, listOf, effect}
 use Rattle.machine.proofs.Base.{Code, byTest, clash, and-true-l, and-true-r, In}
-use Rattle.machine.proofs.Sharing.{fits, fits-meet, meet-fits, fit-codes, codes-fit, effect-list}
+use Rattle.query.specs.Graph.{meets}
+use Rattle.query.proofs.Base.{length-listed}
+use Rattle.query.proofs.Nodes.{read-count-most, write-count-most, write-count-least}
+use Rattle.query.proofs.Meet.{meets-is}
+use Rattle.machine.proofs.Sharing.{meet-codes, codes-meet, effect-list}
 
 -- ---- The interface
 -- what a read asks: the key of its answer
@@ -66,7 +70,7 @@ sameKey k m = sameQuery (k .asked) (m .asked)
 
 -- a write that counts against a kept answer
 unfoldable pub touches : Key → Write → Bool
-touches k w = fits (k .asked) (target w)
+touches k w = meets (k .asked) (target w)
 
 unfoldable pub no-key : Key
 no-key = record { asked = [] }
@@ -120,11 +124,6 @@ length-map : {A B : Type 0} (f : A → B) (l : List A) → length (map f l) ≡ 
 length-map f [] = refl
 length-map f (x ∷ l) = ap suc (length-map f l)
 
-length-listed : {A : Type 0} (f : ℕ → A) (i n : ℕ) → length (listed f i n) ≡ n
-unfolding listed
-length-listed f i zero = refl
-length-listed f i (suc n) = ap suc (length-listed f (suc i) n)
-
 pub length-nodesOf : (k : Key) → length (nodesOf k) ≡ readCount (k .asked)
 unfolding nodesOf readNodes
 length-nodesOf k = length-map labelWords (readNodes (k .asked)) ∙ length-listed (readNode (k .asked)) 0 (readCount (k .asked))
@@ -133,35 +132,16 @@ pub length-marksOf : (w : Write) → length (marksOf w) ≡ writeCount (target w
 unfolding marksOf writeNodes
 length-marksOf w = length-map labelWords (writeNodes (target w)) ∙ length-listed (writeNode (target w)) 0 (writeCount (target w))
 
-power-few : (k : ℕ) → k ≤ 4 → 2 ^ k ≤ 16
-power-few zero l = omega arith
-power-few (suc zero) l = omega arith
-power-few (suc (suc zero)) l = omega arith
-power-few (suc (suc (suc zero))) l = omega arith
-power-few (suc (suc (suc (suc zero)))) l = omega arith
-power-few (suc (suc (suc (suc (suc k))))) l = absurd (omega arith)
-
-power-some : (k : ℕ) → 0 < 2 ^ k
-power-some zero = omega arith
-power-some (suc k) = let a = power-some k in let e : 2 ^ suc k ≡ 2 * 2 ^ k = omega arith in omega arith
-
-named-most : (q : Query) → named q ≤ length q
-unfolding named
-named-most [] = omega arith
-named-most (Is v ∷ q) = let a = named-most q in omega arith
-named-most (Wildcard ∷ q) = let a = named-most q in omega arith
-
 pub read-few : (q : Key) (k : ℕ) → width q ≡ k → k ≤ 4 → length (nodesOf q) ≤ 16
-unfolding width readCount
-read-few q k e l = rw (length-nodesOf q) (power-few (named (q .asked)) (let a = named-most (q .asked) in omega arith))
+unfolding width
+read-few q k e l = rw (length-nodesOf q) (read-count-most (q .asked) (omega arith))
 
 pub write-few : (w : Write) (k : ℕ) → widthOf w ≡ k → k ≤ 4 → length (marksOf w) ≤ 16
-unfolding widthOf writeCount
-write-few w k e l = rw (length-marksOf w) (power-few (length (target w)) (omega arith))
+unfolding widthOf
+write-few w k e l = rw (length-marksOf w) (write-count-most (target w) (omega arith))
 
 pub marks-some : (w : Write) → 0 < length (marksOf w)
-unfolding writeCount
-marks-some w = rw (length-marksOf w) (power-some (length (target w)))
+marks-some w = rw (length-marksOf w) (write-count-least (target w))
 
 -- ---- Reads and writes
 value-eq : (a b : List Record) → a ≡ b → _≡_ {A = Val} (record { count = length a; numbers = flat a }) (record { count = length b; numbers = flat b })
@@ -171,18 +151,18 @@ value-eq a b e = rw e refl
 pub effect-value : (w : Write) (k : Key) (t : Table) → width k ≡ widthOf w → (valueOf k (effect w t) ≡ valueOf k t) ⊎ Shares k w
 unfolding valueOf nodesOf marksOf
 effect-value w k t f = elim (effect-list w (k .asked) t)
-    [ inl e ↦ inl (value-eq (listOf (k .asked) (effect w t)) (listOf (k .asked) t) e) | inr e ↦ inr (fit-codes (k .asked) (target w) e) ]
+    [ inl e ↦ inl (value-eq (listOf (k .asked) (effect w t)) (listOf (k .asked) t) e) | inr e ↦ inr (meet-codes (k .asked) (target w) e) ]
 
 -- and one that shares a node counts
 pub shared-touches : (k : Key) (w : Write) {p : Code} → In p (nodesOf k) → In p (marksOf w) → touches k w ≡ true
 unfolding nodesOf marksOf touches
-shared-touches k w i j = codes-fit (k .asked) (target w) i j
+shared-touches k w i j = codes-meet (k .asked) (target w) i j
 
 -- that is: its query meets the key's
 pub touches-meets : (k : Key) (w : Write) → touches k w ≡ true → Meet (k .asked) (target w)
 unfolding touches
-touches-meets k w e = fits-meet (k .asked) (target w) e
+touches-meets k w e = meets-is (k .asked) (target w) .0 e
 
 pub meets-touches : (k : Key) (w : Write) → Meet (k .asked) (target w) → touches k w ≡ true
 unfolding touches
-meets-touches k w m = meet-fits (k .asked) (target w) m
+meets-touches k w m = meets-is (k .asked) (target w) .1 m
