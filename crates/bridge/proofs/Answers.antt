@@ -10,6 +10,7 @@ use lib.Dec.{ltb, leb}
 use borrow.Author.Tests.{ltb-true, ltb-false}
 use lib.ListN.{length, getD, drop, length-map, length-append}
 use lib.Seq.{getD-take, getD-drop}
+use Rattle.laws.proofs.Tests.{byTest, clash}
 use Rattle.lists.specs.Lists.{same, place, without, allBelow}
 use Rattle.laws.proofs.Lists.{same-eq, same-refl, length-without}
 use Rattle.laws.proofs.Rows.{Wide, wide-without, wide-snoc}
@@ -17,7 +18,7 @@ use Rattle.query.specs.Query.{readCount}
 use Rattle.query.specs.Words.{queryIn, isKey, keyWords}
 use Rattle.rules.specs.Sizes.{maxAnswers}
 use Rattle.rules.specs.Answers.{Entry, keyIn, revisionIn, hasKeyOf, atLeast, serves, keyPlace, filed}
-use Rattle.machine.proofs.Base.{In, here, there, byTest, clash, in-append}
+use Rattle.machine.proofs.Base.{In, here, there, in-append}
 use Rattle.machine.proofs.Keys.{Key, sameKey, sameKey-eq, sameKey-refl, nodesOf, length-nodesOf}
 use Rattle.machine.proofs.Machine.{holds-for, has-key, cut, room, filed-in}
 use Rattle.bridge.proofs.View.{keyOf, valueIn, revisionsIn, looksOf, ansOf}

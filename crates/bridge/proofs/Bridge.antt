@@ -5,6 +5,7 @@ use mathlib.Core.List.{List}
 use Prim.Native.Nat.{ℕ}
 use lib.Dec.{eqb}
 use borrow.Author.Tests.{eqb-true, eqb-false}
+use Rattle.laws.proofs.Tests.{byTest}
 use Rattle.rules.specs.declared.Outcome.{Outcome}
 use Rattle.rules.specs.declared.Outcome.the-variants.{Refused, Accepted, Answered, Long, Ended, Full}
 use Rattle.rules.specs.Client.{kind, reads}
@@ -15,7 +16,6 @@ use Rattle.rules.specs.Steps.{progress}
 use Rattle.rules.specs.Calls.{stepDone}
 use Rattle.rules.specs.History.{Call, beginRead, beginInsert, beginDelete, step, abandon, evictAnswer, evictNode, renew, callDid}
 use Rattle.revisions.proofs.Effect.{NoDup}
-use Rattle.machine.proofs.Base.{byTest}
 use Rattle.machine.proofs.Machine as machine
 use Rattle.machine.proofs.Did.{Did}
 use Rattle.bridge.proofs.View.{stateOf, callOf, resultIn, resultOf, Fits}

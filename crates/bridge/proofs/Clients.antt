@@ -10,6 +10,7 @@ use lib.Dec.{eqb, ltb}
 use lib.ListN.{length, getD, take, drop, set, replicate, length-drop, length-set, List·getD-eq-default}
 use lib.Seq.{take-at, drop-append-le, length-take-le, getD-drop, getD-set-same, getD-set-other, take-set-le, drop-set-lt, drop-set-add, take-suc-set, drop-drop}
 use borrow.Author.Tests.{lt-ltb, le-ltb, eqb-true, eqb-false}
+use Rattle.laws.proofs.Tests.{byTest}
 use Rattle.lists.specs.Lists.{padded, flat, written}
 use Rattle.laws.proofs.Lists.{length-padded, getD-padded}
 use Rattle.laws.proofs.Written.{drop-take, take-written, drop-of-written, getD-before, length-written}
@@ -19,7 +20,6 @@ use Rattle.query.specs.Words.{keyWords}
 use Rattle.query.proofs.Words.{key-words-length}
 use Rattle.rules.specs.Answers.{Entry, keyIn, lengthIn, listIn}
 use Rattle.rules.specs.Client.{Client, kind, steps, sawMark, didChange, foundFull, entryOf, begun, stepped, flag, noted, holding, wrote}
-use Rattle.machine.proofs.Base.{byTest}
 use Rattle.bridge.proofs.View.{valueIn, revisionsIn}
 
 -- ---- Lists

@@ -8,6 +8,7 @@ use native.Mathlib.Omega.{arith}
 use lib.Dec.{eqb, ltb, leb}
 use borrow.Author.Tests.{ltb-false, leb-false, eqb-true, eqb-false, le-ltb, le-leb, lt-leb, eq-eqb, ne-eqb, not-false}
 use lib.ListN.{length, getD, length-replicate}
+use Rattle.laws.proofs.Tests.{or-false-l, or-false-r, byTest, clash}
 use Rattle.query.specs.declared.Column.the-variants.{Is, Wildcard}
 use Rattle.query.specs.Query.{Query, naming, named, readCount, writeCount}
 use Rattle.query.specs.Words.{recordOf, namesAll, queryIn, isKey}
@@ -19,8 +20,6 @@ use Rattle.rules.specs.Answers.{Entry, keyIn, lengthIn}
 use Rattle.rules.specs.Client.{Client, kind, steps, sawMark, didChange, foundFull, entryOf, isIdle, queryAt, writeAt, lastStep, isBad, begun, reads, inserts, deletes}
 use Rattle.rules.specs.Client as rules
 use Rattle.laws.proofs.Lists.{same-refl, same-eq}
-use Rattle.revisions.proofs.Base.{or-false-l, or-false-r}
-use Rattle.machine.proofs.Base.{byTest, clash}
 use Rattle.machine.proofs.Keys.{Key}
 use Rattle.machine.proofs.Machine.{Desk, idle, looking, tabling, filing, marking, raising}
 use Rattle.bridge.proofs.View.{keyOf, valueIn, revisionsIn, looksOf, readerOf, writerOf, busyDesk, deskOf}

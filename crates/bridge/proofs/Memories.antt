@@ -9,6 +9,7 @@ use lib.Dec.{ltb}
 use borrow.Author.Tests.{ltb-true, ltb-false}
 use lib.ListN.{length, getD, take, drop, length-set, length-drop}
 use lib.Seq.{take-at, length-take-le, getD-set-same, getD-set-other}
+use Rattle.laws.proofs.Tests.{byTest}
 use Rattle.lists.specs.Lists.{written, entriesIn, withEntries}
 use Rattle.laws.proofs.Written.{drop-take, take-written, drop-written, drop-of-written, getD-before, length-written}
 use Rattle.laws.proofs.Rows.{Wide}
@@ -19,7 +20,7 @@ use Rattle.rules.specs.Answers.{Entry}
 use Rattle.rules.specs.Client.{Client}
 use Rattle.rules.specs.Memory.{recordsIn, withRecords, storeIn, withStore, answersIn, withAnswers, columnsAt, clientIn, withClient}
 use Rattle.revisions.proofs.Nodes.{Each, AllRows}
-use Rattle.machine.proofs.Base.{byTest, In, here, there}
+use Rattle.machine.proofs.Base.{In, here, there}
 
 -- ---- Clients
 module _ (s : List ℕ) (d : ℕ) (c : Client) (w : length c ≡ 157) (room : 8 + d * 157 + 157 ≤ length s) where

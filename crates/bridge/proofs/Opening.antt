@@ -8,14 +8,14 @@ use lib.Dec.{eqb, ltb}
 use borrow.Author.Tests.{ltb-true, ltb-false, eqb-false}
 use lib.ListN.{length, getD, take, drop, replicate, length-append, length-drop, length-set, length-replicate, getD-replicate, List·getD-append, replicate-append-replicate}
 use lib.Seq.{take-at, drop-at, getD-set-same, getD-set-other, drop-set-lt}
+use Rattle.laws.proofs.Tests.{or-false-l, or-false-r, byTest}
 use Rattle.lists.specs.Lists.{rows, entriesIn}
 use Rattle.rules.specs.Sizes.{maxClients, tableLeast, nodesLeast, answersLeast, desksLeast}
 use Rattle.rules.specs.Nodes.{store}
 use Rattle.rules.specs.Client as rules
 use Rattle.rules.specs.Memory.{Mem, recordsIn, storeIn, answersIn, columnsAt, clientIn, cleared, opened}
 use Rattle.rules.specs.Refusals.{columns, client, isShort, badColumns, openCode}
-use Rattle.revisions.proofs.Base.{or-false-l, or-false-r}
-use Rattle.machine.proofs.Base.{byTest, in-none}
+use Rattle.machine.proofs.Base.{in-none}
 use Rattle.machine.proofs.Machine.{idle}
 use Rattle.machine.proofs.Machine as machine
 use Rattle.bridge.proofs.View.{ansOf, desksOf, filedOf, stateOf, Fits}

@@ -8,6 +8,7 @@ use native.Mathlib.Omega.{arith}
 use lib.Dec.{eqb, ltb, leb}
 use borrow.Author.Tests.{eqb-true, eqb-false, ltb-true, eq-eqb}
 use lib.ListN.{length, getD, take, length-map}
+use Rattle.laws.proofs.Tests.{byTest}
 use Rattle.lists.specs.Lists.{listed, without}
 use Rattle.laws.proofs.Lists.{length-without}
 use Rattle.laws.proofs.Rows.{wide-without, wide-nil}
@@ -30,7 +31,7 @@ use Rattle.rules.specs.History.{untrayed}
 use Rattle.revisions.proofs.Effect.{NoDup}
 use Rattle.revisions.proofs.Nodes.{Each}
 use Rattle.revisions.proofs.Operations.{evict-ok, UnmarkedAllOk, unmarkedAll-ok}
-use Rattle.machine.proofs.Base.{byTest, in-none}
+use Rattle.machine.proofs.Base.{in-none}
 use Rattle.machine.proofs.Keys.{marksOf, width, widthOf}
 use Rattle.machine.proofs.Machine.{Desk, idle, State, begin-read, begin-write, abandon, out-answer, out-node, renew, with-store, with-filed, cut}
 use Rattle.machine.proofs.Did as steps-of

@@ -10,6 +10,7 @@ use lib.Dec.{eqb, ltb, leb}
 use borrow.Author.Tests.{ltb-true, ltb-false, eqb-true, eqb-false, le-leb, lt-leb}
 use lib.ListN.{length, getD, drop, length-drop}
 use lib.Seq.{length-take-le}
+use Rattle.laws.proofs.Tests.{byTest}
 use Rattle.lists.specs.Lists.{flat}
 use Rattle.laws.proofs.Rows.{Wide, wide-keep, length-flat}
 use Rattle.laws.proofs.Search.{place-at, place-before}
@@ -30,7 +31,7 @@ use Rattle.rules.specs.Outcome.{stepDid}
 use Rattle.rules.specs.Steps.{nowAt, answered, lookDid, fetchDid, tableDid, fileDid, readDid}
 use Rattle.revisions.proofs.Effect.{has, eff, mrk}
 use Rattle.revisions.proofs.Operations.{EnsuredOk, ensured-ok, node-eff, node-mrk}
-use Rattle.machine.proofs.Base.{In, byTest, in-at, in-place}
+use Rattle.machine.proofs.Base.{In, in-at, in-place}
 use Rattle.machine.proofs.Keys.{Key, valueOf, short, nodesOf}
 use Rattle.machine.proofs.Machine.{idle, looking, tabling, filing, Ans, step, node, at-desk, with-filed, holds-for, filed-in}
 use Rattle.machine.proofs.Machine as machine

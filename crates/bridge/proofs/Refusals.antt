@@ -8,6 +8,7 @@ use native.Mathlib.Omega.{arith}
 use lib.Dec.{eqb, ltb, leb}
 use borrow.Author.Tests.{ltb-false, leb-false, eqb-true, eqb-false, eq-eqb, ne-eqb, not-false}
 use lib.ListN.{length, getD}
+use Rattle.laws.proofs.Tests.{or-false-l, or-false-r, byTest}
 use Rattle.laws.proofs.Lists.{below-at}
 use Rattle.query.specs.Query.{writeCount}
 use Rattle.query.specs.Words.{queryOf, isQuery, namesAll}
@@ -20,8 +21,6 @@ use Rattle.rules.specs.Outcome.{Did, did, stepDid}
 use Rattle.rules.specs.Refusals.{columns, client, isShort, badQuery, isUnsound, noDesk, isCommitted, allIdle, atDesk, beginCode, stepCode, abandonCode, evictAnswerCode, evictNodeCode, renewCode}
 use Rattle.rules.specs.Calls.{unless}
 use Rattle.rules.specs.History.{isAccepted, untrayed}
-use Rattle.revisions.proofs.Base.{or-false-l, or-false-r}
-use Rattle.machine.proofs.Base.{byTest}
 use Rattle.machine.proofs.Machine.{Call}
 use Rattle.machine.proofs.Did.{nothing}
 use Rattle.bridge.proofs.View.{resultIn, Fits}

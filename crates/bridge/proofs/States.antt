@@ -8,6 +8,7 @@ use native.Mathlib.Omega.{arith}
 use lib.Dec.{eqb}
 use borrow.Author.Tests.{eqb-true, eqb-false, lt-ltb}
 use lib.ListN.{length}
+use Rattle.laws.proofs.Tests.{byTest}
 use Rattle.laws.proofs.Rows.{Wide}
 use Rattle.rules.specs.Sizes.{maxRecords, maxNodes, maxAnswers, maxClients}
 use Rattle.rules.specs.declared.Outcome.{Outcome}
@@ -20,7 +21,7 @@ use Rattle.rules.specs.Outcome.{Stepped, stepDid}
 use Rattle.rules.specs.Refusals.{columns, client}
 use Rattle.rules.specs.Steps.{nowAt, restored}
 use Rattle.revisions.proofs.Nodes.{AllRows}
-use Rattle.machine.proofs.Base.{In, byTest, upd, upd-same, upd-other}
+use Rattle.machine.proofs.Base.{In, upd, upd-same, upd-other}
 use Rattle.machine.proofs.Machine.{Desk, State, Call, at-desk, with-store, with-filed, with-tab}
 use Rattle.machine.proofs.Did.{Did}
 use Rattle.bridge.proofs.View.{ansOf, desksOf, filedOf, stateOf, resultIn, resultOf, Kept, Fits}

@@ -8,6 +8,7 @@ use native.Mathlib.Omega.{arith}
 use lib.Dec.{eqb, ltb, leb}
 use borrow.Author.Tests.{ltb-true, ltb-false, leb-false, eqb-true, eqb-false}
 use lib.ListN.{length, getD, length-map}
+use Rattle.laws.proofs.Tests.{or-false-r, byTest}
 use Rattle.lists.specs.Lists.{before}
 use Rattle.laws.proofs.Lists.{keep-le}
 use Rattle.laws.proofs.Rows.{Wide, wide-keep}
@@ -27,9 +28,7 @@ use Rattle.rules.specs.Client as rules
 use Rattle.rules.specs.Memory.{Mem, recordsIn, storeIn}
 use Rattle.rules.specs.Refusals.{columns, client}
 use Rattle.rules.specs.Steps.{restored, markDid, writeTableDid, endOf, raiseDid, writeDid}
-use Rattle.revisions.proofs.Base.{or-false-r}
 use Rattle.revisions.proofs.Operations.{MarkedOk, marked-ok, RaisedTo, RaisedOk, raised-ok}
-use Rattle.machine.proofs.Base.{byTest}
 use Rattle.machine.proofs.Keys.{marksOf, length-marksOf}
 use Rattle.machine.proofs.Machine.{idle, step, write-end, at-desk, with-store}
 use Rattle.machine.proofs.Did as did

@@ -9,11 +9,12 @@ use native.Mathlib.Omega.{arith}
 use lib.Dec.{eqb, ltb, leb}
 use borrow.Author.Tests.{eqb-true, eqb-false, eq-eqb, ltb-true, ltb-false, lt-ltb, leb-false}
 use lib.ListN.{length}
+use Rattle.laws.proofs.Lists.{and-left, and-right, same-eq}
+use Rattle.laws.proofs.Tests.{byTest, clash}
 use Rattle.lists.specs.Lists.{before, same, keep}
 use Rattle.query.specs.Query.{Query, Record, lies, naming}
 use Rattle.rules.specs.Sizes.{maxRecords}
 use Rattle.rules.specs.Table.{Table, Write, insert, delete, target, listOf, has, putIn, outside, effect}
-use Rattle.machine.proofs.Base.{byTest, clash, and-true-l, and-true-r, same-eq}
 use Rattle.machine.proofs.Keys.{widthOf}
 use Rattle.machine.proofs.Machine.{State, marking, Call, Result, at-desk, with-store, with-filed, with-tab, opened}
 use Rattle.machine.proofs.Did
@@ -65,7 +66,7 @@ before-cases : (x y : ℕ) (r s : Record) → before (x ∷ r) (y ∷ s) ≡ tru
 unfolding before
 before-cases x y r s e = elim (or-cases (ltb x y) (eqb x y && before r s) e) [
   | inl i ↦ inl (ltb-true x y i)
-  | inr i ↦ inr (eqb-true x y (and-true-l (eqb x y) _ i), and-true-r (eqb x y) _ i)
+  | inr i ↦ inr (eqb-true x y (and-left (eqb x y) _ i), and-right (eqb x y) _ i)
 ]
 
 before-trans : (r s u : Record) → before r s ≡ true → before s u ≡ true → before r u ≡ true

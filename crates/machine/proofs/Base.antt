@@ -1,63 +1,23 @@
--- Small facts: tests, equal lists of numbers, sums over the desks, functions changed at one number, membership in lists.
--- Leans on lists. Assumes nothing.
-use mathlib.Core.Path.{_≡_, refl, sym, ap₂, _∙_}
+-- Small facts: sums over the desks, functions changed at one number, membership in lists. Leans on lists and laws. Assumes nothing.
+use mathlib.Core.Path.{_≡_, refl, sym}
 use mathlib.Core.Logic.{_⊎_, inl, inr}
-use mathlib.Core.Bool.{Bool, true, false, _&&_, true≢false, false≢true, cond}
+use mathlib.Core.Bool.{Bool, true, cond}
 use mathlib.Core.List.{List, [], _∷_, _++_}
 use Prim.Native.Nat.{ℕ, zero, suc, _+_, _≤_, _<_}
 use native.Mathlib.Omega.{arith}
 use lib.Dec.{eqb}
 use borrow.Author.Tests.{eqb-true, eqb-false, eq-eqb}
 use lib.ListN.{length, getD, take, drop}
-use Rattle.lists.specs.Lists.{same, allBelow}
+use Rattle.laws.proofs.Lists.{below-at}
+use Rattle.laws.proofs.Tests.{byTest}
+use Rattle.lists.specs.Lists.{allBelow}
 
 -- a label as a node keeps it: five numbers
 abbrev pub Code : Type 0
 Code = List ℕ
 
--- ---- Tests
-pub and-true-l : (a b : Bool) → (a && b) ≡ true → a ≡ true
-and-true-l true b e = refl
-and-true-l false b e = e
-
-pub and-true-r : (a b : Bool) → (a && b) ≡ true → b ≡ true
-and-true-r true b e = e
-and-true-r false b e = absurd (false≢true e)
-
-pub clash : {A : Type 0} {b : Bool} → b ≡ true → b ≡ false → A
-clash e f = absurd (true≢false (sym e ∙ f))
-
--- a test's two outcomes, each with its equation
-pub byTest {ℓ} : {A : Type ℓ} (b : Bool) → (b ≡ true → A) → (b ≡ false → A) → A
-byTest true f g = f refl
-byTest false f g = g refl
-
 pub allBelow-at : (n : ℕ) (f : ℕ → Bool) → allBelow n f ≡ true → (j : ℕ) → j < n → f j ≡ true
-unfolding allBelow
-allBelow-at zero f e j h = absurd (omega arith)
-allBelow-at (suc n) f e j h =
-    byTest (eqb j n)
-    (λ q. rw (eqb-true j n q) (and-true-l (f n) _ e))
-    (λ q. let ne : j ≡ n → ⊥ = eqb-false j n q in
-    allBelow-at n f (and-true-r (f n) _ e) j (omega arith))
-
-pub all-below : (n : ℕ) (f : ℕ → Bool) → ((j : ℕ) → j < n → f j ≡ true) → allBelow n f ≡ true
-unfolding allBelow
-all-below zero f e = refl
-all-below (suc n) f e = rw (e n (omega arith)) (all-below n f (λ j l. e j (omega arith)))
-
--- ---- Lists of numbers that are the same
-pub same-eq : (a b : List ℕ) → same a b ≡ true → a ≡ b
-unfolding same
-same-eq [] [] e = refl
-same-eq [] (y ∷ b) e = absurd (false≢true e)
-same-eq (x ∷ a) [] e = absurd (false≢true e)
-same-eq (x ∷ a) (y ∷ b) e = ap₂ _∷_ (eqb-true x y (and-true-l (eqb x y) _ e)) (same-eq a b (and-true-r (eqb x y) _ e))
-
-pub same-refl : (a : List ℕ) → same a a ≡ true
-unfolding same
-same-refl [] = refl
-same-refl (x ∷ a) = rw (eq-eqb x x refl) (same-refl a)
+allBelow-at n f e j l = below-at n f j e l
 
 -- ---- Sums over the numbers below n
 unfoldable pub sumBelow : ℕ → (ℕ → ℕ) → ℕ

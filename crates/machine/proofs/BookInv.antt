@@ -10,8 +10,9 @@ use native.Mathlib.Omega.{arith}
 use lib.Dec.{eqb}
 use borrow.Author.Tests.{eqb-true, eqb-false}
 use lib.ListN.{length}
+use Rattle.laws.proofs.Tests.{byTest}
 use Rattle.rules.specs.Table.{Table, Write}
-use Rattle.machine.proofs.Base.{byTest, upd-same, upd-other, In, in-none}
+use Rattle.machine.proofs.Base.{upd-same, upd-other, In, in-none}
 use Rattle.machine.proofs.Keys.{Key, Val, valueOf, short, nodesOf}
 use Rattle.machine.proofs.Machine.{State, Desk, idle, looking, tabling, filing, marking, raising, write-end, opened}
 use Rattle.machine.proofs.Machine.{answered}

@@ -8,8 +8,9 @@ use native.Mathlib.Omega.{arith}
 use lib.Dec.{eqb, ltb}
 use borrow.Author.Tests.{eqb-true, eqb-false}
 use lib.ListN.{length}
+use Rattle.laws.proofs.Tests.{byTest}
 use Rattle.revisions.proofs.Effect.{eff, mrk}
-use Rattle.machine.proofs.Base.{byTest, upd-other, in-none}
+use Rattle.machine.proofs.Base.{upd-other, in-none}
 use Rattle.machine.proofs.Machine.{State, idle, marking, node}
 use Rattle.machine.proofs.Machine.{at-desk, with-store, with-filed, with-tab}
 use Rattle.machine.proofs.Machine.{Call}

@@ -9,10 +9,12 @@ use native.Mathlib.Omega.{arith}
 use lib.Dec.{eqb, ltb}
 use borrow.Author.Tests.{ltb-true, ltb-false, not-true}
 use lib.ListN.{length, getD, take, drop}
+use Rattle.laws.proofs.Lists.{and-left, and-right}
+use Rattle.laws.proofs.Tests.{byTest, clash}
 use Rattle.lists.specs.Lists.{allBelow}
 use Rattle.rules.specs.Table.{Write}
 use Rattle.revisions.proofs.Effect.{eff, mrk, has, tally}
-use Rattle.machine.proofs.Base.{Code, byTest, clash, and-true-l, and-true-r, allBelow-at, sumBelow-none, In, in-take, in-drop, in-at, in-none}
+use Rattle.machine.proofs.Base.{Code, allBelow-at, sumBelow-none, In, in-take, in-drop, in-at, in-none}
 use Rattle.machine.proofs.Keys.{Key, Val, nodesOf, marksOf, touches, no-key, sameKey, shared-touches}
 use Rattle.machine.proofs.Machine.{State, Desk, idle, looking, tabling, filing, marking, raising, Ans, node, opened}
 use Rattle.machine.proofs.Machine.{Call, begin-read, begin-write, step, abandon, out-answer, out-node, renew}
@@ -170,7 +172,7 @@ or-not false b e f = absurd (false≢true f)
 
 pub calm-quiet : (s t : State) (q : Key) → calm s t q ≡ true → quiet t q ≡ true
 unfolding calm
-calm-quiet s t q e = and-true-l (quiet t q) _ e
+calm-quiet s t q e = and-left (quiet t q) _ e
 
 pub still-moves : (s t : State) (q : Key) (ns : List ℕ) (n : ℕ) → Steady s t → quiet s q ≡ true → calm s t q ≡ true
     → n ≤ length (nodesOf q) → Still s q ns n → Still t q ns n
@@ -179,7 +181,7 @@ still-moves s t q ns n d e k l z j b =
     let a = z j b in
     let u : has (t .store .nodes) (node q j) ≡ true =
     or-not (has (s .store .nodes) (node q j)) _
-    (allBelow-at (length (nodesOf q)) (λ j. not (has (s .store .nodes) (node q j)) || has (t .store .nodes) (node q j)) (and-true-r (quiet t q) _ k) j (omega arith)) (a .0) in
+    (allBelow-at (length (nodesOf q)) (λ j. not (has (s .store .nodes) (node q j)) || has (t .store .nodes) (node q j)) (and-right (quiet t q) _ k) j (omega arith)) (a .0) in
     (u, a .1 ∙ sym (d (node q j) (a .0) u (unowed s q e j (omega arith))))
 
 -- a desk that stays as it is
@@ -212,10 +214,10 @@ turn-desk : (s : State) (k : Calm) (c : Call) (a : Result) (t : State) → Tidy 
 unfolding calm-next
 turn-desk s k c a t v u y d (same-desk b q) e =
     let e′ : (k .onDesk d && calm s t (keyAt (s .desks d))) ≡ true = rw b at e in
-    rw q (settled-moves s t (s .desks d) (v .fit d) y (and-true-r (k .onDesk d) _ e′) (u .desk d (and-true-l (k .onDesk d) _ e′)))
+    rw q (settled-moves s t (s .desks d) (v .fit d) y (and-right (k .onDesk d) _ e′) (u .desk d (and-left (k .onDesk d) _ e′)))
 turn-desk s k c a t v u y d (turned b f) e =
     let e′ : (k .onDesk d && calm s t (keyAt (s .desks d))) ≡ true = rw b at e in
-    f (and-true-l (k .onDesk d) _ e′) (and-true-r (k .onDesk d) _ e′)
+    f (and-left (k .onDesk d) _ e′) (and-right (k .onDesk d) _ e′)
 turn-desk s k c a t v u y d (begun b f) e = f (rw b at e)
 
 file-moves : (s t : State) (x : Ans) → Steady s t → calm s t (x .query) ≡ true → Settled-file s x → Settled-file t x
@@ -226,10 +228,10 @@ turn-file : (s : State) (k : Calm) (c : Call) (a : Result) (t : State) → CalmI
 unfolding calm-next
 turn-file s k c a t u y x (old b i) e =
     let e′ : (k .onFile (x .query) && calm s t (x .query)) ≡ true = rw b at e in
-    file-moves s t x y (and-true-r (k .onFile (x .query)) _ e′) (u .file x i (and-true-l (k .onFile (x .query)) _ e′))
+    file-moves s t x y (and-right (k .onFile (x .query)) _ e′) (u .file x i (and-left (k .onFile (x .query)) _ e′))
 turn-file s k c a t u y x (new b l i) e =
     let e′ : (k .onDesk (deskOf c) && calm s t (x .query)) ≡ true = rw b at e in
-    file-moves s t x y (and-true-r (k .onDesk (deskOf c)) _ e′) (subst (λ y. Settled s y) i (u .desk (deskOf c) (and-true-l (k .onDesk (deskOf c)) _ e′)))
+    file-moves s t x y (and-right (k .onDesk (deskOf c)) _ e′) (subst (λ y. Settled s y) i (u .desk (deskOf c) (and-left (k .onDesk (deskOf c)) _ e′)))
 
 pub turn-keeps : (s : State) (k : Calm) (c : Call) (a : Result) (t : State) → Tidy s → CalmInv s k → Turn s k c a t → CalmInv t (calm-next s c a t k)
 turn-keeps s k c a t v u o = record {

@@ -6,9 +6,10 @@ use mathlib.Core.Logic.{_⊎_, inl, inr}
 use mathlib.Core.Bool.{Bool, true, false}
 use Prim.Native.Nat.{ℕ, suc, _≤_, _<_}
 use native.Mathlib.Omega.{arith}
+use Rattle.laws.proofs.Tests.{byTest}
 use Rattle.rules.specs.Table.{Table}
 use Rattle.rules.specs.History.{Plain, plainAtOpening}
-use Rattle.machine.proofs.Base.{byTest, upd-same}
+use Rattle.machine.proofs.Base.{upd-same}
 use Rattle.machine.proofs.Keys.{Key, Val, valueOf, short, read-few, write-few}
 use Rattle.machine.proofs.Machine.{State, Desk, idle, looking, tabling, filing, marking, raising, write-end, opened}
 use Rattle.machine.proofs.Machine.{Call, begin-read, begin-write, step, abandon, out-answer, out-node, renew}

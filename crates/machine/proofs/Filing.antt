@@ -9,9 +9,10 @@ use native.Mathlib.Omega.{arith}
 use lib.Dec.{ltb}
 use borrow.Author.Tests.{ltb-false}
 use lib.ListN.{length}
+use Rattle.laws.proofs.Tests.{byTest, clash}
 use Rattle.lists.specs.Lists.{place, without}
 use Rattle.rules.specs.Sizes.{maxAnswers}
-use Rattle.machine.proofs.Base.{byTest, clash, In, here, there, in-append, in-under, in-none}
+use Rattle.machine.proofs.Base.{In, here, there, in-append, in-under, in-none}
 use Rattle.machine.proofs.Keys.{Key, Val, sameKey, sameKey-eq, sameKey-refl, sameKey-sym}
 use Rattle.machine.proofs.Machine.{Ans, has-key, cut, room, filed-in}
 

@@ -9,10 +9,12 @@ use native.Mathlib.Omega.{arith}
 use lib.Dec.{eqb, ltb, leb}
 use borrow.Author.Tests.{eqb-true, eqb-false, le-leb, le-ltb}
 use lib.ListN.{length, getD, take, drop}
+use Rattle.laws.proofs.Lists.{and-left, all-below}
+use Rattle.laws.proofs.Tests.{byTest, clash}
 use Rattle.rules.specs.Table.{Write, effect, changes, noRoom}
 use Rattle.rules.specs.Nodes.{Store, store}
 use Rattle.revisions.proofs.Effect.{eff, mrk, has, one, tally, Raised}
-use Rattle.machine.proofs.Base.{byTest, clash, and-true-l, all-below, upd, upd-same, upd-other, In, in-none}
+use Rattle.machine.proofs.Base.{upd, upd-same, upd-other, In, in-none}
 use Rattle.machine.proofs.Keys.{Key, Val, valueOf, nodesOf, marksOf, sameKey, sameKey-eq, sameKey-refl}
 use Rattle.machine.proofs.Machine.{State, Desk, idle, looking, tabling, filing, marking, raising, Ans, node, write-end}
 use Rattle.machine.proofs.Machine.{at-desk, with-store, with-filed, with-tab, holds-for, filed-in, cut}
@@ -256,7 +258,7 @@ hit-gets : (s : State) (k : Calm) (d : ℕ) (q : Key) (ns : List ℕ) (b : Ans) 
     → GetsAt s k d (answered (b .list) true) (looking q ns false)
 unfolding holds-for
 hit-gets s k d q ns b v j h x n i r m g w =
-    let y : b .query ≡ q = sameKey-eq (b .query) q (and-true-l (sameKey (b .query) q) _ h) in
+    let y : b .query ≡ q = sameKey-eq (b .query) q (and-left (sameKey (b .query) q) _ h) in
     ap (λ (z : Ans). answered (z .list) true) (one-each (s .filed) b x (v .one) j i (y ∙ sym r))
 
 did-gets : (s : State) (k : Calm) {c : Call} {a : Result} {t : State} → Tidy s → CalmInv s k → Did s c a t → GetsIt s k c a

@@ -9,8 +9,10 @@ use native.Mathlib.Omega.{arith}
 use lib.Dec.{eqb}
 use borrow.Author.Tests.{eqb-true, eqb-false, not-true}
 use lib.ListN.{length, take, length-append}
+use Rattle.laws.proofs.Lists.{and-left, and-right}
+use Rattle.laws.proofs.Tests.{byTest}
 use Rattle.rules.specs.Table.{Table}
-use Rattle.machine.proofs.Base.{byTest, and-true-l, and-true-r, upd, upd-same, upd-other, In}
+use Rattle.machine.proofs.Base.{upd, upd-same, upd-other, In}
 use Rattle.machine.proofs.Keys.{Key, Val, valueOf, nodesOf}
 use Rattle.machine.proofs.Machine.{State, Desk, idle, looking, Ans, opened}
 use Rattle.machine.proofs.Machine.{Call, begin-read, begin-write, step, abandon, out-answer, out-node, renew}
@@ -224,11 +226,11 @@ run-on : (l : List Entry) (s t : State) (h : Hist) (d : ℕ) (x : Act) (n b i : 
 unfolding after goesOn stepsOf next
 run-on [] s t h d x n b i g r e f = still-on (h .book .jobs) d x n b i e
 run-on (c ∷ l) s t h d x n b i g r e f =
-    let no = not-true (ends d (c .call) (c .result)) (and-true-l (not (ends d (c .call) (c .result))) _ f) in
+    let no = not-true (ends d (c .call) (c .result)) (and-left (not (ends d (c .call) (c .result))) _ f) in
     let st = did-starts s d (r .1) (busy (h .book) d (h .book .jobs d) (s .desks d) (rw e refl) (g .book .job d)) in
     let o = next-on (h .book) (c .call) (c .result) (next h (c .call) (c .result) .plain .table) d x n b i e no st in
     let p = run-on l (r .0) t (next h (c .call) (c .result)) d x (n + stepped d (c .call) (c .result)) b (o .0) (good-next s h g (r .1)) (r .2) (o .1)
-    (and-true-r (not (ends d (c .call) (c .result))) _ f) in
+    (and-right (not (ends d (c .call) (c .result))) _ f) in
     let z : n + stepped d (c .call) (c .result) + stepsOf d l ≡ n + (stepped d (c .call) (c .result) + stepsOf d l) = omega arith in
     rw z at p
 

@@ -9,6 +9,8 @@ use native.Mathlib.Omega.{arith}
 use lib.Dec.{eqb, leb}
 use borrow.Author.Tests.{eqb-true, eq-eqb}
 use lib.ListN.{length}
+use Rattle.laws.proofs.Lists.{and-left, and-right, length-listed}
+use Rattle.laws.proofs.Tests.{byTest, clash}
 use Rattle.lists.specs.Lists.{flat}
 use Rattle.query.specs.declared.Column.{Column}
 use Rattle.query.specs.declared.Column.the-variants.{Is, Wildcard}
@@ -16,9 +18,8 @@ use Rattle.query.specs.Query.{Query, Record, Meet, readNode, writeNode, readCou
 use Rattle.query.specs.Words.{labelWords}
 use Rattle.rules.specs.Sizes.{maxList}
 use Rattle.rules.specs.Table.{Table, Write, target, listOf, effect}
-use Rattle.machine.proofs.Base.{Code, byTest, clash, and-true-l, and-true-r, In}
+use Rattle.machine.proofs.Base.{Code, In}
 use Rattle.query.specs.Graph.{meets}
-use Rattle.query.proofs.Base.{length-listed}
 use Rattle.query.proofs.Nodes.{read-count-most, write-count-most, write-count-least}
 use Rattle.query.proofs.Meet.{meets-is}
 use Rattle.machine.proofs.Sharing.{meet-codes, codes-meet, effect-list}
@@ -93,7 +94,7 @@ sameQuery-eq [] [] e = refl
 sameQuery-eq [] (d ∷ w) e = absurd (false≢true e)
 sameQuery-eq (c ∷ q) [] e = absurd (false≢true e)
 sameQuery-eq (c ∷ q) (d ∷ w) e =
-    ap₂ _∷_ (sameColumn-eq c d (and-true-l (sameColumn c d) _ e)) (sameQuery-eq q w (and-true-r (sameColumn c d) _ e))
+    ap₂ _∷_ (sameColumn-eq c d (and-left (sameColumn c d) _ e)) (sameQuery-eq q w (and-right (sameColumn c d) _ e))
 
 sameColumn-refl : (c : Column) → sameColumn c c ≡ true
 unfolding sameColumn

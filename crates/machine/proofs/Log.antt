@@ -8,9 +8,11 @@ use native.Mathlib.Omega.{arith}
 use lib.Dec.{eqb}
 use borrow.Author.Tests.{eqb-true, eqb-false, eq-eqb, ne-eqb}
 use lib.ListN.{length, take, length-append}
+use Rattle.laws.proofs.Lists.{and-left, and-right}
+use Rattle.laws.proofs.Tests.{byTest}
 use Rattle.rules.specs.Table.{Table}
 use Rattle.rules.specs.History.{plainAtOpening}
-use Rattle.machine.proofs.Base.{byTest, and-true-l, and-true-r, upd, upd-same, upd-other}
+use Rattle.machine.proofs.Base.{upd, upd-same, upd-other}
 use Rattle.machine.proofs.Machine.{Call, begin-read, begin-write, step, abandon, out-answer, out-node, renew}
 use Rattle.machine.proofs.Machine.{Result, refused, went, answered, long, ended, full}
 use Rattle.machine.proofs.Book.{Act, reads, writes, Job, no-job, job, Book, next-book, accepted-book, step-book, begin-book, abandon-book}
@@ -158,8 +160,8 @@ goesOn-append : (d : ℕ) (l : List Entry) (e : Entry) → goesOn d l ≡ true �
 unfolding goesOn
 goesOn-append d [] e g k = rw k refl
 goesOn-append d (c ∷ l) e g k =
-    let a = and-true-l (not (ends d (c .call) (c .result))) _ g in
-    rw a (goesOn-append d l e (and-true-r (not (ends d (c .call) (c .result))) _ g) k)
+    let a = and-left (not (ends d (c .call) (c .result))) _ g in
+    rw a (goesOn-append d l e (and-right (not (ends d (c .call) (c .result))) _ g) k)
 
 steps-append : (d : ℕ) (l : List Entry) (e : Entry) → stepsOf d (l ++ (e ∷ [])) ≡ stepsOf d l + stepped d (e .call) (e .result)
 unfolding stepsOf

@@ -10,11 +10,13 @@ use lib.Dec.{ltb}
 use borrow.Author.Tests.{ltb-true, ltb-false}
 use lib.ListN.{length, getD, take, drop}
 use lib.Seq.{take-suc, drop-cons, take-all}
+use Rattle.laws.proofs.Lists.{same-eq, same-refl}
+use Rattle.laws.proofs.Tests.{byTest}
 use Rattle.lists.specs.Lists.{same}
 use Rattle.rules.specs.Table.{Write}
 use Rattle.rules.specs.Nodes.{Store}
 use Rattle.revisions.proofs.Effect.{eff, mrk, one, tally, lifts, Raised}
-use Rattle.machine.proofs.Base.{Code, byTest, same-eq, same-refl, sumBelow, sumBelow-change, sumBelow-ge, sumBelow-none, upd, upd-same}
+use Rattle.machine.proofs.Base.{Code, sumBelow, sumBelow-change, sumBelow-ge, sumBelow-none, upd, upd-same}
 use Rattle.machine.proofs.Base.{upd-other, In, here, there}
 use Rattle.machine.proofs.Keys.{marksOf}
 use Rattle.machine.proofs.Machine.{State, Desk, idle, looking, tabling, filing, marking, raising}

@@ -11,10 +11,11 @@ use lib.Dec.{eqb, ltb}
 use borrow.Author.Tests.{eqb-true, eqb-false, lt-ltb}
 use lib.ListN.{length, getD, length-append, List·getD-append}
 use lib.Seq.{getD-append-seam}
+use Rattle.laws.proofs.Tests.{byTest, clash}
 use Rattle.rules.specs.Table.{Write, effect}
 use Rattle.rules.specs.Nodes.{Store}
 use Rattle.revisions.proofs.Effect.{eff, mrk, tally, Grew}
-use Rattle.machine.proofs.Base.{Code, byTest, clash, upd, upd-same, upd-other, In, in-place}
+use Rattle.machine.proofs.Base.{Code, upd, upd-same, upd-other, In, in-place}
 use Rattle.machine.proofs.Keys.{Key, Val, valueOf, width, widthOf, nodesOf, marksOf, Shares, effect-value}
 use Rattle.machine.proofs.Machine.{State, Desk, idle, looking, tabling, filing, marking, raising, node, with-filed, with-store, cut}
 use Rattle.machine.proofs.Filing.{in-cut}

@@ -8,10 +8,11 @@ use native.Mathlib.Omega.{arith}
 use lib.Dec.{eqb}
 use borrow.Author.Tests.{eqb-true, eqb-false, eq-eqb, ne-eqb}
 use lib.ListN.{length}
+use Rattle.laws.proofs.Tests.{byTest}
 use Rattle.query.specs.Query.{writeCount}
 use Rattle.rules.specs.Table.{Table, Write, target, effect}
 use Rattle.rules.specs.History.{Note, nothing, reading, writing, Plain, noteAt, oneStep, isAccepted}
-use Rattle.machine.proofs.Base.{byTest, upd, upd-same, upd-other}
+use Rattle.machine.proofs.Base.{upd, upd-same, upd-other}
 use Rattle.machine.proofs.Keys.{Key, valueOf, marksOf, length-marksOf}
 use Rattle.machine.proofs.Machine.{State, looking, tabling, filing, marking, raising, write-end}
 use Rattle.machine.proofs.Machine.{at-desk, with-store, with-filed, with-tab}

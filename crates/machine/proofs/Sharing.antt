@@ -9,6 +9,7 @@ use native.Mathlib.Omega.{arith}
 use lib.Dec.{leb}
 use borrow.Author.Tests.{eq-eqb}
 use lib.ListN.{length}
+use Rattle.laws.proofs.Tests.{byTest, clash}
 use Rattle.lists.specs.Lists.{before, listed, keep}
 use Rattle.query.specs.Query.{Query, Record, admits, lies, naming, Meet, readNode, writeNode, readCount, writeCount, readNodes, writeNodes}
 use Rattle.query.specs.Graph.{meets, Shares}
@@ -17,7 +18,7 @@ use Rattle.query.proofs.Meet.{meets-is, lemma-2}
 use Rattle.query.proofs.Words.{label-words-told}
 use Rattle.rules.specs.Sizes.{maxRecords}
 use Rattle.rules.specs.Table.{Table, Write, insert, delete, target, listOf, has, putIn, outside, effect}
-use Rattle.machine.proofs.Base.{Code, byTest, clash, In, here, there, in-none}
+use Rattle.machine.proofs.Base.{Code, In, here, there, in-none}
 
 -- ---- What stands in a list of codes, by its number
 in-codes : {A : Type 0} (f : A → Code) (g : ℕ → A) (i n : ℕ) {p : Code} → In p (map f (listed g i n)) → (j : ℕ) × (j < n) × (p ≡ f (g (i + j)))

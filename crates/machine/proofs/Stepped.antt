@@ -8,8 +8,9 @@ use Prim.Native.Nat.{ℕ, suc, _≤_}
 use native.Mathlib.Omega.{arith}
 use lib.Dec.{eqb}
 use borrow.Author.Tests.{eqb-true, eqb-false, eq-eqb, ne-eqb}
+use Rattle.laws.proofs.Tests.{byTest}
 use Rattle.rules.specs.Table.{Table, Write}
-use Rattle.machine.proofs.Base.{byTest, upd, upd-same, upd-other, In}
+use Rattle.machine.proofs.Base.{upd, upd-same, upd-other, In}
 use Rattle.machine.proofs.Keys.{Key, Val, valueOf, short}
 use Rattle.machine.proofs.Machine.{State, Desk, idle, Ans}
 use Rattle.machine.proofs.Machine.{step, abandon}

@@ -9,10 +9,11 @@ use native.Mathlib.Omega.{arith}
 use lib.Dec.{eqb, ltb}
 use borrow.Author.Tests.{eqb-true, eqb-false}
 use lib.ListN.{length, getD, take, drop, drop-of-length-le}
+use Rattle.laws.proofs.Tests.{byTest}
 use Rattle.rules.specs.Table.{Write, effect, changes, noRoom}
 use Rattle.rules.specs.Nodes.{Store, store}
 use Rattle.revisions.proofs.Effect.{eff, mrk, mks, NoDup, tally, Raised}
-use Rattle.machine.proofs.Base.{Code, byTest, upd, upd-same, upd-other, in-none}
+use Rattle.machine.proofs.Base.{Code, upd, upd-same, upd-other, in-none}
 use Rattle.machine.proofs.Keys.{Key, Val, valueOf, nodesOf, marksOf, width, widthOf, marks-some}
 use Rattle.machine.proofs.Machine.{State, Desk, idle, looking, tabling, filing, marking, raising, Ans, node, opened}
 use Rattle.machine.proofs.Machine.{at-desk, with-store, with-filed, with-tab, filed-in}

@@ -8,11 +8,12 @@ use Prim.Native.Nat.{ℕ, _+_, _^_, _<_}
 use native.Mathlib.Omega.{arith}
 use borrow.Author.Tests.{eqb-true, eq-eqb}
 use lib.ListN.{length}
+use Rattle.laws.proofs.Lists.{and-left, and-right}
 use Rattle.query.specs.declared.Column.{Column}
 use Rattle.query.specs.declared.Column.the-variants.{Is, Wildcard}
 use Rattle.query.specs.Query.{Query, Record, Term, value, wildcard, any, Label, admits, lies, Meet, readNode, writeNode, named, readCount, writeCount, readNodes, writeNodes}
 use Rattle.query.specs.Graph.{kept, WriteEdge, ReadEdge, EachColumn, E′, E″, meetsIn, meets, Shares, Linked}
-use Rattle.query.proofs.Base.{and-true-l, and-true-r, listed-has, listed-only}
+use Rattle.query.proofs.Base.{listed-has, listed-only}
 use Rattle.query.proofs.Choice.{Choice, Allows, AllowsEach, chosen-allowed, allowed-numbered}
 use Rattle.query.proofs.Nodes.{value≢any, value≢wildcard, wildcard≢any, readChoice, writeChoice, read-chosen, write-chosen, read-free, write-free, read-nodes-differ, write-nodes-differ}
 
@@ -115,8 +116,8 @@ meet-meets (c ∷ q) [] [] e f = absurd (false≢true e)
 meet-meets (c ∷ q) [] (x ∷ r) e f = absurd (false≢true f)
 meet-meets (c ∷ q) (d ∷ w) [] e f = absurd (false≢true e)
 meet-meets (c ∷ q) (d ∷ w) (x ∷ r) e f =
-    let a = admits-both c d x (and-true-l (admits c x) (lies q r) e) (and-true-l (admits d x) (lies w r) f) in
-    rw a (meet-meets q w r (and-true-r (admits c x) (lies q r) e) (and-true-r (admits d x) (lies w r) f))
+    let a = admits-both c d x (and-left (admits c x) (lies q r) e) (and-left (admits d x) (lies w r) f) in
+    rw a (meet-meets q w r (and-right (admits c x) (lies q r) e) (and-right (admits d x) (lies w r) f))
 
 -- the witness: "q[i] if q[i] ≠ *; q'[i] if q[i] = * ∧ q'[i] ≠ *; anything otherwise"
 common : (c d : Column) → meetsIn c d ≡ true → (x : ℕ) × (admits c x ≡ true) × (admits d x ≡ true)
@@ -132,8 +133,8 @@ meets-meet [] [] e = ([], refl, refl)
 meets-meet [] (d ∷ w) e = absurd (false≢true e)
 meets-meet (c ∷ q) [] e = absurd (false≢true e)
 meets-meet (c ∷ q) (d ∷ w) e =
-    let x = common c d (and-true-l (meetsIn c d) (meets q w) e) in
-    let r = meets-meet q w (and-true-r (meetsIn c d) (meets q w) e) in
+    let x = common c d (and-left (meetsIn c d) (meets q w) e) in
+    let r = meets-meet q w (and-right (meetsIn c d) (meets q w) e) in
     (x .0 ∷ r .0, rw (x .1) (r .1), rw (x .2) (r .2))
 
 -- lemma 1: "subspace(q) ∩ subspace(q') ≠ ∅ ⟺ ∀ i. q[i] = q'[i] ∨ q[i] = * ∨ q'[i] = *"
@@ -178,8 +179,8 @@ meets-linked [] [] e = ([], tt, tt)
 meets-linked [] (d ∷ w) e = absurd (false≢true e)
 meets-linked (c ∷ q) [] e = absurd (false≢true e)
 meets-linked (c ∷ q) (d ∷ w) e =
-    let x = link c d (and-true-l (meetsIn c d) (meets q w) e) in
-    let r = meets-linked q w (and-true-r (meetsIn c d) (meets q w) e) in
+    let x = link c d (and-left (meetsIn c d) (meets q w) e) in
+    let r = meets-linked q w (and-right (meetsIn c d) (meets q w) e) in
     (x .0 ∷ r .0, (write-edge d (x .0) .1 (x .1), r .1), (read-edge c (x .0) .1 (x .2), r .2))
 
 -- lemma 2: "(q, q') ∈ E ⟺ ∃ p ∈ P. (q, p) ∈ E' ∧ (p, q') ∈ E''"

@@ -9,11 +9,12 @@ use native.Mathlib.Omega.{arith}
 use lib.Dec.{eqb}
 use borrow.Author.Tests.{eqb-true}
 use lib.ListN.{length, getD, drop, replicate, length-map}
+use Rattle.laws.proofs.Lists.{and-left, length-padded}
 use Rattle.lists.specs.Lists.{same, padded}
 use Rattle.query.specs.declared.Column.the-variants.{Is, Wildcard}
 use Rattle.query.specs.Query.{Query, Term, value, wildcard, any, Label}
 use Rattle.query.specs.Words.{columnOf, queryOf, wellMarked, isQuery, termValue, columnValue, tag, tags, labelWords, marks, keyWords, columnsIn, queryIn, isKey}
-use Rattle.query.proofs.Base.{and-true-l, same-is, length-padded, append-fronts}
+use Rattle.query.proofs.Base.{same-is, append-fronts}
 
 -- ---- Labels
 -- nodes memory: "the nodes, oldest first: label, counter, marks"; a label has five numbers
@@ -154,4 +155,4 @@ query-of-length (suc k) (mark ∷ v ∷ a) e = ap suc (query-of-length k a (omeg
 -- "a query whose columns are not as many as the k in memory" is none: what is one has k columns
 pub is-query-length : (k : ℕ) (a : List ℕ) → isQuery k a ≡ true → length (queryOf a) ≡ k
 unfolding isQuery
-is-query-length k a e = query-of-length k a (eqb-true (length a) (2 * k) (and-true-l (eqb (length a) (2 * k)) (wellMarked a) e))
+is-query-length k a e = query-of-length k a (eqb-true (length a) (2 * k) (and-left (eqb (length a) (2 * k)) (wellMarked a) e))

@@ -9,11 +9,11 @@ use native.Mathlib.Omega.{arith}
 use lib.Dec.{ltb, leb}
 use lib.ListN.{length, getD, set}
 use borrow.Author.Tests.{ltb-false}
+use Rattle.laws.proofs.Tests.{or-false-l, or-false-r, byTest}
 use Rattle.lists.specs.Lists.{same, without}
 use Rattle.rules.specs.Sizes.{maxNodes, maxPending, maxRevision, wornAbove}
 use Rattle.rules.specs.Nodes.{Words, Node, Store, labelIn, pending, revision, withPending, withRevision, nodePlace, oldestFree, isHigh, isWorn}
 use Rattle.rules.specs.Nodes.{isPresent, nodeOf, withNode, evictNode, added, makeRoom, addedIn, ensured, markedIn, marked, isPending, unmarked, raised, unmarkedAll}
-use Rattle.revisions.proofs.Base.{or-false-l, or-false-r, byTest}
 use Rattle.revisions.proofs.Effect.{cnt, eff}
 use Rattle.revisions.proofs.Nodes.{Each, each-set, each-added, each-map, place-none, fresh-revision, pending-revision}
 

@@ -9,11 +9,13 @@ use lib.Dec.{ltb, leb·suc-suc}
 use lib.ListN.{length, getD, set, length-append, length-set, length-map, length-replicate}
 use lib.Seq.{take-set-le, take-at, getD-at, getD-append-add, getD-set-same, getD-set-other}
 use borrow.Author.Tests.{ltb-true, lt-ltb, eqb-true, eqb-false}
+use Rattle.laws.proofs.Lists.{same-refl, same-eq}
+use Rattle.laws.proofs.Tests.{or-false-l, or-false-r, clash, byTest, cond-same, cond-twice, cond-swap}
 use Rattle.lists.specs.Lists.{same, place, without, padded}
 use Rattle.query.specs.Query.{Label}
 use Rattle.query.specs.Words.{labelWords}
 use Rattle.rules.specs.Nodes.{Words, Node, labelIn, pending, revision, withPending, withRevision, hasLabel, nodePlace, isFree, oldestFree}
-use Rattle.revisions.proofs.Base.{or-false-l, or-false-r, clash, byTest, cond-same, cond-twice, cond-swap, same-refl, same-eq, same-off, same-apart}
+use Rattle.revisions.proofs.Base.{same-off, same-apart}
 use Rattle.revisions.proofs.Effect.{has, cnt, mks, NoDup}
 
 -- ---- A fact of every node

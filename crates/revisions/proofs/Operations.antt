@@ -9,11 +9,13 @@ use native.Mathlib.Omega.{arith}
 use lib.Dec.{ltb, leb}
 use lib.ListN.{length, getD, length-append, length-set}
 use borrow.Author.Tests.{ltb-true, ltb-false}
+use Rattle.laws.proofs.Lists.{same-refl}
+use Rattle.laws.proofs.Tests.{byTest, cond-same}
 use Rattle.lists.specs.Lists.{same}
 use Rattle.rules.specs.Sizes.{maxNodes, maxPending, maxRevision}
 use Rattle.rules.specs.Nodes.{Words, Node, Store, labelIn, pending, revision, withPending, withRevision, nodePlace, oldestFree}
 use Rattle.rules.specs.Nodes.{isPresent, nodeOf, withNode, evictNode, added, makeRoom, addedIn, ensured, markedIn, marked, isPending, unmarked, raised, unmarkedAll}
-use Rattle.revisions.proofs.Base.{byTest, cond-same, same-refl, by-same}
+use Rattle.revisions.proofs.Base.{by-same}
 use Rattle.revisions.proofs.Effect.{has, cnt, NoDup, eff, mrk, one, tally, lifts, Grew, Marked, Raised}
 use Rattle.revisions.proofs.Nodes.{Each, Wide, AllRows, without-out, out-length, each-at, each-set, each-added, each-out}
 use Rattle.revisions.proofs.Nodes.{place-has, place-label, place-cnt, place-mks, mks-absent, cnt-absent, has-apart}

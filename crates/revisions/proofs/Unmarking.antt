@@ -9,9 +9,11 @@ use native.Mathlib.Omega.{arith}
 use lib.ListN.{length, getD, set}
 use lib.Seq.{getD-set-other, set-comm, set-out}
 use borrow.Author.Tests.{ltb-true, ltb-false}
+use Rattle.laws.proofs.Lists.{and-left, and-right}
+use Rattle.laws.proofs.Tests.{clash, byTest}
 use Rattle.lists.specs.Lists.{same}
 use Rattle.rules.specs.Nodes.{Words, Node, Store, store, labelIn, pending, withPending, nodePlace, nodeOf, withNode, isPending, unmarked, unmarkedAll}
-use Rattle.revisions.proofs.Base.{and-true-l, and-true-r, clash, byTest, same-off}
+use Rattle.revisions.proofs.Base.{same-off}
 use Rattle.revisions.proofs.Effect.{has, mrk, one, tally}
 use Rattle.revisions.proofs.Nodes.{place-has, places-apart, stored-has, stored-place, stored-mks, pending-label}
 use Rattle.revisions.proofs.Operations.{node-label, pending-mrk, marked-has}
@@ -74,8 +76,8 @@ unmarkedAll-none ps s a h = unmarkedAll-tests ps s a ∙ rw h refl
 pub allPending-at : (ps : List Words) (s : Store) (i : ℕ) → allPending ps s ≡ true → i < length ps → isPending (getD ps i []) s ≡ true
 unfolding allPending
 allPending-at [] s i h l = absurd (omega arith)
-allPending-at (p ∷ ps) s zero h l = and-true-l (isPending p s) _ h
-allPending-at (p ∷ ps) s (suc i) h l = allPending-at ps s i (and-true-r (isPending p s) _ h) (omega arith)
+allPending-at (p ∷ ps) s zero h l = and-left (isPending p s) _ h
+allPending-at (p ∷ ps) s (suc i) h l = allPending-at ps s i (and-right (isPending p s) _ h) (omega arith)
 
 pub allPending-not : (ps : List Words) (s : Store) (i : ℕ) → i < length ps → isPending (getD ps i []) s ≡ false → allPending ps s ≡ false
 allPending-not ps s i l h = byTest (allPending ps s) (λ e. clash (allPending-at ps s i e l) h) (λ e. e)
