@@ -1,0 +1,16 @@
+-- `clients::bad_length` meets its contract: number 12 is compared with the longest. Assumes nothing.
+use mathlib.Core.Path.{ap, _∙_}
+use lib.Dec.{ltb}
+use Rattle.clients.proofs.Reading.{length-read}
+use borrow.Author.Needs.{needs}
+use Rattle.clients.proofs.bad_length.Statement.{statement}
+use Rattle.clients.proofs.bad_length.Tie as tie
+
+word-requires : tie.Need-word-requires
+word-requires c κs = search needs
+
+returns : tie.Need-returns
+returns c = ap (ltb 32) (c .word .ensures ∙ length-read _)
+
+pub bad-length-spec : {M : Type 1} → statement M
+bad-length-spec = tie.close (tie.spec word-requires returns)

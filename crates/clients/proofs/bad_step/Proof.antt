@@ -1,0 +1,17 @@
+-- `clients::bad_step` meets its contract: the last step is compared with the steps made. Assumes nothing.
+
+use borrow.Author.Needs.{needs}
+use Rattle.clients.proofs.bad_step.Statement.{statement}
+use Rattle.clients.proofs.bad_step.Tie as tie
+
+steps-of-requires : tie.Need-steps-of-requires
+steps-of-requires c κs = search needs
+
+last-step-requires : tie.Need-last-step-requires
+last-step-requires c κs = search needs
+
+returns : tie.Need-returns
+returns c = rw (← c .last-step .ensures, ← c .before .steps-of .ensures)
+
+pub bad-step-spec : {M : Type 1} → statement M
+bad-step-spec = tie.close (tie.spec steps-of-requires last-step-requires returns)

@@ -1,0 +1,26 @@
+-- What the functions over one client's numbers take for granted and leave, where crates/rules/specs has no name for it.
+-- Leans on rules and lists. Definitions only. Assumes nothing.
+use mathlib.Core.Bool.{Bool}
+use mathlib.Core.List.{List, _∷_}
+use Prim.Native.Nat.{ℕ, _*_, _≤_, _<_}
+use lib.ListN.{length, take, drop, set}
+use Rattle.lists.specs.Lists.{padded, written}
+use Rattle.rules.specs.Client.{Client, isIdle, stepped}
+use Rattle.rules.specs.Memory.{clientIn}
+
+-- a desks memory of at least its least length, and a client of it
+pub record Fit (s : List ℕ) (d : ℕ) : Type 0 where
+  pub long : 2000 ≤ length s
+  pub below : d < 12
+
+-- client d is idle
+unfoldable pub idleAt : List ℕ → ℕ → Bool
+idleAt s d = isIdle (clientIn s d)
+
+-- as a begin leaves a client, by the key of its query
+unfoldable pub begunWith : ℕ → List ℕ → Client
+begunWith x key = padded 157 (x ∷ 0 ∷ 0 ∷ 0 ∷ 0 ∷ key)
+
+-- a client whose list of n records of k numbers is in its place already: the length, zeros behind the list, and one step more
+unfoldable pub listSet : ℕ → ℕ → Client → Client
+listSet n k c = written (set (stepped c) 12 n) 29 (padded 128 (take (n * k) (drop 29 c)))
