@@ -1,0 +1,165 @@
+-- A write takes effect whole, at one call between its begin and its end, and its end is what it gives alone on the table of that call.
+-- Leans on Works and on machine's books. Assumes nothing.
+use mathlib.Core.Path.{_≡_, refl, sym, ap, _∙_, subst}
+use mathlib.Core.Bool.{Bool, true, false, cond, false≢true}
+use mathlib.Core.List.{List}
+use mathlib.Core.Option.{some}
+use Prim.Native.Nat.{ℕ, suc, pred, _+_, _≤_}
+use native.Mathlib.Omega.{arith}
+use lib.ListN.{length}
+use Rattle.rules.specs.declared.Outcome.{Outcome}
+use Rattle.rules.specs.declared.Outcome.the-variants.{Refused, Accepted, Answered, Long, Ended, Full}
+use Rattle.rules.specs.Table.{Table, Write, effect}
+use Rattle.rules.specs.Refusals.{columns}
+use Rattle.rules.specs.History as rules
+use Rattle.machine.proofs.Base.{upd-same}
+use Rattle.machine.proofs.Machine as machine
+use Rattle.machine.proofs.Machine.{Desk, idle, looking, tabling, filing, marking, raising, Result, write-end}
+use Rattle.machine.proofs.Book.{Act, writes, tableStep, alone, leaves, told, Job, job, gave, at-table, Book, next-book, accepted-book, step-book, turn, placed}
+use Rattle.machine.proofs.Book.{filing-of-act, tabled-at, isRefused, blank-book}
+use Rattle.machine.proofs.BookInv.{begunBy, tabledBy, JobOk, Placed, AtTable}
+use Rattle.machine.proofs.Claims.{Hist, next, fresh}
+use Rattle.machine.proofs.Log.{after, startOf, JobFrom, linked, tabs-are, now-after, plainTable}
+use Rattle.bridge.proofs.View.{stateOf, callOf, resultIn, resultOf}
+use Rattle.demands.specs.Whole.{History, memAt, plainAt, callAt, replyAt}
+use Rattle.demands.specs.Corollaries.{Begins, inserting, deleting, isWriteEnd, Ends, WritesTake}
+use Rattle.demands.proofs.Runs.{resultAt, logTo, after-to, sound}
+use Rattle.demands.proofs.Places.{length-log, take-log, insert-begins, delete-begins, under-places}
+use Rattle.demands.proofs.Third.{plain-table}
+use Rattle.demands.proofs.Filings.{step-call}
+use Rattle.demands.proofs.Works.{workAt, Since, work-since, one-work}
+
+-- ---- The job at a busy desk
+job-of : (B : Book) (d : ℕ) (j : Job) (y : Desk) (w : Write) → JobOk B d j y → workAt y ≡ some (writes w)
+    → (n : ℕ) × (j ≡ job (writes w) n (begunBy j) (tabledBy j))
+unfolding workAt
+job-of B d j idle w o e = absurd (let z : _≡_ {A = ℕ} 0 1 = cc in omega arith)
+job-of B d j (looking q ns saw) w o e = absurd (let z : _≡_ {A = ℕ} 0 1 = cc in omega arith)
+job-of B d j (tabling q ns saw) w o e = absurd (let z : _≡_ {A = ℕ} 0 1 = cc in omega arith)
+job-of B d j (filing q ns l) w o e = absurd (let z : _≡_ {A = ℕ} 0 1 = cc in omega arith)
+job-of B d j (marking v i) w o e = let k : v ≡ w = cc in (i, o .has .is ∙ ap (λ x. job (writes x) i (begunBy j) (tabledBy j)) k)
+job-of B d j (raising v i c f) w o e =
+    let k : v ≡ w = cc in
+    let n = tableStep (writes v) + i in
+    (n, o .has .is ∙ ap (λ x. job (writes x) n (begunBy j) (tabledBy j)) k)
+
+-- ---- What its last step enters in the books
+step-op : (B : Book) (d : ℕ) (x : Act) (n b t : ℕ) (a : Result) (T : Table) → B .jobs d ≡ job x n b t → isRefused a ≡ false
+    → next-book B (machine.step d) a T .ops b ≡ placed x b (tabled-at x (suc n) (suc (B .now)) t) (filing-of-act x (B .filings)) (suc (B .now)) a
+unfolding next-book accepted-book step-book turn
+step-op B d x n b t a T e r =
+    let p = placed x b (tabled-at x (suc n) (suc (B .now)) t) (filing-of-act x (B .filings)) (suc (B .now)) a in
+    rw r (subst (λ y. step-book B d y a T .ops b ≡ p) (sym e) (upd-same (B .ops) b p))
+
+placed-end : (k : ℕ) (tray : List ℕ) (o : Outcome) (w : Write) (b t f i : ℕ) → isWriteEnd o ≡ true
+    → placed (writes w) b t f i (resultIn k tray o) ≡ at-table (writes w) t (gave i (resultIn k tray o))
+unfolding isWriteEnd placed resultIn
+placed-end k tray (Refused n) w b t f i e = absurd (false≢true e)
+placed-end k tray Accepted w b t f i e = absurd (false≢true e)
+placed-end k tray (Answered n c) w b t f i e = absurd (false≢true e)
+placed-end k tray Long w b t f i e = absurd (false≢true e)
+placed-end k tray (Ended c) w b t f i e = refl
+placed-end k tray Full w b t f i e = refl
+
+end-taken : (k : ℕ) (tray : List ℕ) (o : Outcome) → isWriteEnd o ≡ true → isRefused (resultIn k tray o) ≡ false
+unfolding isWriteEnd resultIn isRefused
+end-taken k tray (Refused n) e = absurd (false≢true e)
+end-taken k tray Accepted e = refl
+end-taken k tray (Answered n c) e = refl
+end-taken k tray Long e = refl
+end-taken k tray (Ended c) e = refl
+end-taken k tray Full e = refl
+
+end-told : (k : ℕ) (tray : List ℕ) (o : Outcome) (c f : Bool) → isWriteEnd o ≡ true → told (resultIn k tray o) ≡ write-end c f → o ≡ cond f Full (Ended c)
+unfolding isWriteEnd resultIn told write-end
+end-told k tray (Refused n) c f e t = absurd (false≢true e)
+end-told k tray Accepted c f e t = absurd (false≢true e)
+end-told k tray (Answered n b) c f e t = absurd (false≢true e)
+end-told k tray Long c f e t = absurd (false≢true e)
+end-told k tray (Ended b) c true e t = absurd (let z : _≡_ {A = ℕ} 0 1 = cc in omega arith)
+end-told k tray (Ended b) c false e t = let z : b ≡ c = cc in ap Ended z
+end-told k tray Full c true e t = refl
+end-told k tray Full c false e t = absurd (let z : _≡_ {A = ℕ} 0 1 = cc in omega arith)
+
+-- ---- The books of a history
+write-begins : (d : ℕ) (begin : rules.Call) (w : Write) → Begins d begin w → callOf begin ≡ startOf (writes w) d
+write-begins d begin w (inserting a) = insert-begins d a
+write-begins d begin w (deleting a) = delete-begins d a
+
+pub since-write : (h : History) (d : ℕ) (w : Write) (b e : ℕ) (o : Outcome) → Ends h d w b e o → Since h (writes w) d b e
+since-write h d w b e o x =
+    let l = x .within in
+    record { begin = x .begin; is = write-begins d (x .begin) w (x .is); within = omega arith; runs = x .runs }
+
+-- its job is the one that call b began
+write-job : (h : History) (d : ℕ) (w : Write) (b e : ℕ) → Since h (writes w) d b e
+    → (n : ℕ) × (τ : ℕ) × (after fresh (logTo h e) .book .jobs d ≡ job (writes w) n (suc b) τ)
+write-job h d w b e s =
+    let B = after fresh (logTo h e) .book in
+    let J = B .jobs d in
+    let z = job-of B d J (stateOf (memAt h e) .desks d) w (sound h e (s .within) .good .book .job d)
+    (work-since h (writes w) d b e s e (s .runs .earlier) (omega arith)) in
+    let f = subst (λ y. JobFrom (logTo h e) d y) (z .1) (linked (logTo h e) d) in
+    let p = under-places h d e (writes w) (s .within) (f .0) in
+    let i : length (f .0 .earlier) ≡ b = one-work h d (writes w) (writes w) (length (f .0 .earlier)) b e
+    (record { begin = callAt h (length (f .0 .earlier)); is = p .0; within = s .within; runs = p .1 }) s in
+    (z .0, tabledBy J, z .1 ∙ ap (λ y. job (writes w) (z .0) y (tabledBy J)) (f .1 ∙ ap suc i))
+
+-- the plain table by the books
+book-table : (h : History) (n j : ℕ) → n ≤ length (h .calls) → j ≤ n → after fresh (logTo h n) .book .tabs j ≡ plainAt h j .table
+book-table h n j l m =
+    tabs-are (logTo h n) j (let k = length-log h n in omega arith) ∙ ap plainTable (take-log h j n m) ∙ plain-table h j (omega arith)
+
+result-end : (h : History) (e : ℕ) (o : Outcome) → replyAt h e .out ≡ o → resultAt h e ≡ resultIn (columns (memAt h e)) (replyAt h e .tray) o
+unfolding resultAt resultOf
+result-end h e o i = ap (resultIn (columns (memAt h e)) (replyAt h e .tray)) i
+
+-- what the books have of the write after its end
+next-ops : (g : Hist) (c : machine.Call) (a : Result) (d i : ℕ) → c ≡ machine.step d
+    → next g c a .book .ops i ≡ next-book (g .book) (machine.step d) a (next g (machine.step d) a .plain .table) .ops i
+unfolding next
+next-ops g c a d i e = ap (λ x. next g x a .book .ops i) e
+
+now-is : (h : History) (n : ℕ) → after fresh (logTo h n) .book .now ≡ n
+unfolding fresh blank-book
+now-is h n = let a = now-after (logTo h n) fresh in let b = length-log h n in omega arith
+
+ended-op : (h : History) (d : ℕ) (w : Write) (b e : ℕ) (o : Outcome) → Ends h d w b e o
+    → (t : ℕ) × (i : ℕ) × AtTable (after fresh (logTo h (suc e)) .book) (suc b) (writes w) t (gave i (resultIn (columns (memAt h e)) (replyAt h e .tray) o))
+ended-op h d w b e o x =
+    let k = columns (memAt h e) in
+    let tray = replyAt h e .tray in
+    let g = after fresh (logTo h e) in
+    let C = after fresh (logTo h (suc e)) .book in
+    let l = x .within in
+    let j = write-job h d w b e (since-write h d w b e o x) in
+    let a = resultIn k tray o in
+    let i = suc (g .book .now) in
+    let t = tabled-at (writes w) (suc (j .0)) i (j .1) in
+    let r = result-end h e o (x .says) in
+    let ops : C .ops (suc b) ≡ at-table (writes w) t (gave i a) =
+    ap (λ (y : Hist). y .book .ops (suc b)) (after-to h e)
+    ∙ next-ops g (callOf (callAt h e)) (resultAt h e) d (suc b) (step-call (callAt h e) d (x .tray) (x .calls))
+    ∙ ap (λ y. next-book (g .book) (machine.step d) y (next g (machine.step d) y .plain .table) .ops (suc b)) r
+    ∙ step-op (g .book) d (writes w) (j .0) (suc b) (j .1) a (next g (machine.step d) a .plain .table) (j .2) (end-taken k tray o (x .ends))
+    ∙ placed-end k tray o w (suc b) t (filing-of-act (writes w) (g .book .filings)) i (x .ends) in
+    (t, i, subst (λ y. Placed C (suc b) y) ops (sound h (suc e) (omega arith) .good .book .op (suc b)))
+
+pub writes-take : (h : History) → WritesTake h
+unfolding leaves alone
+writes-take h d w b e o x =
+    let l = x .within in
+    let z = ended-op h d w b e o x in
+    let A = z .2 in
+    let τ = z .0 in
+    let low = A .after in
+    let t = pred τ in
+    let s : suc t ≡ τ = omega arith in
+    let up : τ ≤ suc e = let a = A .upto in let n = now-is h (suc e) in omega arith in
+    let T = book-table h (suc e) t (omega arith) (omega arith) in (
+      t,
+      omega arith,
+      omega arith,
+      ap (λ i. plainAt h i .table) s ∙ sym (book-table h (suc e) τ (omega arith) up) ∙ A .moved ∙ ap (effect w) T,
+      rw (sym T) (end-told (columns (memAt h e)) (replyAt h e .tray) o _ _ (x .ends) (A .gives)),
+    )

@@ -1,0 +1,15 @@
+pub mod Runs
+pub mod Places
+pub mod Third
+pub mod Ordered
+pub mod Moments
+pub mod Taken
+pub mod Works
+pub mod Flags
+pub mod Filings
+pub mod Second
+pub mod Example
+pub mod Steady
+pub mod Effects
+pub mod Seen
+pub mod Corollaries

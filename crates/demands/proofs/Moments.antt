@@ -1,0 +1,195 @@
+-- What demand 2 says of the memories at a moment, told of the machine's state: no open write meets a query, its nodes are still there, and
+-- a desk's read stands at its fetch or at its file step. Leans on bridge and on machine's Calm. Assumes nothing.
+use mathlib.Core.Path.{_≡_, refl, sym, ap, _∙_}
+use mathlib.Core.Bool.{Bool, true, false, not}
+use mathlib.Core.List.{List, [], _∷_, map}
+use Prim.Native.Nat.{ℕ, zero, suc, _+_, _≤_, _<_}
+use native.Mathlib.Omega.{arith}
+use lib.Dec.{eqb, leb}
+use borrow.Author.Tests.{eqb-true, eqb-false, leb-true, leb-false, not-true}
+use lib.ListN.{length, getD, drop, length-drop}
+use lib.Seq.{length-take-le}
+use Rattle.laws.proofs.Lists.{all-below}
+use Rattle.laws.proofs.Tests.{byTest, clash}
+use Rattle.query.specs.Query.{Query, readNode, readNodes, readCount, writeCount}
+use Rattle.query.specs.Graph.{meets}
+use Rattle.query.specs.Words.{labelWords}
+use Rattle.query.proofs.Nodes.{read-nodes-count, read-nodes-at}
+use Rattle.rules.specs.Table.{Write, target}
+use Rattle.rules.specs.Nodes.{isPresent}
+use Rattle.rules.specs.Answers.{Entry}
+use Rattle.rules.specs.Client.{Client, kind, steps, isIdle, entryOf, queryAt, writeAt, sawMark, reads}
+use Rattle.rules.specs.Memory.{Mem, storeIn}
+use Rattle.rules.specs.Refusals.{columns, client}
+use Rattle.revisions.proofs.Effect.{NoDup, has}
+use Rattle.revisions.proofs.Operations.{present-has}
+use Rattle.machine.proofs.Base.{allBelow-at}
+use Rattle.machine.proofs.Keys.{Key, Val, nodesOf, length-nodesOf, touches}
+use Rattle.machine.proofs.Machine.{Desk, idle, looking, tabling, filing, marking, raising, node}
+use Rattle.machine.proofs.Calm.{opens, quiet, kept}
+use Rattle.bridge.proofs.View.{stateOf, keyOf, valueIn, revisionsIn, looksOf, readerOf, writerOf, busyDesk, deskOf, Fits}
+use Rattle.bridge.proofs.Desks.{looking-desk, tabling-desk, filing-desk, last-read}
+use Rattle.bridge.proofs.Phases.{looks-most}
+use Rattle.bridge.proofs.Steps.{Going, going, desk-at}
+use Rattle.demands.specs.Demand2.{isOpen, isQuiet, stillThere, keepsNodes, Reads}
+
+-- a read's key
+abbrev pub asking : Query → Key
+asking q = record { asked = q }
+
+-- ---- No open write
+reader-opens : (k : ℕ) (e : Entry) (i : ℕ) (saw : Bool) (q : Key) → opens (readerOf k e i saw) q ≡ false
+unfolding readerOf opens
+reader-opens k e i saw q = byTest (leb i (looksOf k e)) (λ t. rw t refl) (λ t. byTest (eqb i (looksOf k e + 1)) (λ u. rw (t, u) refl) (λ u. rw (t, u) refl))
+
+writer-opens : (w : Write) (i : ℕ) (c f : Bool) (q : Key) → opens (writerOf w i c f) q ≡ touches q w
+unfolding writerOf opens
+writer-opens w i c f q = byTest (leb i (writeCount (target w))) (λ t. rw t refl) (λ t. rw t refl)
+
+not-touched : (q : Query) (w : Write) → meets q (target w) ≡ false → touches (asking q) w ≡ false
+unfolding touches
+not-touched q w e = e
+
+client-opens : (k : ℕ) (q : Query) (c : Client) → isOpen k q c ≡ false → opens (deskOf k c) (asking q) ≡ false
+unfolding isOpen deskOf busyDesk
+client-opens k q c e = byTest (isIdle c)
+    (λ i. rw i (unfold opens in refl))
+    (λ i. byTest (eqb (kind c) reads)
+    (λ r. rw (i, r) (reader-opens k (entryOf c) (steps c) (sawMark c) (asking q)))
+    (λ r. rw (i, r) (writer-opens (writeAt k c) _ _ _ (asking q) ∙ not-touched q (writeAt k c) (rw (i, r) at e))))
+
+pub quiet-there : (q : Query) (m : Mem) → isQuiet q m ≡ true → quiet (stateOf m) (asking q) ≡ true
+unfolding isQuiet quiet
+quiet-there q m e = all-below 12 (λ d. not (opens (stateOf m .desks d) (asking q))) (λ d l.
+    let o = not-true (isOpen (columns m) q (client m d)) (allBelow-at 12 (λ d. not (isOpen (columns m) q (client m d))) e d l) in
+    rw (desk-at m d l, client-opens (columns m) q (client m d) o) refl)
+
+-- ---- No node put out
+getD-map : {A B : Type 0} (f : A → B) (l : List A) (i : ℕ) (x : B) (y : A) → i < length l → getD (map f l) i x ≡ f (getD l i y)
+getD-map f [] i x y h = absurd (omega arith)
+getD-map f (a ∷ l) zero x y h = refl
+getD-map f (a ∷ l) (suc i) x y h = getD-map f l i x y (omega arith)
+
+node-is : (q : Query) (j : ℕ) → j < readCount q → node (asking q) j ≡ labelWords (readNode q j)
+unfolding node nodesOf readCount
+node-is q j l = let n = read-nodes-count q in getD-map labelWords (readNodes q) j [] [] (omega arith) ∙ ap labelWords (read-nodes-at q j l)
+
+has-is : (q : Query) (m : Mem) (j : ℕ) → j < readCount q → has (stateOf m .store .nodes) (node (asking q) j) ≡ isPresent (labelWords (readNode q j)) (storeIn (m .nodes))
+unfolding stateOf
+has-is q m j l = rw (node-is q j l) (sym (present-has (labelWords (readNode q j)) (storeIn (m .nodes))))
+
+pub kept-there : (q : Query) (m t : Mem) → keepsNodes q m t ≡ true → kept (stateOf m) (stateOf t) (asking q) ≡ true
+unfolding keepsNodes kept stillThere
+kept-there q m t e = all-below (length (nodesOf (asking q))) _ (λ j l.
+    let k : j < readCount q = let n = length-nodesOf (asking q) in omega arith in
+    rw (has-is q m j k, has-is q t j k) (allBelow-at (readCount q) (stillThere q m t) e j k))
+
+-- ---- A read at its fetch, and at its file step
+query-is : (k : ℕ) (c : Client) → looksOf k (entryOf c) ≡ readCount (queryAt k c)
+unfolding looksOf queryAt
+query-is k c = refl
+
+key-is : (k : ℕ) (c : Client) (q : Query) → queryAt k c ≡ q → keyOf k (entryOf c) ≡ asking q
+unfolding keyOf queryAt
+key-is k c q e = λ i. record { asked = e i }
+
+revisions-length : (n : ℕ) (c : Client) → length c ≡ 157 → n ≤ 16 → length (revisionsIn n (entryOf c)) ≡ n
+unfolding revisionsIn entryOf
+revisions-length n c w l =
+    let a = length-drop 5 c in
+    let b = length-drop 8 (drop 5 c) in
+    length-take-le n (drop 8 (drop 5 c)) (omega arith)
+
+pub record Fetching (m : Mem) (d : ℕ) (q : Query) : Type 0 where
+  pub revs : List ℕ
+  pub saw : Bool
+  pub desk : stateOf m .desks d ≡ looking (asking q) revs saw
+  pub all : length (nodesOf (asking q)) ≤ length revs
+
+pub fetching : (m : Mem) (d : ℕ) (q : Query) → Fits m → NoDup (storeIn (m .nodes) .nodes) → Reads m d q (readCount q) → Fetching m d q
+fetching m d q f once r =
+    let c = client m d in
+    let k = columns m in
+    let g = going m f once d (r .desk) (r .busy) in
+    let n : looksOf k (entryOf c) ≡ readCount q = query-is k c ∙ ap readCount (r .asks) in
+    let x = r .made in
+    let few = looks-most k (entryOf c) (f .few) in
+    let y = revisions-length (steps c) c (g .wide) (omega arith) in
+    let z = length-nodesOf (asking q) in
+    record {
+      revs = revisionsIn (steps c) (entryOf c);
+      saw = sawMark c;
+      desk = desk-at m d (r .desk) ∙ looking-desk k c (g .busy) (r .reader) (omega arith)
+          ∙ ap (λ (x : Key). looking x (revisionsIn (steps c) (entryOf c)) (sawMark c)) (key-is k c q (r .asks));
+      all = omega arith;
+    }
+
+pub filing-there : (m : Mem) (d : ℕ) (q : Query) → Fits m → NoDup (storeIn (m .nodes) .nodes) → Reads m d q (readCount q + 2)
+    → (ns : List ℕ) × (l : Val) × (stateOf m .desks d ≡ filing (asking q) ns l)
+filing-there m d q f once r =
+    let c = client m d in
+    let k = columns m in
+    let g = going m f once d (r .desk) (r .busy) in
+    let n : looksOf k (entryOf c) ≡ readCount q = query-is k c ∙ ap readCount (r .asks) in
+    let x = r .made in (
+      revisionsIn (looksOf k (entryOf c)) (entryOf c),
+      valueIn k (entryOf c),
+      desk-at m d (r .desk) ∙ filing-desk k c (g .busy) (r .reader) (omega arith)
+          ∙ ap (λ (x : Key). filing x (revisionsIn (looksOf k (entryOf c)) (entryOf c)) (valueIn k (entryOf c))) (key-is k c q (r .asks)),
+    )
+
+-- and back: a desk that files is a reader's before its last step
+abbrev isFiling : Desk → Bool
+isFiling idle = false
+isFiling (looking q ns saw) = false
+isFiling (tabling q ns saw) = false
+isFiling (filing q ns l) = true
+isFiling (marking w i) = false
+isFiling (raising w j c f) = false
+
+no-filing : {A : Type 0} {x : Desk} {q : Key} {ns : List ℕ} {l : Val} → x ≡ filing q ns l → isFiling x ≡ false → A
+no-filing e f = clash (ap isFiling e) f
+
+filing-key : {q r : Key} {ns ms : List ℕ} {l v : Val} → filing q ns l ≡ filing r ms v → q ≡ r
+filing-key e = cc
+
+writer-files : (w : Write) (i : ℕ) (c f : Bool) → isFiling (writerOf w i c f) ≡ false
+unfolding writerOf
+writer-files w i c f = byTest (leb i (writeCount (target w))) (λ t. rw t refl) (λ t. rw t refl)
+
+idle-not : (k : ℕ) (c : Client) → isIdle c ≡ true → isFiling (deskOf k c) ≡ false
+unfolding deskOf
+idle-not k c e = rw e refl
+
+writer-not : (k : ℕ) (c : Client) → isIdle c ≡ false → eqb (kind c) reads ≡ false → isFiling (deskOf k c) ≡ false
+unfolding deskOf busyDesk
+writer-not k c e r = rw (e, r) (writer-files (writeAt k c) _ _ _)
+
+reader-files : (m : Mem) (d : ℕ) (q : Key) (ns : List ℕ) (l : Val) → Going m d → isIdle (client m d) ≡ false → kind (client m d) ≡ reads
+    → deskOf (columns m) (client m d) ≡ filing q ns l → Reads m d (q .asked) (readCount (q .asked) + 2)
+unfolding keyOf queryAt
+reader-files m d q ns l g b r e =
+    let c = client m d in
+    let k = columns m in
+    let n = query-is k c in
+    let late = g .busy .going in
+    let lst = last-read k c r in
+    byTest (leb (steps c) (looksOf k (entryOf c)))
+    (λ t. no-filing (sym (looking-desk k c (g .busy) r (leb-true _ _ t)) ∙ e) refl)
+    (λ t. byTest (eqb (steps c) (looksOf k (entryOf c) + 1))
+    (λ u. no-filing (sym (tabling-desk k c (g .busy) r (eqb-true _ _ u)) ∙ e) refl)
+    (λ u. let low = leb-false (steps c) (looksOf k (entryOf c)) t in
+    let ne : steps c ≡ looksOf k (entryOf c) + 1 → ⊥ = eqb-false (steps c) (looksOf k (entryOf c) + 1) u in
+    let a : queryAt k c ≡ q .asked = ap (λ (x : Key). x .asked) (filing-key (sym (filing-desk k c (g .busy) r (omega arith)) ∙ e)) in
+    let z = ap readCount a in
+    record { desk = g .desk; busy = b; reader = r; asks = a; made = omega arith }))
+
+pub files-there : (m : Mem) (d : ℕ) (q : Key) (ns : List ℕ) (l : Val) → Fits m → NoDup (storeIn (m .nodes) .nodes) → d < 12
+    → stateOf m .desks d ≡ filing q ns l → Reads m d (q .asked) (readCount (q .asked) + 2)
+files-there m d q ns l f once h e =
+    let e′ : deskOf (columns m) (client m d) ≡ filing q ns l = sym (desk-at m d h) ∙ e in
+    byTest (isIdle (client m d))
+    (λ i. no-filing e′ (idle-not (columns m) (client m d) i))
+    (λ i. byTest (eqb (kind (client m d)) reads)
+    (λ r. reader-files m d q ns l (going m f once d h i) i (eqb-true _ _ r) e′)
+    (λ r. no-filing e′ (writer-not (columns m) (client m d) i r)))

@@ -1,0 +1,153 @@
+-- What follows from demands 2 and 3 for whoever uses the hall: each in one line, of every history. Leans on Demand2 and Demand3.
+-- Definitions only. Assumes nothing.
+use mathlib.Core.Path.{_≡_}
+use mathlib.Core.Bool.{Bool, true, false, cond, not, _&&_}
+use mathlib.Core.List.{List, []}
+use Prim.Native.Nat.{ℕ, suc, _≤_, _<_}
+use lib.Dec.{eqb}
+use lib.ListN.{length, getD}
+use Rattle.lists.specs.Lists.{same, allBelow}
+use Rattle.query.specs.Query.{Query, Record, lies}
+use Rattle.query.specs.Words.{queryOf, recordOf}
+use Rattle.rules.specs.declared.Outcome.{Outcome}
+use Rattle.rules.specs.declared.Outcome.the-variants.{Refused, Accepted, Answered, Long, Ended, Full}
+use Rattle.rules.specs.Sizes.{maxRecords, maxList}
+use Rattle.rules.specs.Table.{Table, Write, insert, delete, listOf, has, effect, changes, noRoom}
+use Rattle.rules.specs.Client.{Client, kind, isIdle, writeAt, reads}
+use Rattle.rules.specs.Memory.{Mem, recordsIn}
+use Rattle.rules.specs.Refusals.{columns, client}
+use Rattle.rules.specs.History.{Call, beginRead, beginInsert, beginDelete, step}
+use Rattle.demands.specs.Whole.{History, memAt, plainAt, callAt, replyAt, UnderWay}
+use Rattle.demands.specs.Demand3.{IsList}
+use Rattle.demands.specs.Demand2.{Ascending, isQuiet}
+
+-- call n answers the read of `a` that call b began at desk d
+pub record Answers (h : History) (d : ℕ) (a : List ℕ) (b n count : ℕ) (cached : Bool) : Type 0 where
+  pub tray : List ℕ
+  pub within : n < length (h .calls)
+  pub calls : callAt h n ≡ step d tray
+  pub runs : UnderWay h (beginRead d a) d b n
+  pub says : replyAt h n .out ≡ Answered count cached
+
+-- that answer is the query's list on the plain table after the first j calls
+abbrev pub ListAt : History → List ℕ → ℕ → ℕ → ℕ → Type 0
+ListAt h a n count j = IsList (h .k) (listOf (queryOf a) (plainAt h j .table)) count (replyAt h n .tray)
+
+-- what the table memory holds after the first n calls
+abbrev pub tableAt : History → ℕ → Table
+tableAt h n = recordsIn (h .k) (memAt h n .table)
+
+-- Whatever call answers, it is a step of a read that was begun and is under way.
+abbrev pub EveryAnswer : History → Type 0
+EveryAnswer h = (n count : ℕ) (cached : Bool) → n < length (h .calls) → replyAt h n .out ≡ Answered count cached
+    → (d : ℕ) × (a : List ℕ) × (b : ℕ) × Answers h d a b n count cached
+
+-- At a desk one read is under way at a time: two begins that both are, are one call.
+abbrev pub OneRead : History → Type 0
+OneRead h = (d : ℕ) (a a′ : List ℕ) (b b′ n : ℕ) → n ≤ length (h .calls) → UnderWay h (beginRead d a) d b n → UnderWay h (beginRead d a′) d b′ n
+    → (b ≡ b′) × (a ≡ a′)
+
+-- An answer from file was true at a moment of that read: after its begin, and not after its answer.
+abbrev pub FileWasTrue : History → Type 0
+FileWasTrue h = (d : ℕ) (a : List ℕ) (b n count : ℕ) → Answers h d a b n count true → (j : ℕ) × (b < j) × (j ≤ suc n) × ListAt h a n count j
+
+-- A read sees every call e that came before its begin, the end of a write say: its answer is of the table after e or later.
+abbrev pub SeesEarlier : History → Type 0
+SeesEarlier h = (d : ℕ) (a : List ℕ) (b n count : ℕ) (cached : Bool) → Answers h d a b n count cached
+    → (e : ℕ) → e < b → (j : ℕ) × (e < j) × (j ≤ suc n) × ListAt h a n count j
+
+-- Answers do not go back: a read that began after another answered shows the table of a later moment.
+abbrev pub NeverBack : History → Type 0
+NeverBack h = (d d′ : ℕ) (a a′ : List ℕ) (b n b′ n′ count count′ : ℕ) (cached cached′ : Bool)
+    → Answers h d a b n count cached → Answers h d′ a′ b′ n′ count′ cached′ → n < b′
+    → (j : ℕ) × (j′ : ℕ) × (j < j′) × ListAt h a n count j × ListAt h a′ n′ count′ j′
+
+-- With no write open that meets the query, from begin to answer, the answer is the table's list now, from file or not.
+abbrev pub QuietIsNow : History → Type 0
+QuietIsNow h = (d : ℕ) (a : List ℕ) (b n count : ℕ) (cached : Bool) → Answers h d a b n count cached
+    → ((i : ℕ) → b < i → i ≤ n → isQuiet (queryOf a) (memAt h i) ≡ true)
+    → IsList (h .k) (listOf (queryOf a) (tableAt h (suc n))) count (replyAt h n .tray)
+
+-- An answer's records ascend, and are at most 32.
+abbrev pub AnswersAscend : History → Type 0
+AnswersAscend h = (d : ℕ) (a : List ℕ) (b n count : ℕ) (cached : Bool) → Answers h d a b n count cached
+    → (l : List Record) × IsList (h .k) l count (replyAt h n .tray) × Ascending l × (count ≤ maxList)
+
+-- The table never holds a record twice, and never more than 2,048.
+abbrev pub NoneTwice : History → Type 0
+NoneTwice h = (n : ℕ) → n ≤ length (h .calls)
+    → ((i j : ℕ) → i < j → j < length (tableAt h n) → getD (tableAt h n) i [] ≡ getD (tableAt h n) j [] → ⊥) × (length (tableAt h n) ≤ maxRecords)
+
+-- ---- Writes
+pub data Begins (d : ℕ) : Call → Write → Type 0 where
+  inserting : (a : List ℕ) → Begins d (beginInsert d a) (insert (recordOf (queryOf a)))
+  deleting : (a : List ℕ) → Begins d (beginDelete d a) (delete (queryOf a))
+
+unfoldable pub isWriteEnd : Outcome → Bool
+isWriteEnd (Refused n) = false
+isWriteEnd Accepted = false
+isWriteEnd (Answered n b) = false
+isWriteEnd Long = false
+isWriteEnd (Ended b) = true
+isWriteEnd Full = true
+
+-- call e ends, with o, the write w that call b began at desk d
+pub record Ends (h : History) (d : ℕ) (w : Write) (b e : ℕ) (o : Outcome) : Type 0 where
+  pub begin : Call
+  pub is : Begins d begin w
+  pub tray : List ℕ
+  pub within : e < length (h .calls)
+  pub calls : callAt h e ≡ step d tray
+  pub runs : UnderWay h begin d b e
+  pub says : replyAt h e .out ≡ o
+  pub ends : isWriteEnd o ≡ true
+
+-- A write takes effect whole, at one call t between its begin and its end, and its end is what it gives alone on the table of that call.
+abbrev pub WritesTake : History → Type 0
+WritesTake h = (d : ℕ) (w : Write) (b e : ℕ) (o : Outcome) → Ends h d w b e o
+    → (t : ℕ) × (b < t) × (t ≤ e) × (plainAt h (suc t) .table ≡ effect w (plainAt h t .table))
+    × (o ≡ cond (noRoom w (plainAt h t .table)) Full (Ended (changes w (plainAt h t .table))))
+
+-- a write that would undo that the table has record r (true), or that it has not (false)
+unfoldable pub undoes : Bool → Record → Write → Bool
+undoes true r (insert s) = false
+undoes true r (delete q) = lies q r
+undoes false r (insert s) = same s r
+undoes false r (delete q) = false
+
+-- no such write is open
+unfoldable pub isOpposed : ℕ → Bool → Record → Client → Bool
+isOpposed k v r c = not (isIdle c) && (not (eqb (kind c) reads) && undoes v r (writeAt k c))
+
+unfoldable pub isUnopposed : Bool → Record → Mem → Bool
+isUnopposed v r m = allBelow 12 (λ d. not (isOpposed (columns m) v r (client m d)))
+
+-- from call b to call n
+abbrev pub Unopposed : History → Bool → Record → ℕ → ℕ → Type 0
+Unopposed h v r b n = (i : ℕ) → b < i → i ≤ n → isUnopposed v r (memAt h i) ≡ true
+
+-- A record that an insert has put in is in the answer of every read that begins later and whose query it lies in, unless a delete of it
+-- was open since the insert's begin.
+abbrev pub InsertsSeen : History → Type 0
+InsertsSeen h = (d : ℕ) (r : Record) (b e : ℕ) (changed : Bool) → Ends h d (insert r) b e (Ended changed)
+    → (d′ : ℕ) (a : List ℕ) (b′ n count : ℕ) (cached : Bool) → Answers h d′ a b′ n count cached → e < b′ → lies (queryOf a) r ≡ true
+    → Unopposed h true r b n → (l : List Record) × IsList (h .k) l count (replyAt h n .tray) × (has r l ≡ true)
+
+-- A record that a delete has taken out is in no answer of a read that begins later, unless an insert of it was open since the delete's begin.
+abbrev pub DeletesSeen : History → Type 0
+DeletesSeen h = (d : ℕ) (q : Query) (b e : ℕ) (o : Outcome) → Ends h d (delete q) b e o
+    → (d′ : ℕ) (a : List ℕ) (b′ n count : ℕ) (cached : Bool) → Answers h d′ a b′ n count cached → e < b′ → (r : Record) → lies q r ≡ true
+    → Unopposed h false r b n → (l : List Record) × IsList (h .k) l count (replyAt h n .tray) × (has r l ≡ false)
+
+pub record Corollaries (h : History) : Type 0 where
+  pub every-answer : EveryAnswer h
+  pub one-read : OneRead h
+  pub file-was-true : FileWasTrue h
+  pub sees-earlier : SeesEarlier h
+  pub never-back : NeverBack h
+  pub quiet-is-now : QuietIsNow h
+  pub answers-ascend : AnswersAscend h
+  pub none-twice : NoneTwice h
+  pub writes-take : WritesTake h
+  pub inserts-seen : InsertsSeen h
+  pub deletes-seen : DeletesSeen h
