@@ -1,0 +1,166 @@
+// The four steps of a read, after its refusals: look, fetch, table, file. Each is lent only the memories that it needs; its contract says of
+// any others that they are left alone. What a step leaves stands in the rules' Steps.antt, what it takes for granted in specs/Reading.antt.
+ghost use mathlib.Core.Path.{_≡_};
+ghost use mathlib.Core.List.{List};
+ghost use Prim.Native.Nat.{ℕ, _+_, _*_};
+ghost use lib.ListN.{take};
+ghost use Rattle.lists.specs.Lists.{written, flat};
+ghost use Rattle.rules.specs.Table.{listOf};
+ghost use Rattle.rules.specs.Client.{queryAt};
+ghost use Rattle.rules.specs.Memory.{mem, clientIn, recordsIn};
+ghost use Rattle.rules.specs.Outcome.{stepDid};
+ghost use Rattle.rules.specs.Steps.{readDid};
+ghost use Rattle.table.specs.Table.{gathered};
+ghost use Rattle.reading.specs.Reading.{Reads, looks, made, Looks, Finds, foundFor, Fetches, Gathers, Lists, Files, Steps};
+use nodes::Sight;
+use rules::Outcome;
+
+// A look: the next node's revision is noted, and whether writes are pending there.
+pub fn look_step(nodes: &mut [u32], desks: &mut [u32], d: usize, k: usize) -> Outcome
+    requires { ⌜ Looks (now nodes) (now desks) d k ⌝ }
+    ensures { λ r. ⌜ ((t a y : List ℕ) → stepDid r (mem t (now (nodes .exit)) a (now (desks .exit))) y ≡ readDid (mem t (now (nodes .entry)) a (now (desks .entry))) y d (queryAt k (clientIn (now (desks .entry)) d)) (made (now (desks .entry)) d)) ⌝ }
+{
+    let cols = clients::columns_at(desks, d, k);
+    let look = clients::steps_of(desks, d) as usize;
+    let label = columns::labels::read_label(cols, k, look);
+    let sight = nodes::look(nodes, &label);
+    let Sight::Seen { revision, pending } = sight else {
+        return Outcome::Refused(3);
+    };
+    clients::note(desks, d, look, revision, pending);
+    Outcome::Accepted
+}
+
+// The place of the filed answer to answer with, or their count where there is none. Where a look saw a mark none may serve, and no search is made.
+fn find_filed(answers: &[u32], desks: &[u32], d: usize) -> usize
+    requires { ⌜ Finds (now answers) (now desks) d ⌝ }
+    ensures { λ r. ⌜ r ≡ foundFor (now (answers .entry)) (clientIn (now (desks .entry)) d) ⌝ }
+{
+    if clients::saw_mark(desks, d) {
+        return answers[0] as usize;
+    }
+    // A read that comes to its fetch has made one step for each of its nodes.
+    let n = clients::steps_of(desks, d) as usize;
+    let at = 8 + d * 157 + 5;
+    let end = at + 152;
+    answers::fetch(answers, &desks[at..end], n)
+}
+
+// The fetch: a filed answer that is recent enough is answered with.
+pub fn fetch_step(
+    answers: &[u32],
+    desks: &mut [u32],
+    tray: &mut [u32],
+    d: usize,
+    k: usize,
+) -> Outcome
+    requires { ⌜ Fetches (now answers) (now desks) (now tray) d k ⌝ }
+    ensures { λ r. ⌜ ((t n : List ℕ) → stepDid r (mem t n (now (answers .entry)) (now (desks .exit))) (now (tray .exit)) ≡ readDid (mem t n (now (answers .entry)) (now (desks .entry))) (now (tray .entry)) d (queryAt k (clientIn (now (desks .entry)) d)) (made (now (desks .entry)) d)) ⌝ }
+{
+    let i = find_filed(answers, desks, d);
+    if answers[0] as usize <= i {
+        clients::advance(desks, d);
+        return Outcome::Accepted;
+    }
+    let count = answers::give(answers, i, k, tray);
+    clients::set_idle(desks, d);
+    Outcome::Answered {
+        count: count,
+        cached: true,
+    }
+}
+
+// Writes the query's list, at most 32 records, into the client's place for it, and says how many there are, or 33 of more than 32.
+fn gather_list(table: &[u32], desks: &mut [u32], d: usize, k: usize) -> usize
+    requires { ⌜ Gathers (now table) (now desks) d k ⌝ }
+    ensures { λ r. ⌜ r ≡ gathered (listOf (queryAt k (clientIn (now (desks .entry)) d)) (recordsIn k (now (table .entry)))) ⌝ }
+    ensures { λ _. ⌜ now (desks .exit) ≡ written (now (desks .entry)) (8 + d * 157 + 29) (flat (take 32 (listOf (queryAt k (clientIn (now (desks .entry)) d)) (recordsIn k (now (table .entry)))))) ⌝ }
+{
+    let cols = clients::columns_at(desks, d, k);
+    let at = 8 + d * 157 + 29;
+    let end = at + 128;
+    table::gather(table, k, cols, &mut desks[at..end])
+}
+
+// The table step: the list is taken. Where it is too long the read ends; where a look saw a mark it is answered with and not filed.
+pub fn table_step(table: &[u32], desks: &mut [u32], tray: &mut [u32], d: usize, k: usize) -> Outcome
+    requires { ⌜ Lists (now table) (now desks) (now tray) d k ⌝ }
+    ensures { λ r. ⌜ ((n a : List ℕ) → stepDid r (mem (now (table .entry)) n a (now (desks .exit))) (now (tray .exit)) ≡ readDid (mem (now (table .entry)) n a (now (desks .entry))) (now (tray .entry)) d (queryAt k (clientIn (now (desks .entry)) d)) (made (now (desks .entry)) d)) ⌝ }
+{
+    let n = gather_list(table, desks, d, k);
+    if 32 < n {
+        clients::set_idle(desks, d);
+        return Outcome::Long;
+    }
+    if !clients::saw_mark(desks, d) {
+        clients::set_list(desks, d, n, k);
+        return Outcome::Accepted;
+    }
+    let at = 8 + d * 157 + 29;
+    let end = at + n * k;
+    words::write(tray, 0, &desks[at..end]);
+    clients::set_idle(desks, d);
+    Outcome::Answered {
+        count: n as u32,
+        cached: false,
+    }
+}
+
+// The list taken at the table step is filed with the noted revisions, and answered with.
+pub fn file_step(
+    answers: &mut [u32],
+    desks: &mut [u32],
+    tray: &mut [u32],
+    d: usize,
+    k: usize,
+) -> Outcome
+    requires { ⌜ Files (now answers) (now desks) (now tray) d k ⌝ }
+    ensures { λ r. ⌜ ((t n : List ℕ) → stepDid r (mem t n (now (answers .exit)) (now (desks .exit))) (now (tray .exit)) ≡ readDid (mem t n (now (answers .entry)) (now (desks .entry))) (now (tray .entry)) d (queryAt k (clientIn (now (desks .entry)) d)) (made (now (desks .entry)) d)) ⌝ }
+{
+    let at = 8 + d * 157 + 5;
+    let end = at + 152;
+    answers::file(answers, &desks[at..end]);
+    let count = clients::give_list(desks, d, k, tray);
+    clients::set_idle(desks, d);
+    Outcome::Answered {
+        count: count,
+        cached: false,
+    }
+}
+
+// How many nodes a read has.
+fn looks_of(desks: &[u32], d: usize, k: usize) -> usize
+    requires { ⌜ Reads (now desks) d k ⌝ }
+    ensures { λ r. ⌜ r ≡ looks (now (desks .entry)) d k ⌝ }
+{
+    let cols = clients::columns_at(desks, d, k);
+    let named = columns::keys::named(cols, k);
+    columns::keys::power(named) as usize
+}
+
+// The step that is due of a read: one look for each node, then fetch, table and file.
+pub fn read_step(
+    table: &[u32],
+    nodes: &mut [u32],
+    answers: &mut [u32],
+    desks: &mut [u32],
+    tray: &mut [u32],
+    d: usize,
+    k: usize,
+) -> Outcome
+    requires { ⌜ Steps (now table) (now nodes) (now answers) (now desks) (now tray) d k ⌝ }
+    ensures { λ r. ⌜ stepDid r (mem (now (table .entry)) (now (nodes .exit)) (now (answers .exit)) (now (desks .exit))) (now (tray .exit)) ≡ readDid (mem (now (table .entry)) (now (nodes .entry)) (now (answers .entry)) (now (desks .entry))) (now (tray .entry)) d (queryAt k (clientIn (now (desks .entry)) d)) (made (now (desks .entry)) d) ⌝ }
+{
+    let count = looks_of(desks, d, k);
+    let step = clients::steps_of(desks, d) as usize;
+    if step < count {
+        return look_step(nodes, desks, d, k);
+    }
+    if step == count {
+        return fetch_step(answers, desks, tray, d, k);
+    }
+    if step == count + 1 {
+        return table_step(table, desks, tray, d, k);
+    }
+    file_step(answers, desks, tray, d, k)
+}

@@ -1,0 +1,67 @@
+-- `writing::write_step` meets its contract. Assumes nothing.
+use native.Mathlib.Omega.{arith}
+use Rattle.writing.proofs.Laws.{power-count}
+use borrow.Author.Needs.{needs}
+use Rattle.writing.proofs.write_step.Statement.{statement}
+use Rattle.writing.proofs.write_step.Tie as tie
+
+steps-of-requires : tie.Need-steps-of-requires
+steps-of-requires c κs = search needs
+
+power-requires : tie.Need-power-requires
+power-requires c κs = search needs
+
+mark-step-requires : tie.Need-mark-step-requires
+mark-step-requires c κs = let p = c .before .before .before .before .before .before .before .before .before .pre in (p .0, (p .1 .0, omega (arith, power-count _ _ _ (p .0) _ (c .before .before .before .power .ensures), c .before .before .before .before .steps-of .ensures, c .before .before .if1 .taken)))
+
+same-length : tie.Need-same-length
+same-length c = search needs
+
+same-length-2 : tie.Need-same-length-2
+same-length-2 c = search needs
+
+returns : tie.Need-returns
+returns c = λ a y. c .before .before .before .before .mark-step .ensures _ a y
+
+write-table-step-requires : tie.Need-write-table-step-requires
+write-table-step-requires c κs = let p = c .before .before .before .before .before .before .before .before .before .before .pre in (p .0, (p .1 .1, omega (arith, power-count _ _ _ (p .0) _ (c .before .before .before .before .power .ensures), c .before .before .before .before .before .steps-of .ensures, c .before .before .if2 .taken)))
+
+same-length-3 : tie.Need-same-length-3
+same-length-3 c = search needs
+
+same-length-4 : tie.Need-same-length-4
+same-length-4 c = search needs
+
+returns-2 : tie.Need-returns-2
+returns-2 c = λ a y. c .before .before .before .before .write-table-step .ensures _ a y
+
+raise-step-requires : tie.Need-raise-step-requires
+raise-step-requires c κs = let p = c .before .before .before .before .before .before .before .before .before .before .pre in (p .0, (p .1 .0, omega (arith, power-count _ _ _ (p .0) _ (c .before .before .before .before .power .ensures), c .before .before .before .before .before .steps-of .ensures, c .before .before .before .if1 .left, c .before .before .if2 .left)))
+
+same-length-5 : tie.Need-same-length-5
+same-length-5 c = search needs
+
+same-length-6 : tie.Need-same-length-6
+same-length-6 c = search needs
+
+returns-3 : tie.Need-returns-3
+returns-3 c = λ a y. c .before .before .before .before .raise-step .ensures _ a y
+
+pub write-step-spec : {M : Type 1} → statement M
+write-step-spec =
+    tie.close
+    (tie.spec
+    steps-of-requires
+    power-requires
+    mark-step-requires
+    same-length
+    same-length-2
+    returns
+    write-table-step-requires
+    same-length-3
+    same-length-4
+    returns-2
+    raise-step-requires
+    same-length-5
+    same-length-6
+    returns-3)

@@ -1,0 +1,222 @@
+// The steps of a write at its client: a mark for each of its nodes, the table, a raise for each; and the taking back of its marks.
+// The rules stand in rules (Steps, Calls), what a function takes for granted in specs/Writing.antt.
+ghost use mathlib.Core.Path.{_≡_};
+ghost use mathlib.Core.Bool.{true};
+ghost use mathlib.Core.List.{List};
+ghost use Prim.Native.Nat.{ℕ, _≤_, _<_};
+ghost use lib.ListN.{take};
+ghost use Rattle.query.specs.Query.{writeCount};
+ghost use Rattle.query.specs.Words.{namesAll, recordOf};
+ghost use Rattle.rules.specs.Table.{insert, effect};
+ghost use Rattle.rules.specs.Nodes.{unmarkedAll};
+ghost use Rattle.rules.specs.Client.{inserts, idle};
+ghost use Rattle.rules.specs.Memory.{mem, recordsIn, withRecords, storeIn, clientIn, withClient};
+ghost use Rattle.rules.specs.Outcome.{did, stepDid};
+ghost use Rattle.rules.specs.Steps.{endOf};
+ghost use Rattle.rules.specs.Calls.{marksSet};
+ghost use Rattle.nodes.specs.Nodes;
+ghost use Rattle.nodes.specs.Nodes.{tried};
+ghost use Rattle.clients.specs.Clients;
+ghost use Rattle.table.specs.Table;
+ghost use Rattle.writing.specs.Writing.{Writer, stepAt, countAt, stepOf, backOf, writeOf, reported, raiseEnd, raiseLeft, isFound};
+use query::Column;
+use rules::Outcome;
+use table::Inserted;
+
+// What a write's table step says of the table.
+struct Report {
+    changed: bool,
+    full: bool,
+}
+
+// ---- Marks
+// A mark at the write's next node. Refused where no node can be added or 12 writes are pending there.
+pub fn mark_step(nodes: &mut [u32], desks: &mut [u32], d: usize, k: usize) -> Outcome
+    requires { ⌜ Writer (now desks) d k ⌝ }
+    requires { ⌜ Nodes.Fit (now nodes) ⌝ }
+    requires { ⌜ stepAt (now desks) d < countAt k (now desks) d ⌝ }
+    ensures { λ r. ⌜ ((t a y : List ℕ) → stepDid r (mem t (now (nodes .exit)) a (now (desks .exit))) y ≡ stepOf k (mem t (now (nodes .entry)) a (now (desks .entry))) y d) ⌝ }
+{
+    let cols = clients::columns_at(desks, d, k);
+    let made = clients::steps_of(desks, d);
+    let label = columns::labels::write_label(cols, k, made as usize);
+    if !nodes::mark(nodes, &label) {
+        return Outcome::Refused(3);
+    }
+    clients::advance(desks, d);
+    Outcome::Accepted
+}
+
+// ---- The table
+// Puts the record of a query that names every column into the table.
+fn insert_record(table: &mut [u32], cols: [Column; 4], k: usize) -> Report
+    requires { ⌜ Table.Fit k (now table) ⌝ }
+    requires { ⌜ namesAll (take k cols) ≡ true ⌝ }
+    ensures { λ r. ⌜ (r ≡ reported (insert (recordOf (take k cols))) (recordsIn k (now (table .entry)))) × (now (table .exit) ≡ withRecords k (now (table .entry)) (effect (insert (recordOf (take k cols))) (recordsIn k (now (table .entry))))) ⌝ }
+{
+    let taken = columns::take_record(cols, k);
+    let values = taken.values;
+    let said = table::insert(table, &values[..k]);
+    match said {
+        Inserted::Added => Report {
+            changed: true,
+            full: false,
+        },
+        Inserted::Present => Report {
+            changed: false,
+            full: false,
+        },
+        Inserted::Full => Report {
+            changed: false,
+            full: true,
+        },
+    }
+}
+
+// Makes the change of a write of this kind.
+fn change(table: &mut [u32], kind: u32, cols: [Column; 4], k: usize) -> Report
+    requires { ⌜ Table.Fit k (now table) ⌝ }
+    requires { ⌜ (kind ≡ inserts → namesAll (take k cols) ≡ true) ⌝ }
+    ensures { λ r. ⌜ (r ≡ reported (writeOf kind (take k cols)) (recordsIn k (now (table .entry)))) × (now (table .exit) ≡ withRecords k (now (table .entry)) (effect (writeOf kind (take k cols)) (recordsIn k (now (table .entry))))) ⌝ }
+{
+    if kind == 2 {
+        return insert_record(table, cols, k);
+    }
+    let gone = table::delete(table, k, cols);
+    Report {
+        changed: gone != 0,
+        full: false,
+    }
+}
+
+// The table step: the change is made, and the client keeps whether the table changed and whether it was full.
+pub fn write_table_step(table: &mut [u32], desks: &mut [u32], d: usize, k: usize) -> Outcome
+    requires { ⌜ Writer (now desks) d k ⌝ }
+    requires { ⌜ Table.Fit k (now table) ⌝ }
+    requires { ⌜ stepAt (now desks) d ≡ countAt k (now desks) d ⌝ }
+    ensures { λ r. ⌜ ((n a y : List ℕ) → stepDid r (mem (now (table .exit)) n a (now (desks .exit))) y ≡ stepOf k (mem (now (table .entry)) n a (now (desks .entry))) y d) ⌝ }
+{
+    let cols = clients::columns_at(desks, d, k);
+    let kind = clients::kind_of(desks, d);
+    let said = change(table, kind, cols, k);
+    clients::set_wrote(desks, d, said.changed, said.full);
+    Outcome::Accepted
+}
+
+// ---- Raises
+// Ends a write: the client is idle, and what it kept of the table step is the outcome.
+fn end(desks: &mut [u32], d: usize) -> Outcome
+    requires { ⌜ Clients.Fit (now desks) d ⌝ }
+    ensures { λ r. ⌜ (r ≡ endOf (clientIn (now (desks .entry)) d)) × (now (desks .exit) ≡ withClient (now (desks .entry)) d idle) ⌝ }
+{
+    let full = clients::found_full(desks, d);
+    let changed = clients::did_change(desks, d);
+    clients::set_idle(desks, d);
+    if full {
+        return Outcome::Full;
+    }
+    Outcome::Ended { changed }
+}
+
+// What a raise leaves of the client: the last one ends the write.
+fn after_raise(desks: &mut [u32], d: usize, last: bool) -> Outcome
+    requires { ⌜ Clients.Fit (now desks) d × (stepAt (now desks) d < 4294967295) ⌝ }
+    ensures { λ r. ⌜ (r ≡ raiseEnd last (clientIn (now (desks .entry)) d)) × (now (desks .exit) ≡ withClient (now (desks .entry)) d (raiseLeft last (clientIn (now (desks .entry)) d))) ⌝ }
+{
+    if last {
+        return end(desks, d);
+    }
+    clients::advance(desks, d);
+    Outcome::Accepted
+}
+
+// A raise at the write's next node. Refused where the node is missing, has no pending write or cannot be raised.
+pub fn raise_step(nodes: &mut [u32], desks: &mut [u32], d: usize, k: usize) -> Outcome
+    requires { ⌜ Writer (now desks) d k ⌝ }
+    requires { ⌜ Nodes.Fit (now nodes) ⌝ }
+    requires { ⌜ countAt k (now desks) d < stepAt (now desks) d ⌝ }
+    ensures { λ r. ⌜ ((t a y : List ℕ) → stepDid r (mem t (now (nodes .exit)) a (now (desks .exit))) y ≡ stepOf k (mem t (now (nodes .entry)) a (now (desks .entry))) y d) ⌝ }
+{
+    let cols = clients::columns_at(desks, d, k);
+    let made = clients::steps_of(desks, d);
+    let count = columns::keys::power(k);
+    let number = made - (count + 1);
+    let label = columns::labels::write_label(cols, k, number as usize);
+    if !nodes::raise(nodes, &label) {
+        return Outcome::Refused(3);
+    }
+    after_raise(desks, d, made == count + count)
+}
+
+// ---- The next step
+// One step of a write: its marks come first, then the table, then its raises.
+pub fn write_step(
+    table: &mut [u32],
+    nodes: &mut [u32],
+    desks: &mut [u32],
+    d: usize,
+    k: usize,
+) -> Outcome
+    requires { ⌜ Writer (now desks) d k ⌝ }
+    requires { ⌜ Nodes.Fit (now nodes) ⌝ }
+    requires { ⌜ Table.Fit k (now table) ⌝ }
+    ensures { λ r. ⌜ ((a y : List ℕ) → stepDid r (mem (now (table .exit)) (now (nodes .exit)) a (now (desks .exit))) y ≡ stepOf k (mem (now (table .entry)) (now (nodes .entry)) a (now (desks .entry))) y d) ⌝ }
+{
+    let made = clients::steps_of(desks, d);
+    let count = columns::keys::power(k);
+    if made < count {
+        return mark_step(nodes, desks, d, k);
+    }
+    if made == count {
+        return write_table_step(table, desks, d, k);
+    }
+    raise_step(nodes, desks, d, k)
+}
+
+// ---- The taking back of marks
+// Whether each of the write's first n nodes has a pending write.
+fn can_take_back(nodes: &[u32], cols: [Column; 4], k: usize, n: usize) -> bool
+    requires { ⌜ Nodes.Fit (now nodes) × ((k ≤ 4) × (n ≤ writeCount (take k cols))) ⌝ }
+    ensures { λ r. ⌜ r ≡ isFound (unmarkedAll (marksSet (take k cols) n) (storeIn (now (nodes .entry)))) ⌝ }
+{
+    let mut j = 0;
+    while j < n {
+        let label = columns::labels::write_label(cols, k, j);
+        if !nodes::is_pending(nodes, &label) {
+            return false;
+        }
+        j += 1;
+    }
+    true
+}
+
+// Takes one off each of the write's first n nodes.
+fn take_off(nodes: &mut [u32], cols: [Column; 4], k: usize, n: usize)
+    requires { ⌜ Nodes.Fit (now nodes) × (k ≤ 4) ⌝ }
+    requires { ⌜ isFound (unmarkedAll (marksSet (take k cols) n) (storeIn (now nodes))) ≡ true ⌝ }
+    ensures { λ _. ⌜ Nodes.did true (now (nodes .exit)) ≡ tried (now (nodes .entry)) (unmarkedAll (marksSet (take k cols) n) (storeIn (now (nodes .entry)))) ⌝ }
+{
+    let mut done = 0;
+    while done < n {
+        let label = columns::labels::write_label(cols, k, done);
+        nodes::unmark(nodes, &label);
+        done += 1;
+    }
+}
+
+// Takes back the marks of a write before its table step; the client is idle then. Tests all before it alters one.
+pub fn take_back(nodes: &mut [u32], desks: &mut [u32], d: usize, k: usize) -> Outcome
+    requires { ⌜ Writer (now desks) d k ⌝ }
+    requires { ⌜ Nodes.Fit (now nodes) ⌝ }
+    requires { ⌜ stepAt (now desks) d ≤ countAt k (now desks) d ⌝ }
+    ensures { λ r. ⌜ ((t a : List ℕ) → did r (mem t (now (nodes .exit)) a (now (desks .exit))) ≡ backOf k (mem t (now (nodes .entry)) a (now (desks .entry))) d) ⌝ }
+{
+    let cols = clients::columns_at(desks, d, k);
+    let made = clients::steps_of(desks, d) as usize;
+    if !can_take_back(nodes, cols, k, made) {
+        return Outcome::Refused(3);
+    }
+    take_off(nodes, cols, k, made);
+    clients::set_idle(desks, d);
+    Outcome::Accepted
+}
