@@ -1,0 +1,24 @@
+-- `checks::bad_query` meets its contract: the columns as they arrive, then an insert's record. Assumes nothing.
+use Rattle.checks.proofs.Codes.{query-not, query-plain, query-record}
+use borrow.Author.Needs.{needs}
+use Rattle.checks.proofs.bad_query.Statement.{statement}
+use Rattle.checks.proofs.bad_query.Tie as tie
+
+is-query-requires : tie.Need-is-query-requires
+is-query-requires c κs = search needs
+
+returns : tie.Need-returns
+returns c = query-not _ _ _ _ (c .before .is-query .ensures) (c .if1 .taken)
+
+returns-2 : tie.Need-returns-2
+returns-2 c = query-plain _ _ _ _ (c .before .before .is-query .ensures) (c .before .if1 .left) (c .if2 .taken)
+
+record-code-requires : tie.Need-record-code-requires
+record-code-requires c κs = search needs
+
+returns-3 : tie.Need-returns-3
+returns-3 c = query-record _ _ _ _ (c .before .before .before .is-query .ensures) (c .before .before .if1 .left) _ (c .record-code .ensures) (c .before .if2 .left)
+
+pub bad-query-spec : {M : Type 1} → statement M
+bad-query-spec =
+    tie.close (tie.spec is-query-requires returns returns-2 record-code-requires returns-3)

@@ -1,0 +1,62 @@
+-- `checks::begin_code` meets its contract: one law for each way out. Assumes nothing.
+use mathlib.Core.Path.{sym, _∙_}
+use native.Mathlib.Omega.{arith}
+use Rattle.hall.proofs.Laws.{long}
+use Rattle.checks.proofs.Codes.{begin-short, begin-query, begin-busy, begin-other, begin-read, begin-worn, begin-write}
+use Rattle.checks.proofs.Sound.{idle-told, nodes-fit}
+use borrow.Author.Needs.{needs}
+use Rattle.checks.proofs.begin_code.Statement.{statement}
+use Rattle.checks.proofs.begin_code.Tie as tie
+
+is-short-requires : tie.Need-is-short-requires
+is-short-requires c κs = search needs
+
+returns : tie.Need-returns
+returns c = begin-short _ _ _ _ (sym (c .if1 .taken) ∙ c .before .is-short .ensures)
+
+shared-slice-read-bad-query : tie.Need-shared-slice-read-bad-query
+shared-slice-read-bad-query c = omega (arith, long _ (sym (sym (c .before .if1 .left) ∙ c .before .before .is-short .ensures)))
+
+bad-query-requires : tie.Need-bad-query-requires
+bad-query-requires c κs = search needs
+
+returns-2 : tie.Need-returns-2
+returns-2 c = begin-query _ _ _ _ (sym (c .before .before .before .if1 .left) ∙ c .before .before .before .before .is-short .ensures) (sym (c .if2 .taken) ∙ c .before .bad-query .ensures)
+
+at-desk-requires : tie.Need-at-desk-requires
+at-desk-requires c κs = sym (sym (c .before .before .before .if1 .left) ∙ c .before .before .before .before .is-short .ensures)
+
+returns-3 : tie.Need-returns-3
+returns-3 c = begin-busy _ _ _ _ (sym (c .before .before .before .before .before .if1 .left) ∙ c .before .before .before .before .before .before .is-short .ensures) (sym (c .before .before .if2 .left) ∙ c .before .before .before .bad-query .ensures) _ (c .before .at-desk .ensures) (c .if3 .taken)
+
+returns-4 : tie.Need-returns-4
+returns-4 c = begin-other _ _ _ _ (sym (c .before .before .before .before .before .before .if1 .left) ∙ c .before .before .before .before .before .before .before .is-short .ensures) (sym (c .before .before .before .if2 .left) ∙ c .before .before .before .before .bad-query .ensures) _ (c .before .before .at-desk .ensures) (c .before .if3 .left) (c .if4 .taken)
+
+returns-5 : tie.Need-returns-5
+returns-5 c = begin-read _ _ _ _ (sym (c .before .before .before .before .before .before .before .if1 .left) ∙ c .before .before .before .before .before .before .before .before .is-short .ensures) (sym (c .before .before .before .before .if2 .left) ∙ c .before .before .before .before .before .bad-query .ensures) _ (c .before .before .before .at-desk .ensures) (c .before .if4 .left) (c .if5 .taken)
+
+is-worn-requires : tie.Need-is-worn-requires
+is-worn-requires c κs = nodes-fit _ (idle-told _ _ (sym (sym (c .before .before .before .before .before .before .before .if1 .left) ∙ c .before .before .before .before .before .before .before .before .is-short .ensures)) (sym (c .before .before .before .at-desk .ensures) ∙ c .before .if4 .left))
+
+returns-6 : tie.Need-returns-6
+returns-6 c = begin-worn _ _ _ _ (sym (c .before .before .before .before .before .before .before .before .before .if1 .left) ∙ c .before .before .before .before .before .before .before .before .before .before .is-short .ensures) (sym (c .before .before .before .before .before .before .if2 .left) ∙ c .before .before .before .before .before .before .before .bad-query .ensures) _ (c .before .before .before .before .before .at-desk .ensures) (c .before .before .before .if4 .left) (c .before .before .if5 .left) (sym (c .if6 .taken) ∙ c .before .is-worn .ensures)
+
+returns-7 : tie.Need-returns-7
+returns-7 c = begin-write _ _ _ _ (sym (c .before .before .before .before .before .before .before .before .before .if1 .left) ∙ c .before .before .before .before .before .before .before .before .before .before .is-short .ensures) (sym (c .before .before .before .before .before .before .if2 .left) ∙ c .before .before .before .before .before .before .before .bad-query .ensures) _ (c .before .before .before .before .before .at-desk .ensures) (c .before .before .before .if4 .left) (c .before .before .if5 .left) (sym (c .if6 .left) ∙ c .before .is-worn .ensures)
+
+pub begin-code-spec : {M : Type 1} → statement M
+begin-code-spec =
+    tie.close
+    (tie.spec
+    is-short-requires
+    returns
+    shared-slice-read-bad-query
+    bad-query-requires
+    returns-2
+    at-desk-requires
+    returns-3
+    returns-4
+    returns-5
+    is-worn-requires
+    returns-6
+    returns-7)
