@@ -1,0 +1,70 @@
+-- `requests::begin` meets its contract: a refusal, or the client with its kind and its key. Assumes nothing.
+use mathlib.Core.Path.{sym, _∙_}
+use Rattle.rules.specs.Calls.{beginDid}
+use Rattle.checks.proofs.Sound.{client-fit, begin-told}
+use Rattle.requests.proofs.Laws.{asked-short, refused, begins}
+use borrow.Author.Needs.{needs}
+use Rattle.requests.proofs.begin.Statement.{statement}
+use Rattle.requests.proofs.begin.Tie as tie
+
+begin-code-requires : tie.Need-begin-code-requires
+begin-code-requires c κs = search needs
+
+same-length : tie.Need-same-length
+same-length c = search needs
+
+same-length-2 : tie.Need-same-length-2
+same-length-2 c = search needs
+
+same-length-3 : tie.Need-same-length-3
+same-length-3 c = search needs
+
+same-length-4 : tie.Need-same-length-4
+same-length-4 c = search needs
+
+returns : tie.Need-returns
+unfolding beginDid
+returns c = refused _ _ _ (c .before .begin-code .ensures) _ (c .if1 .taken)
+
+key-of-requires : tie.Need-key-of-requires
+key-of-requires c κs = asked-short _ _ _ _ (begin-told _ _ _ _ (sym (c .before .begin-code .ensures) ∙ c .if1 .left))
+
+slice-aggregate-begin : tie.Need-slice-aggregate-begin
+slice-aggregate-begin c = search needs
+
+begin-requires : tie.Need-begin-requires
+begin-requires c κs = let t = begin-told _ _ _ _ (sym (c .before .before .before .before .begin-code .ensures) ∙ c .before .before .before .if1 .left) in (client-fit _ (t .memories) _ (t .desk), search needs)
+
+same-length-5 : tie.Need-same-length-5
+same-length-5 c = search needs
+
+same-length-6 : tie.Need-same-length-6
+same-length-6 c = search needs
+
+same-length-7 : tie.Need-same-length-7
+same-length-7 c = search needs
+
+same-length-8 : tie.Need-same-length-8
+same-length-8 c = search needs
+
+returns-2 : tie.Need-returns-2
+returns-2 c = begins _ _ _ _ _ _ _ (c .before .before .before .before .before .before .before .begin-code .ensures) (c .before .before .before .before .before .before .if1 .left) (c .before .before .begin .ensures) (c .before .before .before .before .before .key-of .ensures)
+
+pub begin-spec : {M : Type 1} → statement M
+begin-spec =
+    tie.close
+    (tie.spec
+    begin-code-requires
+    same-length
+    same-length-2
+    same-length-3
+    same-length-4
+    returns
+    key-of-requires
+    slice-aggregate-begin
+    begin-requires
+    same-length-5
+    same-length-6
+    same-length-7
+    same-length-8
+    returns-2)

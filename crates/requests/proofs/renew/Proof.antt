@@ -1,0 +1,67 @@
+-- `requests::renew` meets its contract: a refusal, or no nodes and no answers. Assumes nothing.
+use mathlib.Core.Path.{sym, _∙_}
+use Rattle.rules.specs.Calls.{renewDid}
+use Rattle.checks.proofs.Sound.{nodes-fit, answers-fit, renew-told}
+use Rattle.requests.proofs.Laws.{refused, renews}
+use borrow.Author.Needs.{needs}
+use Rattle.requests.proofs.renew.Statement.{statement}
+use Rattle.requests.proofs.renew.Tie as tie
+use Rattle.nodes.proofs.empty.Reads as empty-reads′
+
+renew-code-requires : tie.Need-renew-code-requires
+renew-code-requires c κs = search needs
+
+same-length : tie.Need-same-length
+same-length c = search needs
+
+same-length-2 : tie.Need-same-length-2
+same-length-2 c = search needs
+
+same-length-3 : tie.Need-same-length-3
+same-length-3 c = search needs
+
+same-length-4 : tie.Need-same-length-4
+same-length-4 c = search needs
+
+returns : tie.Need-returns
+unfolding renewDid
+returns c = refused _ _ _ (c .before .renew-code .ensures) _ (c .if1 .taken)
+
+empty-requires : tie.Need-empty-requires
+empty-requires c κs = nodes-fit _ (renew-told _ (sym (c .before .before .renew-code .ensures) ∙ c .before .if1 .left) .0)
+
+empty-requires-2 : tie.Need-empty-requires-2
+empty-requires-2 c κs = answers-fit _ (renew-told _ (sym (c .before .before .before .before .before .before .renew-code .ensures) ∙ c .before .before .before .before .before .if1 .left) .0)
+
+same-length-5 : tie.Need-same-length-5
+same-length-5 c = search needs
+
+same-length-6 : tie.Need-same-length-6
+same-length-6 c = search needs
+
+same-length-7 : tie.Need-same-length-7
+same-length-7 c = search needs
+
+same-length-8 : tie.Need-same-length-8
+same-length-8 c = search needs
+
+returns-2 : tie.Need-returns-2
+returns-2 c = renews _ _ _ _ (c .before .before .before .before .before .before .before .before .before .renew-code .ensures) (c .before .before .before .before .before .before .before .before .if1 .left) (c .before .before .before .before .before .before .empty .ensures) (c .before .before .empty2 .ensures)
+
+pub renew-spec : {M : Type 1} → statement M
+renew-spec =
+    tie.close
+    (tie.spec
+    renew-code-requires
+    same-length
+    same-length-2
+    same-length-3
+    same-length-4
+    returns
+    empty-requires
+    empty-requires-2
+    same-length-5
+    same-length-6
+    same-length-7
+    same-length-8
+    returns-2)

@@ -1,0 +1,137 @@
+// The calls that are no step: begins, evictions and the renewal. Each takes memories of any contents, refuses by the checks' number and then
+// alters nothing, or does one change. The rules stand in rules (Calls).
+use rules::Outcome;
+ghost use mathlib.Core.Path.{_≡_};
+ghost use Prim.Native.Nat.{_≤_};
+ghost use lib.ListN.{length};
+ghost use Rattle.query.specs.Words.{queryOf, keyWords};
+ghost use Rattle.rules.specs.Memory.{mem};
+ghost use Rattle.rules.specs.Outcome.{did};
+ghost use Rattle.rules.specs.Calls.{beginDid, evictAnswerDid, evictNodeDid, renewDid};
+
+// ---- Begins
+// The key of a query as it arrives.
+fn key_of(asked: &[u32]) -> [u32; 7]
+    requires { ⌜ length (now asked) ≤ 8 ⌝ }
+    ensures { λ r. ⌜ r ≡ keyWords (queryOf (now (asked .entry))) ⌝ }
+{
+    let cols = columns::columns_of(asked);
+    let k = asked.len() / 2;
+    columns::keys::key_words(cols, k)
+}
+
+// Kinds: 1 read, 2 insert, 3 delete.
+fn begin(
+    table: &mut [u32],
+    nodes: &mut [u32],
+    answers: &mut [u32],
+    desks: &mut [u32],
+    kind: u32,
+    client: u32,
+    asked: &[u32],
+) -> Outcome
+    ensures { λ r. ⌜ did r (mem (now (table .exit)) (now (nodes .exit)) (now (answers .exit)) (now (desks .exit))) ≡ beginDid (mem (now (table .entry)) (now (nodes .entry)) (now (answers .entry)) (now (desks .entry))) kind client (now (asked .entry)) ⌝ }
+{
+    let code = checks::begin_code(table, nodes, answers, desks, kind, client, asked);
+    if code != 0 {
+        return Outcome::Refused(code);
+    }
+    let key = key_of(asked);
+    clients::begin(desks, client as usize, kind, &key);
+    Outcome::Accepted
+}
+
+pub fn begin_read(
+    table: &mut [u32],
+    nodes: &mut [u32],
+    answers: &mut [u32],
+    desks: &mut [u32],
+    client: u32,
+    asked: &[u32],
+) -> Outcome
+    ensures { λ r. ⌜ did r (mem (now (table .exit)) (now (nodes .exit)) (now (answers .exit)) (now (desks .exit))) ≡ beginDid (mem (now (table .entry)) (now (nodes .entry)) (now (answers .entry)) (now (desks .entry))) 1 client (now (asked .entry)) ⌝ }
+{
+    begin(table, nodes, answers, desks, 1, client, asked)
+}
+
+pub fn begin_insert(
+    table: &mut [u32],
+    nodes: &mut [u32],
+    answers: &mut [u32],
+    desks: &mut [u32],
+    client: u32,
+    asked: &[u32],
+) -> Outcome
+    ensures { λ r. ⌜ did r (mem (now (table .exit)) (now (nodes .exit)) (now (answers .exit)) (now (desks .exit))) ≡ beginDid (mem (now (table .entry)) (now (nodes .entry)) (now (answers .entry)) (now (desks .entry))) 2 client (now (asked .entry)) ⌝ }
+{
+    begin(table, nodes, answers, desks, 2, client, asked)
+}
+
+pub fn begin_delete(
+    table: &mut [u32],
+    nodes: &mut [u32],
+    answers: &mut [u32],
+    desks: &mut [u32],
+    client: u32,
+    asked: &[u32],
+) -> Outcome
+    ensures { λ r. ⌜ did r (mem (now (table .exit)) (now (nodes .exit)) (now (answers .exit)) (now (desks .exit))) ≡ beginDid (mem (now (table .entry)) (now (nodes .entry)) (now (answers .entry)) (now (desks .entry))) 3 client (now (asked .entry)) ⌝ }
+{
+    begin(table, nodes, answers, desks, 3, client, asked)
+}
+
+// ---- Evictions
+// Takes out the filed answer at a place; the rest close up.
+pub fn evict_answer(
+    table: &mut [u32],
+    nodes: &mut [u32],
+    answers: &mut [u32],
+    desks: &mut [u32],
+    place: u32,
+) -> Outcome
+    ensures { λ r. ⌜ did r (mem (now (table .exit)) (now (nodes .exit)) (now (answers .exit)) (now (desks .exit))) ≡ evictAnswerDid (mem (now (table .entry)) (now (nodes .entry)) (now (answers .entry)) (now (desks .entry))) place ⌝ }
+{
+    let code = checks::evict_answer_code(table, nodes, answers, desks, place);
+    if code != 0 {
+        return Outcome::Refused(code);
+    }
+    answers::evict(answers, place as usize);
+    Outcome::Accepted
+}
+
+// Takes out the node at a place, which has no pending write; the floor does not fall below its revision.
+pub fn evict_node(
+    table: &mut [u32],
+    nodes: &mut [u32],
+    answers: &mut [u32],
+    desks: &mut [u32],
+    place: u32,
+) -> Outcome
+    ensures { λ r. ⌜ did r (mem (now (table .exit)) (now (nodes .exit)) (now (answers .exit)) (now (desks .exit))) ≡ evictNodeDid (mem (now (table .entry)) (now (nodes .entry)) (now (answers .entry)) (now (desks .entry))) place ⌝ }
+{
+    let code = checks::evict_node_code(table, nodes, answers, desks, place);
+    if code != 0 {
+        return Outcome::Refused(code);
+    }
+    nodes::evict(nodes, place as usize);
+    Outcome::Accepted
+}
+
+// ---- Renewal
+// With every client idle: no answers, no nodes, the floor 1. The table stays.
+pub fn renew(
+    table: &mut [u32],
+    nodes: &mut [u32],
+    answers: &mut [u32],
+    desks: &mut [u32],
+) -> Outcome
+    ensures { λ r. ⌜ did r (mem (now (table .exit)) (now (nodes .exit)) (now (answers .exit)) (now (desks .exit))) ≡ renewDid (mem (now (table .entry)) (now (nodes .entry)) (now (answers .entry)) (now (desks .entry))) ⌝ }
+{
+    let code = checks::renew_code(table, nodes, answers, desks);
+    if code != 0 {
+        return Outcome::Refused(code);
+    }
+    nodes::empty(nodes);
+    answers::empty(answers);
+    Outcome::Accepted
+}
