@@ -13,7 +13,7 @@ use Rattle.rules.specs.Memory.{Mem, storeIn}
 use Rattle.rules.specs.Outcome.{Stepped, number}
 use Rattle.rules.specs.Refusals.{columns, client, stepCode}
 use Rattle.rules.specs.Steps.{progress}
-use Rattle.rules.specs.Calls.{stepDone}
+use Rattle.rules.specs.Calls.{stepDid}
 use Rattle.rules.specs.History.{Call, beginRead, beginInsert, beginDelete, step, abandon, evictAnswer, evictNode, renew, callDid}
 use Rattle.revisions.proofs.Effect.{NoDup}
 use Rattle.machine.proofs.Machine as machine
@@ -34,8 +34,8 @@ progress-led m tray d g =
     (λ t. rw t (read-led m tray d g (eqb-true (kind (client m d)) reads t)))
     (λ t. rw t (write-led m tray d g (eqb-false (kind (client m d)) reads t)))
 
-step-led : (m : Mem) (tray : List ℕ) (d : ℕ) → Fits m → NoDup (storeIn (m .nodes) .nodes) → Led m (machine.step d) (stepDone m tray d)
-unfolding stepDone
+step-led : (m : Mem) (tray : List ℕ) (d : ℕ) → Fits m → NoDup (storeIn (m .nodes) .nodes) → Led m (machine.step d) (stepDid m tray d)
+unfolding stepDid
 step-led m tray d f once =
     byTest (eqb (stepCode m tray d) 0)
     (λ t. let s = step-told m tray d (eqb-true (stepCode m tray d) 0 t) in rw t (progress-led m tray d (going m f once d (s .1) (s .2))))

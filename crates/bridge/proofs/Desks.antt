@@ -17,7 +17,7 @@ use Rattle.query.proofs.Words.{query-in-key, key-is-key}
 use Rattle.rules.specs.Sizes.{maxList}
 use Rattle.rules.specs.Table.{Write, insert, delete, target}
 use Rattle.rules.specs.Answers.{Entry, keyIn, lengthIn}
-use Rattle.rules.specs.Client.{Client, kind, steps, sawMark, didChange, foundFull, entryOf, isIdle, queryAt, writeAt, lastStep, isBad, begun, reads, inserts, deletes}
+use Rattle.rules.specs.Client.{Client, kind, steps, sawMark, didChange, foundFull, entryOf, isIdle, queryAt, writeAt, stepsInAll, isBad, begun, reads, inserts, deletes}
 use Rattle.rules.specs.Client as rules
 use Rattle.laws.proofs.Lists.{same-refl, same-eq}
 use Rattle.machine.proofs.Keys.{Key}
@@ -33,7 +33,7 @@ pub record Busy (k : ℕ) (c : Client) : Type 0 where
   pub high : kind c ≤ 3
   pub key : isKey k (keyIn (entryOf c)) ≡ true
   pub names : kind c ≡ inserts → namesAll (queryAt k c) ≡ true
-  pub going : steps c < lastStep (kind c) (queryAt k c)
+  pub going : steps c < stepsInAll (kind c) (queryAt k c)
   pub short : lengthIn (entryOf c) ≤ maxList
 
 pub and-not : (a b : Bool) → (a && not b) ≡ false → a ≡ true → b ≡ true
@@ -47,7 +47,7 @@ faults k c =
     (eqb (kind c) 0 || ltb 3 (kind c))
     || (not (isKey k (keyIn (entryOf c)))
     || ((eqb (kind c) inserts && not (namesAll (queryAt k c)))
-    || (leb (lastStep (kind c) (queryAt k c)) (steps c)
+    || (leb (stepsInAll (kind c) (queryAt k c)) (steps c)
     || ltb maxList (lengthIn (entryOf c)))))
 
 bad-faults : (k : ℕ) (c : Client) → isBad k c ≡ (not (isIdle c) && faults k c)
@@ -63,8 +63,8 @@ faults-busy k c h =
     let s = or-false-r (not (isKey k (keyIn (entryOf c)))) _ r in
     let d = or-false-l (eqb (kind c) inserts && not (namesAll (queryAt k c))) _ s in
     let t = or-false-r (eqb (kind c) inserts && not (namesAll (queryAt k c))) _ s in
-    let e = or-false-l (leb (lastStep (kind c) (queryAt k c)) (steps c)) _ t in
-    let f = or-false-r (leb (lastStep (kind c) (queryAt k c)) (steps c)) _ t in
+    let e = or-false-l (leb (stepsInAll (kind c) (queryAt k c)) (steps c)) _ t in
+    let f = or-false-r (leb (stepsInAll (kind c) (queryAt k c)) (steps c)) _ t in
     let z : kind c ≡ 0 → ⊥ = eqb-false (kind c) 0 (or-false-l (eqb (kind c) 0) _ a) in
     record {
       low = omega arith;
@@ -211,7 +211,7 @@ module _ (k : ℕ) (c t : Client) (n : Next c t) where
   unfolding writeAt
   next-write = rw (n .kinds, next-query)
 
-  pub next-busy : Busy k c → steps c + 1 < lastStep (kind c) (queryAt k c) → lengthIn (entryOf t) ≤ maxList → Busy k t
+  pub next-busy : Busy k c → steps c + 1 < stepsInAll (kind c) (queryAt k c) → lengthIn (entryOf t) ≤ maxList → Busy k t
   next-busy b h s = record {
     low = rw (n .kinds) (b .low);
     high = rw (n .kinds) (b .high);
@@ -222,16 +222,16 @@ module _ (k : ℕ) (c t : Client) (n : Next c t) where
   }
 
 -- how many steps
-pub last-read : (k : ℕ) (c : Client) → kind c ≡ reads → lastStep (kind c) (queryAt k c) ≡ looksOf k (entryOf c) + 3
-unfolding lastStep looksOf queryAt
+pub last-read : (k : ℕ) (c : Client) → kind c ≡ reads → stepsInAll (kind c) (queryAt k c) ≡ looksOf k (entryOf c) + 3
+unfolding stepsInAll looksOf queryAt
 last-read k c r = rw (eq-eqb (kind c) reads r)
 
-pub last-write : (k : ℕ) (c : Client) → (kind c ≡ reads → ⊥) → lastStep (kind c) (queryAt k c) ≡ writeCount (queryAt k c) + 1 + writeCount (queryAt k c)
-unfolding lastStep
+pub last-write : (k : ℕ) (c : Client) → (kind c ≡ reads → ⊥) → stepsInAll (kind c) (queryAt k c) ≡ writeCount (queryAt k c) + 1 + writeCount (queryAt k c)
+unfolding stepsInAll
 last-write k c r = rw (ne-eqb (kind c) reads r)
 
-last-some : (x : ℕ) (q : Query) → 0 < lastStep x q
-unfolding lastStep
+last-some : (x : ℕ) (q : Query) → 0 < stepsInAll x q
+unfolding stepsInAll
 last-some x q = byTest (eqb x reads) (λ e. rw e (omega arith)) (λ e. rw e (omega arith))
 
 -- ---- What a begin leaves

@@ -25,7 +25,7 @@ use Rattle.rules.specs.Client as rules
 use Rattle.rules.specs.Memory.{Mem, withFiled, storeIn, answersIn, withAnswers, renewed}
 use Rattle.rules.specs.Refusals.{columns, client, beginCode, abandonCode, evictAnswerCode, evictNodeCode, renewCode}
 use Rattle.rules.specs.Outcome.{did}
-use Rattle.rules.specs.Steps.{nowAt, restored}
+use Rattle.rules.specs.Steps.{nowAt, storeBack}
 use Rattle.rules.specs.Calls.{beginDid, marksSet, takenBack, abandoned, abandonDid, evictAnswerDid, evictNodeDid, renewDid}
 use Rattle.rules.specs.History.{untrayed}
 use Rattle.revisions.proofs.Effect.{NoDup}
@@ -211,10 +211,10 @@ unfolding stateOf desksOf
 all-idle m h d = byTest (ltb d maxClients) (λ t. rw t (idle-at (columns m) (client m d) (h d (ltb-true d maxClients t)))) (λ t. rw t)
 
 renewed-after : (m : Mem) → Fits m → After m (renewed m) (with-filed (with-store (stateOf m) (store 1 [])) [])
-unfolding renewed restored Each
+unfolding renewed storeBack Each
 renewed-after m f =
     let a = at-store m f (store 1 []) tt (omega arith) in
-    let b = at-filed (restored m (store 1 [])) (a .fits) [] (wide-nil 152) (omega arith) (λ e i. in-none i) in
+    let b = at-filed (storeBack m (store 1 [])) (a .fits) [] (wide-nil 152) (omega arith) (λ e i. in-none i) in
     record { state = b .state ∙ ap (λ (s : State). with-filed s []) (a .state); fits = b .fits; same = b .same ∙ a .same }
 
 pub renew-led : (m : Mem) → Fits m → Led m renew (untrayed (renewDid m))

@@ -15,7 +15,7 @@ use Rattle.query.proofs.Words.{query-in-length}
 use Rattle.rules.specs.Sizes.{maxList}
 use Rattle.rules.specs.Table.{Write, target}
 use Rattle.rules.specs.Answers.{Entry, keyIn}
-use Rattle.rules.specs.Client.{Client, kind, steps, sawMark, didChange, foundFull, entryOf, queryAt, writeAt, lastStep, stepped, noted, holding, wrote, reads}
+use Rattle.rules.specs.Client.{Client, kind, steps, sawMark, didChange, foundFull, entryOf, queryAt, writeAt, stepsInAll, stepped, noted, holding, wrote, reads}
 use Rattle.machine.proofs.Keys.{Key, Val}
 use Rattle.machine.proofs.Machine.{looking, tabling, filing, marking, raising}
 use Rattle.bridge.proofs.View.{keyOf, revisionsIn, looksOf}
@@ -112,7 +112,7 @@ module _ (k : ℕ) (c : Client) (w : length c ≡ 157) (b : Busy k c) (r : kind 
   next-target : (t : Client) → Next c t → writeCount (target (writeAt k t)) ≡ writeCount (target (writeAt k c))
   next-target t n = ap (λ (v : Write). writeCount (target v)) (next-write k c t n)
 
-  stepped-busy : steps c + 1 < lastStep (kind c) (queryAt k c) → Busy k (stepped c)
+  stepped-busy : steps c + 1 < stepsInAll (kind c) (queryAt k c) → Busy k (stepped c)
   stepped-busy h = next-busy k c (stepped c) (stepped-next c w) b h (rw (stepped-entry c w) (b .short))
 
   -- a mark

@@ -27,7 +27,7 @@ use Rattle.rules.specs.Client.{kind, sawMark, queryAt, stepped, noted, holding,
 use Rattle.rules.specs.Client as rules
 use Rattle.rules.specs.Memory.{Mem, withFiled, recordsIn, storeIn, answersIn, withAnswers}
 use Rattle.rules.specs.Refusals.{columns, client}
-use Rattle.rules.specs.Outcome.{stepDid}
+use Rattle.rules.specs.Outcome.{didWith}
 use Rattle.rules.specs.Steps.{nowAt, answered, lookDid, fetchDid, tableDid, fileDid, readDid}
 use Rattle.revisions.proofs.Effect.{has, eff, mrk}
 use Rattle.revisions.proofs.Operations.{EnsuredOk, ensured-ok, node-eff, node-mrk}
@@ -112,7 +112,7 @@ module _ (m : Mem) (tray : List ℕ) (d : ℕ) (g : Going m d) (r : kind (client
   missed-led : stepsAt m d ≡ looksAt m d
       → (sawMark (client m d) ≡ true) ⊎ ((a : Ans) → In a (stateOf m .filed)
       → holds-for (keyAt m d) (notedAt m d) a ≡ false)
-      → Led m (step d) (stepDid Accepted (nowAt m d (stepped (client m d))) tray)
+      → Led m (step d) (didWith Accepted (nowAt m d (stepped (client m d))) tray)
   unfolding resultIn
   missed-led e out =
       led Accepted tray
@@ -193,7 +193,7 @@ module _ (m : Mem) (tray : List ℕ) (d : ℕ) (g : Going m d) (r : kind (client
 
   took-led : (l : List Record) → l ≡ listOf (askedAt m d) (recordsIn (columns m) (m .table))
       → stepsAt m d ≡ looksAt m d + 1 → length l ≤ maxList → sawMark (client m d) ≡ false
-      → Led m (step d) (stepDid Accepted (nowAt m d (holding l (client m d))) tray)
+      → Led m (step d) (didWith Accepted (nowAt m d (holding l (client m d))) tray)
   unfolding resultIn
   took-led l is e h s =
       let q : Key = keyAt m d in
@@ -214,7 +214,7 @@ module _ (m : Mem) (tray : List ℕ) (d : ℕ) (g : Going m d) (r : kind (client
       (λ t. rw t (taken (ltb-false maxList (length l) t)))
     where
       taken : length l ≤ maxList
-          → Led m (step d) (cond (sawMark (client m d)) (answered m tray d (length l) (flat l) false) (stepDid Accepted (nowAt m d (holding l (client m d))) tray))
+          → Led m (step d) (cond (sawMark (client m d)) (answered m tray d (length l) (flat l) false) (didWith Accepted (nowAt m d (holding l (client m d))) tray))
       taken h = byTest (sawMark (client m d)) (λ s. rw s (listed-led l is e h s)) (λ s. rw s (took-led l is e h s))
 
   -- ---- A file step

@@ -17,7 +17,7 @@ use Rattle.rules.specs.declared.Outcome.the-variants.{Refused}
 use Rattle.rules.specs.Nodes.{isWorn, pending}
 use Rattle.rules.specs.Client.{kind, steps, isIdle, isBad, queryAt, reads, inserts}
 use Rattle.rules.specs.Memory.{Mem, storeIn}
-use Rattle.rules.specs.Outcome.{Did, did, stepDid}
+use Rattle.rules.specs.Outcome.{Did, did, didWith}
 use Rattle.rules.specs.Refusals.{columns, client, isShort, badQuery, isUnsound, noDesk, isCommitted, allIdle, atDesk, beginCode, stepCode, abandonCode, evictAnswerCode, evictNodeCode, renewCode}
 use Rattle.rules.specs.Calls.{unless}
 use Rattle.rules.specs.History.{isAccepted, untrayed}
@@ -32,7 +32,7 @@ turned-down : (n : ℕ) → n ≤ 11 → (n ≡ 0 → ⊥) → isAccepted n ≡ 
 unfolding isAccepted
 turned-down n l ne = rw (ne-eqb n 0 ne, ne-eqb n 12 (λ e. omega arith), ne-eqb n 13 (λ e. omega arith))
 
-pub refused-led : (m : Mem) (c : Call) (n : ℕ) (tray : List ℕ) → Fits m → n ≤ 11 → (n ≡ 0 → ⊥) → Led m c (stepDid (Refused n) m tray)
+pub refused-led : (m : Mem) (c : Call) (n : ℕ) (tray : List ℕ) → Fits m → n ≤ 11 → (n ≡ 0 → ⊥) → Led m c (didWith (Refused n) m tray)
 unfolding resultIn
 refused-led m c n tray f l ne = led (Refused n) tray (as-it-was m f) (nothing (turned-down n l ne))
 

@@ -17,9 +17,9 @@ use Rattle.rules.specs.Nodes.{Store}
 use Rattle.rules.specs.Answers.{Entry}
 use Rattle.rules.specs.Client.{Client, isBad}
 use Rattle.rules.specs.Memory.{Mem, withTable, withFiled, recordsIn, withRecords, answersIn, withAnswers}
-use Rattle.rules.specs.Outcome.{Stepped, stepDid}
+use Rattle.rules.specs.Outcome.{Stepped, didWith}
 use Rattle.rules.specs.Refusals.{columns, client}
-use Rattle.rules.specs.Steps.{nowAt, restored}
+use Rattle.rules.specs.Steps.{nowAt, storeBack}
 use Rattle.revisions.proofs.Nodes.{AllRows}
 use Rattle.machine.proofs.Base.{In, upd, upd-same, upd-other}
 use Rattle.machine.proofs.Machine.{Desk, State, Call, at-desk, with-store, with-filed, with-tab}
@@ -42,7 +42,7 @@ pub record Led (m : Mem) (c : Call) (x : Stepped) : Type 0 where
   pub same : columns (x .mem) ≡ columns m
 
 pub led : {m n : Mem} {s : State} {c : Call} (o : Outcome) (tray : List ℕ) → After m n s → Did (stateOf m) c (resultIn (columns m) tray o) s
-    → Led m c (stepDid o n tray)
+    → Led m c (didWith o n tray)
 unfolding resultOf
 led o tray a x = record { did = rw (a .state) x; fits = a .fits; same = a .same }
 
@@ -108,8 +108,8 @@ module _ (m : Mem) (f : Fits m) (d : ℕ) (h : d < 12) (c : Client) (x : Desk) (
 
 -- ---- The nodes
 module _ (m : Mem) (f : Fits m) (t : Store) (r : AllRows (t .nodes)) (most : length (t .nodes) ≤ maxNodes) where
-  pub at-store : After m (restored m t) (with-store (stateOf m) t)
-  unfolding stateOf with-store filedOf restored columns desksOf client
+  pub at-store : After m (storeBack m t) (with-store (stateOf m) t)
+  unfolding stateOf with-store filedOf storeBack columns desksOf client
   at-store = record {
     state = state-eq refl refl (store-with (m .nodes) (f .nodes-long) (f .nodes) t r most) refl refl;
     fits = record {

@@ -27,7 +27,7 @@ use Rattle.rules.specs.Client.{kind, didChange, foundFull, queryAt, wrote, read
 use Rattle.rules.specs.Client as rules
 use Rattle.rules.specs.Memory.{Mem, recordsIn, storeIn}
 use Rattle.rules.specs.Refusals.{columns, client}
-use Rattle.rules.specs.Steps.{restored, markDid, writeTableDid, endOf, raiseDid, writeDid}
+use Rattle.rules.specs.Steps.{storeBack, markDid, writeTableDid, endOf, raiseDid, writeDid}
 use Rattle.revisions.proofs.Operations.{MarkedOk, marked-ok, RaisedTo, RaisedOk, raised-ok}
 use Rattle.machine.proofs.Keys.{marksOf, length-marksOf}
 use Rattle.machine.proofs.Machine.{idle, step, write-end, at-desk, with-store}
@@ -124,7 +124,7 @@ module _ (m : Mem) (tray : List ℕ) (d : ℕ) (g : Going m d) (r : kind (client
   unfolding resultIn endOf write-end
   end-is = byTest (foundFull (client m d)) (λ e. rw e) (λ e. rw e)
 
-  raised-after : (p : Words) (t : Store) → RaisedTo true (p ∷ []) (storeIn (m .nodes)) t → After m (restored m t) (with-store (stateOf m) t)
+  raised-after : (p : Words) (t : Store) → RaisedTo true (p ∷ []) (storeIn (m .nodes)) t → After m (storeBack m t) (with-store (stateOf m) t)
   raised-after p t k =
       let f = g .fits in
       let n = length-nodes (m .nodes) (f .nodes-long) (f .nodes) in

@@ -18,7 +18,7 @@ use Rattle.columns.specs.Columns.{four}
 use Rattle.columns.proofs.Laws.{four-back, named-most}
 use Rattle.rules.specs.Sizes.{maxList}
 use Rattle.rules.specs.Answers.{keyIn, lengthIn}
-use Rattle.rules.specs.Client.{Client, kind, steps, entryOf, inserts, idle, isIdle, queryAt, lastStep, isBad}
+use Rattle.rules.specs.Client.{Client, kind, steps, entryOf, inserts, idle, isIdle, queryAt, stepsInAll, isBad}
 
 -- ---- counts of nodes
 power-most : (n : ℕ) → n ≤ 4 → 2 ^ n ≤ 16
@@ -46,8 +46,8 @@ length-query k c = query-in-length k (keyIn (entryOf c))
 pub columns-back : (k : ℕ) (c : Client) (cols : List Column) → cols ≡ four (queryAt k c) → take k cols ≡ queryAt k c
 columns-back k c cols e = ap (take k) e ∙ four-back k (queryAt k c) (length-query k c)
 
-pub last-most : (x : ℕ) (q : Query) → length q ≤ 4 → lastStep x q ≤ 33
-unfolding lastStep readCount writeCount
+pub last-most : (x : ℕ) (q : Query) → length q ≤ 4 → stepsInAll x q ≤ 33
+unfolding stepsInAll readCount writeCount
 last-most x q h =
     let a : 2 ^ named q ≤ 16 = (let m : named q ≤ length q = named-most q in power-most (named q) (omega arith)) in
     let b : 2 ^ length q ≤ 16 = power-most (length q) h in
@@ -58,12 +58,12 @@ last-most x q h =
     go false a b = omega arith
 
 module _ (x : ℕ) (cols : List Column) (k : ℕ) where
-  pub last-read : (n p : ℕ) → n ≡ named (take k cols) → p ≡ 2 ^ n → x ≡ 1 → p + 3 ≡ lastStep x (take k cols)
-  unfolding lastStep readCount
+  pub last-read : (n p : ℕ) → n ≡ named (take k cols) → p ≡ 2 ^ n → x ≡ 1 → p + 3 ≡ stepsInAll x (take k cols)
+  unfolding stepsInAll readCount
   last-read n p e g h = rw (eq-eqb x 1 h, g, e)
 
-  pub last-write : (p : ℕ) → p ≡ 2 ^ k → k ≤ length cols → (x ≡ 1 → ⊥) → p + 1 + p ≡ lastStep x (take k cols)
-  unfolding lastStep writeCount
+  pub last-write : (p : ℕ) → p ≡ 2 ^ k → k ≤ length cols → (x ≡ 1 → ⊥) → p + 1 + p ≡ stepsInAll x (take k cols)
+  unfolding stepsInAll writeCount
   last-write p g l h = rw (ne-eqb x 1 h, length-take-le k cols l, g)
 
   -- an insert with a wildcard
@@ -89,7 +89,7 @@ unfoldable isBadBusy : ℕ → Client → Bool
 isBadBusy k c =
     not (isKey k (keyIn (entryOf c)))
     || ((eqb (kind c) inserts && not (namesAll (queryAt k c)))
-    || (leb (lastStep (kind c) (queryAt k c)) (steps c)
+    || (leb (stepsInAll (kind c) (queryAt k c)) (steps c)
     || ltb maxList (lengthIn (entryOf c))))
 
 module _ (k : ℕ) (c : Client) where
@@ -122,7 +122,7 @@ module _ (k : ℕ) (c : Client) where
       insert-is : (b : Bool) → b ≡ (eqb x 2 && not (namesAll (take k cols))) → b ≡ (eqb (kind c) inserts && not (namesAll (queryAt k c)))
       insert-is b r = r ∙ rw (columns-back k c cols q, is)
 
-      step-is : (e : Bool) → e ≡ leb (lastStep x (take k cols)) (steps c) → e ≡ leb (lastStep (kind c) (queryAt k c)) (steps c)
+      step-is : (e : Bool) → e ≡ leb (stepsInAll x (take k cols)) (steps c) → e ≡ leb (stepsInAll (kind c) (queryAt k c)) (steps c)
       step-is e t = t ∙ rw (columns-back k c cols q, is)
 
       pub bad-insert : (b : Bool) → b ≡ (eqb x 2 && not (namesAll (take k cols))) → b ≡ true → true ≡ isBad k c
@@ -130,11 +130,11 @@ module _ (k : ℕ) (c : Client) where
       bad-insert b r g = rw (← p, h, ← insert-is b r, g) at whole
 
       module _ (b : Bool) (r : b ≡ (eqb x 2 && not (namesAll (take k cols)))) (g : b ≡ false) where
-        pub bad-step : (e : Bool) → e ≡ leb (lastStep x (take k cols)) (steps c) → e ≡ true → true ≡ isBad k c
+        pub bad-step : (e : Bool) → e ≡ leb (stepsInAll x (take k cols)) (steps c) → e ≡ true → true ≡ isBad k c
         unfolding isBadBusy
         bad-step e t l = rw (← p, h, ← insert-is b r, g, ← step-is e t, l) at whole
 
-        pub bad-length : (e z : Bool) → e ≡ leb (lastStep x (take k cols)) (steps c) → e ≡ false → z ≡ ltb 32 (lengthIn (entryOf c)) → z ≡ isBad k c
+        pub bad-length : (e z : Bool) → e ≡ leb (stepsInAll x (take k cols)) (steps c) → e ≡ false → z ≡ ltb 32 (lengthIn (entryOf c)) → z ≡ isBad k c
         unfolding isBadBusy
         bad-length e z t l m = m ∙ (rw (← p, h, ← insert-is b r, g, ← step-is e t, l) at whole)
 
@@ -144,8 +144,8 @@ pub record Sound (k : ℕ) (c : Client) : Type 0 where
   pub most : kind c ≤ 3
   pub key : isKey k (keyIn (entryOf c)) ≡ true
   pub names : kind c ≡ inserts → namesAll (queryAt k c) ≡ true
-  pub step : steps c < lastStep (kind c) (queryAt k c)
-  pub last : lastStep (kind c) (queryAt k c) ≤ 33
+  pub step : steps c < stepsInAll (kind c) (queryAt k c)
+  pub last : stepsInAll (kind c) (queryAt k c) ≤ 33
   pub list : lengthIn (entryOf c) ≤ 32
 
 or-false : (a b : Bool) → a || b ≡ false → (a ≡ false) × (b ≡ false)
@@ -174,7 +174,7 @@ sound-client k c h e i =
       most = ltb-false 3 (kind c) (b .1);
       key = not-false _ (y .0);
       names = named-all (kind c) (namesAll (queryAt k c)) (z .0);
-      step = leb-false (lastStep (kind c) (queryAt k c)) (steps c) (w .0);
+      step = leb-false (stepsInAll (kind c) (queryAt k c)) (steps c) (w .0);
       last = last-most (kind c) (queryAt k c) (let l : length (queryAt k c) ≡ k = length-query k c in omega arith);
       list = ltb-false maxList (lengthIn (entryOf c)) (w .1);
     }

@@ -9,7 +9,7 @@ ghost use Rattle.lists.specs.Lists.{allBelow, written};
 ghost use Rattle.query.specs.Words.{isKey, namesAll};
 ghost use Rattle.columns.specs.Columns.{four};
 ghost use Rattle.rules.specs.Answers.{keyIn, lengthIn, listIn};
-ghost use Rattle.rules.specs.Client.{kind, steps, sawMark, didChange, foundFull, entryOf, idle, isIdle, queryAt, lastStep, isBad, stepped, flag, noted, wrote};
+ghost use Rattle.rules.specs.Client.{kind, steps, sawMark, didChange, foundFull, entryOf, idle, isIdle, queryAt, stepsInAll, isBad, stepped, flag, noted, wrote};
 ghost use Rattle.rules.specs.Memory.{clientIn, withClient};
 ghost use Rattle.clients.specs.Clients.{Fit, idleAt, begunWith, listSet};
 use query::Column;
@@ -195,7 +195,7 @@ pub fn set_list(desks: &mut [u32], d: usize, n: usize, k: usize)
 // How many steps a client of this kind makes at the most.
 pub fn last_step(kind: u32, cols: [Column; 4], k: usize) -> u32
     requires { ⌜ k ≤ 4 ⌝ }
-    ensures { λ r. ⌜ r ≡ lastStep kind (take k cols) ⌝ }
+    ensures { λ r. ⌜ r ≡ stepsInAll kind (take k cols) ⌝ }
 {
     if kind == 1 {
         let named = columns::keys::named(cols, k);
@@ -229,7 +229,7 @@ fn bad_insert(kind: u32, cols: [Column; 4], k: usize) -> bool
 // Whether a client has made all its steps and is not idle.
 fn bad_step(desks: &[u32], d: usize, kind: u32, cols: [Column; 4], k: usize) -> bool
     requires { ⌜ Fit (now desks) d × (k ≤ 4) ⌝ }
-    ensures { λ r. ⌜ r ≡ leb (lastStep kind (take k cols)) (steps (clientIn (now (desks .entry)) d)) ⌝ }
+    ensures { λ r. ⌜ r ≡ leb (stepsInAll kind (take k cols)) (steps (clientIn (now (desks .entry)) d)) ⌝ }
 {
     let made = steps_of(desks, d);
     last_step(kind, cols, k) <= made

@@ -19,12 +19,12 @@ use Rattle.rules.specs.declared.Outcome.the-variants.{Answered}
 use Rattle.rules.specs.Table.{listOf}
 use Rattle.rules.specs.Nodes.{labelIn, pending, revision, withPending, withRevision, hasLabel, nodePlace, isPresent, nodeOf, withNode, evictNode, added, isFree, oldestFree, makeRoom, addedIn, ensured, isHigh, isWorn}
 use Rattle.rules.specs.Answers.{Entry, keyIn, lengthIn, revisionIn, listIn, hasKeyOf, atLeast, serves, fetchPlace, keyPlace, filed, isLong, someLong}
-use Rattle.rules.specs.Client.{reads, kind, steps, sawMark, entryOf, idle, isIdle, begun, queryAt, lastStep, isBad, stepped, noted, holding}
+use Rattle.rules.specs.Client.{reads, kind, steps, sawMark, entryOf, idle, isIdle, begun, queryAt, stepsInAll, isBad, stepped, noted, holding}
 use Rattle.rules.specs.Memory.{Mem, mem, recordsIn, storeIn, withStore, answersIn, withAnswers, columnsAt, clientIn, withClient, cleared, opened}
 use Rattle.rules.specs.Outcome.{number}
 use Rattle.rules.specs.Refusals.{columns, client, isShort, badColumns, badQuery, isUnsound, noDesk, openCode, beginCode, atDesk, stepCode}
-use Rattle.rules.specs.Steps.{nowAt, restored, answered, lookDid, fetchDid, tableDid, fileDid, readDid, progress}
-use Rattle.rules.specs.Calls.{unless, beginDid, stepDone}
+use Rattle.rules.specs.Steps.{nowAt, storeBack, answered, lookDid, fetchDid, tableDid, fileDid, readDid, progress}
+use Rattle.rules.specs.Calls.{unless, beginDid, stepDid}
 use Rattle.rules.specs.History.{Call, beginRead, beginInsert, beginDelete, step, abandon, evictAnswer, evictNode as dropNode, renew, untrayed, callDid, isAccepted, memAfter}
 use Rattle.machine.proofs.Keys.{Key, sameKey, sameQuery, sameColumn, sameKey-eq}
 use Rattle.demands.specs.Whole.{History, memAt, callAt, replyAt, acceptedAt, endsWork, endsAt, UnderWay}
@@ -104,7 +104,7 @@ passes i m [] = true
 passes i m (c ∷ cs) = tests i m c && passes (suc i) (callDid m c .mem) cs
 
 computed : passes 0 (opened 1 lent) played ≡ true
-unfolding same keep place without allBelow listed padded written rows flat entriesIn withEntries pick readNode named readCount columnOf queryOf wellMarked isQuery namesAll termValue columnValue tag tags labelWords marks keyWords columnsIn queryIn isKey listOf labelIn pending revision withPending withRevision hasLabel nodePlace isPresent nodeOf withNode evictNode added isFree oldestFree makeRoom addedIn ensured isHigh isWorn keyIn lengthIn revisionIn listIn hasKeyOf atLeast serves fetchPlace keyPlace filed isLong someLong kind steps sawMark entryOf idle isIdle begun queryAt lastStep isBad stepped noted holding recordsIn storeIn withStore answersIn withAnswers columnsAt clientIn withClient cleared opened columns client isShort badColumns badQuery isUnsound noDesk openCode beginCode atDesk stepCode nowAt restored answered lookDid fetchDid tableDid fileDid readDid progress unless beginDid stepDone untrayed callDid isAccepted endsWork endsAt isOpen isQuiet stillThere keepsNodes number lies admits sameKey sameQuery sameColumn ready onFile calmAt mayFile goes tests passes
+unfolding same keep place without allBelow listed padded written rows flat entriesIn withEntries pick readNode named readCount columnOf queryOf wellMarked isQuery namesAll termValue columnValue tag tags labelWords marks keyWords columnsIn queryIn isKey listOf labelIn pending revision withPending withRevision hasLabel nodePlace isPresent nodeOf withNode evictNode added isFree oldestFree makeRoom addedIn ensured isHigh isWorn keyIn lengthIn revisionIn listIn hasKeyOf atLeast serves fetchPlace keyPlace filed isLong someLong kind steps sawMark entryOf idle isIdle begun queryAt stepsInAll isBad stepped noted holding recordsIn storeIn withStore answersIn withAnswers columnsAt clientIn withClient cleared opened columns client isShort badColumns badQuery isUnsound noDesk openCode beginCode atDesk stepCode nowAt storeBack answered lookDid fetchDid tableDid fileDid readDid progress unless beginDid stepDid untrayed callDid isAccepted endsWork endsAt isOpen isQuiet stillThere keepsNodes number lies admits sameKey sameQuery sameColumn ready onFile calmAt mayFile goes tests passes
 computed = refl
 
 -- ---- What they say of each call

@@ -14,7 +14,7 @@ use Rattle.query.specs.Query.{Query}
 use Rattle.rules.specs.Client.{entryOf}
 use Rattle.rules.specs.Memory.{storeIn}
 use Rattle.rules.specs.Refusals.{columns, client}
-use Rattle.rules.specs.Calls.{stepDone}
+use Rattle.rules.specs.Calls.{stepDid}
 use Rattle.rules.specs.History as rules
 use Rattle.rules.specs.History.{beginRead, beginInsert, beginDelete, evictAnswer, evictNode, callDid}
 use Rattle.revisions.proofs.Effect.{NoDup}
@@ -40,7 +40,7 @@ use Rattle.demands.proofs.Works.{Since}
 use Rattle.demands.proofs.Flags.{flagsAt, calm-then, calm-less, reading, since-key, on-desk}
 
 -- ---- A step's reply
-pub step-reply : (h : History) (n d : ℕ) (tray : List ℕ) → callAt h n ≡ rules.step d tray → resultAt h n ≡ resultOf (columns (memAt h n)) (stepDone (memAt h n) tray d)
+pub step-reply : (h : History) (n d : ℕ) (tray : List ℕ) → callAt h n ≡ rules.step d tray → resultAt h n ≡ resultOf (columns (memAt h n)) (stepDid (memAt h n) tray d)
 unfolding resultAt replyAt callDid
 step-reply h n d tray e = ap (λ c. resultOf (columns (memAt h n)) (callDid (memAt h n) c)) e
 

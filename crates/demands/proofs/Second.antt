@@ -16,7 +16,7 @@ use Rattle.rules.specs.Memory.{Mem, answersIn}
 use Rattle.rules.specs.Outcome.{Stepped}
 use Rattle.rules.specs.Refusals.{columns, client}
 use Rattle.rules.specs.Steps.{fetchDid}
-use Rattle.rules.specs.Calls.{stepDone}
+use Rattle.rules.specs.Calls.{stepDid}
 use Rattle.rules.specs.History as rules
 use Rattle.rules.specs.History.{callDid}
 use Rattle.machine.proofs.Base.{In, in-at}
@@ -53,7 +53,7 @@ its-list : (k : ℕ) (e : Entry) → ansOf k e .list ≡ valueIn k e
 unfolding ansOf
 its-list k e = refl
 
-fetched : (h : History) (n d : ℕ) (tray : List ℕ) → callAt h n ≡ rules.step d tray → replyAt h n ≡ stepDone (memAt h n) tray d
+fetched : (h : History) (n d : ℕ) (tray : List ℕ) → callAt h n ≡ rules.step d tray → replyAt h n ≡ stepDid (memAt h n) tray d
 unfolding replyAt callDid
 fetched h n d tray e = ap (callDid (memAt h n)) e
 

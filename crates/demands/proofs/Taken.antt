@@ -20,7 +20,7 @@ use Rattle.rules.specs.Memory.{Mem, answersIn}
 use Rattle.rules.specs.Outcome.{Stepped}
 use Rattle.rules.specs.Refusals.{columns, client, stepCode}
 use Rattle.rules.specs.Steps.{answered, fetchDid, fileDid, readDid, progress}
-use Rattle.rules.specs.Calls.{stepDone}
+use Rattle.rules.specs.Calls.{stepDid}
 use Rattle.machine.proofs.Base.{in-at}
 use Rattle.machine.proofs.Keys.{Val}
 use Rattle.machine.proofs.Machine as machine
@@ -32,26 +32,26 @@ use Rattle.bridge.proofs.Steps.{length-list}
 use Rattle.demands.specs.Demand2.{Reads}
 
 -- ---- Accepted
-pub step-taken : (k : ℕ) (m : Mem) (tray : List ℕ) (d : ℕ) → isRefused (resultOf k (stepDone m tray d)) ≡ false → stepCode m tray d ≡ 0
-unfolding stepDone resultOf resultIn isRefused
+pub step-taken : (k : ℕ) (m : Mem) (tray : List ℕ) (d : ℕ) → isRefused (resultOf k (stepDid m tray d)) ≡ false → stepCode m tray d ≡ 0
+unfolding stepDid resultOf resultIn isRefused
 step-taken k m tray d e = byTest (eqb (stepCode m tray d) 0)
     (λ t. eqb-true (stepCode m tray d) 0 t)
     (λ t. absurd (true≢false (rw t at e)))
 
 -- ---- The step of a read, by its number
-read-step : (m : Mem) (tray : List ℕ) (d : ℕ) (q : Query) (n : ℕ) → stepCode m tray d ≡ 0 → Reads m d q n → stepDone m tray d ≡ readDid m tray d q n
-unfolding stepDone progress
+read-step : (m : Mem) (tray : List ℕ) (d : ℕ) (q : Query) (n : ℕ) → stepCode m tray d ≡ 0 → Reads m d q n → stepDid m tray d ≡ readDid m tray d q n
+unfolding stepDid progress
 read-step m tray d q n e r = rw (eq-eqb (stepCode m tray d) 0 e, eq-eqb (kind (client m d)) reads (r .reader), r .asks, r .made) refl
 
 pub fetch-step : (m : Mem) (tray : List ℕ) (d : ℕ) (q : Query) → stepCode m tray d ≡ 0 → Reads m d q (readCount q)
-    → stepDone m tray d ≡ fetchDid m tray d (fetchPlace (readCount q) (entryOf (client m d)) (answersIn (m .answers)))
+    → stepDid m tray d ≡ fetchDid m tray d (fetchPlace (readCount q) (entryOf (client m d)) (answersIn (m .answers)))
 unfolding readDid
 fetch-step m tray d q e r =
     read-step m tray d q (readCount q) e r
     ∙ rw (le-ltb (readCount q) (readCount q) (omega arith), eq-eqb (readCount q) (readCount q) refl) refl
 
 pub file-step : (m : Mem) (tray : List ℕ) (d : ℕ) (q : Query) → stepCode m tray d ≡ 0 → Reads m d q (readCount q + 2)
-    → stepDone m tray d ≡ fileDid m tray d (entryOf (client m d))
+    → stepDid m tray d ≡ fileDid m tray d (entryOf (client m d))
 unfolding readDid
 file-step m tray d q e r =
     read-step m tray d q (readCount q + 2) e r

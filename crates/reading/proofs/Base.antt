@@ -14,7 +14,7 @@ use Rattle.columns.proofs.Nodes.{count-most}
 use Rattle.rules.specs.Table.{listOf}
 use Rattle.rules.specs.Nodes.{ensured}
 use Rattle.rules.specs.Answers.{lengthIn, fetchPlace}
-use Rattle.rules.specs.Client.{kind, reads, entryOf, queryAt, lastStep}
+use Rattle.rules.specs.Client.{kind, reads, entryOf, queryAt, stepsInAll}
 use Rattle.rules.specs.Memory.{Mem, clientIn, storeIn, answersIn, recordsIn}
 use Rattle.rules.specs.Refusals.{columns, client}
 use Rattle.rules.specs.Steps.{lookDid, fetchDid, tableDid, fileDid, readDid}
@@ -36,7 +36,7 @@ module _ (desks : List ℕ) (d k : ℕ) (r : Reads desks d k) where
 
   pub few-steps : made desks d < looks desks d k + 3
   few-steps =
-      let e : lastStep (kind (clientIn desks d)) (queryAt k (clientIn desks d)) ≡ looks desks d k + 3 = (unfold lastStep in rw (eq-eqb (kind (clientIn desks d)) reads (r .kind))) in
+      let e : stepsInAll (kind (clientIn desks d)) (queryAt k (clientIn desks d)) ≡ looks desks d k + 3 = (unfold stepsInAll in rw (eq-eqb (kind (clientIn desks d)) reads (r .kind))) in
       let s = sound-read .step in
       omega arith
 

@@ -12,7 +12,7 @@ use Rattle.rules.specs.declared.Outcome.the-variants.{Accepted, Answered}
 use Rattle.rules.specs.Answers.{lengthIn, listIn, fetchPlace, filed}
 use Rattle.rules.specs.Client.{sawMark, entryOf, idle, queryAt, stepped}
 use Rattle.rules.specs.Memory.{mem, clientIn, withClient, answersIn, withAnswers}
-use Rattle.rules.specs.Outcome.{stepDid}
+use Rattle.rules.specs.Outcome.{didWith}
 use Rattle.rules.specs.Refusals.{columns, client}
 use Rattle.rules.specs.Steps.{nowAt, answered, fetchDid, fileDid, readDid}
 use Rattle.clients.specs.Clients as clients
@@ -37,14 +37,14 @@ module _ (s desks tray : List ℕ) (d k : ℕ) (r : Reads desks d k) (h : made d
   found = e ∙ rw (← count-is s, h)
 
   pub fetch-not : getD s 0 0 ≤ i → (desks′ : List ℕ) → desks′ ≡ withClient desks d (stepped (clientIn desks d)) → (t n : List ℕ)
-      → stepDid Accepted (mem t n s desks′) tray ≡ readDid (mem t n s desks) tray d (queryAt k (clientIn desks d)) (made desks d)
+      → didWith Accepted (mem t n s desks′) tray ≡ readDid (mem t n s desks) tray d (queryAt k (clientIn desks d)) (made desks d)
   unfolding fetchDid nowAt client
   fetch-not g desks′ u t n =
       let l = count-is s in
       rw (fetch-is (mem t n s desks) tray d (queryAt k (clientIn desks d)) (made desks d) h, closed (sawMark (clientIn desks d)) (length (answersIn s)) (fetchPlace (looks desks d k) (entryOf (clientIn desks d)) (answersIn s)) i found (omega arith), u)
 
   pub fetch-given : i < getD s 0 0 → (count : ℕ) (tray′ desks′ : List ℕ) → answers.Gave k (getD (answersIn s) i []) tray count tray′ → desks′ ≡ withClient desks d idle → (t n : List ℕ)
-      → stepDid (Answered count true) (mem t n s desks′) tray′ ≡ readDid (mem t n s desks) tray d (queryAt k (clientIn desks d)) (made desks d)
+      → didWith (Answered count true) (mem t n s desks′) tray′ ≡ readDid (mem t n s desks) tray d (queryAt k (clientIn desks d)) (made desks d)
   unfolding fetchDid answered nowAt client columns
   fetch-given g count tray′ desks′ w u t n =
       let l = count-is s in
@@ -67,7 +67,7 @@ module _ (s desks tray : List ℕ) (d k : ℕ) (r : Reads desks d k) (h : made d
   pub file-left : (s′ tray′ desks′ : List ℕ) (count : ℕ)
       → s′ ≡ withAnswers s (filed (take (8 + d * 157 + 5 + 152 - (8 + d * 157 + 5)) (drop (8 + d * 157 + 5) desks)) (answersIn s))
       → (count ≡ lengthIn (entryOf (clientIn desks d))) × (tray′ ≡ written tray 0 (listIn k (entryOf (clientIn desks d)))) → desks′ ≡ withClient desks d idle → (t n : List ℕ)
-      → stepDid (Answered count false) (mem t n s′ desks′) tray′ ≡ readDid (mem t n s desks) tray d (queryAt k (clientIn desks d)) (made desks d)
+      → didWith (Answered count false) (mem t n s′ desks′) tray′ ≡ readDid (mem t n s desks) tray d (queryAt k (clientIn desks d)) (made desks d)
   unfolding fileDid answered nowAt client columns
   file-left s′ tray′ desks′ count e g u t n =
       rw (file-is (mem t n s desks) tray d (queryAt k (clientIn desks d)) (made desks d) h, e, g .0, g .1, u, ← r .columns, entry-part desks d (fit-desks desks d k r))

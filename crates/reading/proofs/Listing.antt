@@ -21,7 +21,7 @@ use Rattle.rules.specs.declared.Outcome.the-variants.{Accepted, Answered, Long}
 use Rattle.rules.specs.Table.{listOf}
 use Rattle.rules.specs.Client.{Client, steps, sawMark, idle, queryAt, holding}
 use Rattle.rules.specs.Memory.{mem, clientIn, withClient, recordsIn}
-use Rattle.rules.specs.Outcome.{stepDid}
+use Rattle.rules.specs.Outcome.{didWith}
 use Rattle.rules.specs.Refusals.{columns, client}
 use Rattle.rules.specs.Steps.{nowAt, answered, tableDid, readDid}
 use Rattle.clients.specs.Clients.{listSet}
@@ -143,7 +143,7 @@ module _ (s desks : List ℕ) (d k : ℕ) (r : Reads desks d k) (f : table.Fit k
           ∙ ap (λ (x : ℕ). tableDid (mem s ns a desks) tray d (listOf (queryAt k (clientIn desks d)) (recordsIn x s))) (sym (r .columns))
 
       pub table-long : 32 < n → desks₂ ≡ withClient desks₁ d idle → (ns a : List ℕ)
-          → stepDid Long (mem s ns a desks₂) tray ≡ readDid (mem s ns a desks) tray d (queryAt k (clientIn desks d)) (made desks d)
+          → didWith Long (mem s ns a desks₂) tray ≡ readDid (mem s ns a desks) tray d (queryAt k (clientIn desks d)) (made desks d)
       unfolding tableDid nowAt
       table-long o u ns a = rw (table-at ns a, lt-ltb 32 (length (listFor s desks d k)) (over (listFor s desks d k) n e o), idle-again desks₂ u)
 
@@ -164,7 +164,7 @@ module _ (s desks : List ℕ) (d k : ℕ) (r : Reads desks d k) (f : table.Fit k
         not-long = let l = many in le-ltb 32 (length (listFor s desks d k)) (omega arith)
 
         pub table-held : (b : Bool) → b ≡ sawMark (clientIn desks₁ d) → not b ≡ true → desks₂ ≡ withClient desks₁ d (listSet n k (clientIn desks₁ d)) → (ns a : List ℕ)
-            → stepDid Accepted (mem s ns a desks₂) tray ≡ readDid (mem s ns a desks) tray d (queryAt k (clientIn desks d)) (made desks d)
+            → didWith Accepted (mem s ns a desks₂) tray ≡ readDid (mem s ns a desks) tray d (queryAt k (clientIn desks d)) (made desks d)
         unfolding tableDid nowAt client
         table-held true q p u ns a = absurd (let z : _≡_ {A = ℕ} 0 1 = cc in omega arith)
         table-held false q p u ns a =
@@ -173,7 +173,7 @@ module _ (s desks : List ℕ) (d k : ℕ) (r : Reads desks d k) (f : table.Fit k
 
         pub table-given : (b : Bool) (tray′ : List ℕ) → b ≡ sawMark (clientIn desks₁ d) → not b ≡ false
             → tray′ ≡ written tray 0 (take (8 + d * 157 + 29 + n * k - (8 + d * 157 + 29)) (drop (8 + d * 157 + 29) desks₁)) → desks₂ ≡ withClient desks₁ d idle → (ns a : List ℕ)
-            → stepDid (Answered n false) (mem s ns a desks₂) tray′ ≡ readDid (mem s ns a desks) tray d (queryAt k (clientIn desks d)) (made desks d)
+            → didWith (Answered n false) (mem s ns a desks₂) tray′ ≡ readDid (mem s ns a desks) tray d (queryAt k (clientIn desks d)) (made desks d)
         unfolding tableDid answered nowAt client
         table-given false tray′ q p v u ns a = absurd (let z : _≡_ {A = ℕ} 0 1 = cc in omega arith)
         table-given true tray′ q p v u ns a =

@@ -13,9 +13,9 @@ use Rattle.rules.specs.declared.Outcome.the-variants.{Refused, Accepted}
 use Rattle.rules.specs.Nodes.{Words, Store, ensured, nodeOf, revision, pending}
 use Rattle.rules.specs.Client.{queryAt, noted}
 use Rattle.rules.specs.Memory.{mem, clientIn, withClient, storeIn, withStore}
-use Rattle.rules.specs.Outcome.{stepDid}
+use Rattle.rules.specs.Outcome.{didWith}
 use Rattle.rules.specs.Refusals.{client}
-use Rattle.rules.specs.Steps.{nowAt, restored, lookDid, readDid}
+use Rattle.rules.specs.Steps.{nowAt, storeBack, lookDid, readDid}
 use Rattle.nodes.specs.declared.Sight.{Sight}
 use Rattle.nodes.specs.declared.Sight.the-variants.{Seen, Stuck}
 use Rattle.nodes.specs.Nodes.{Looked, saw, looked}
@@ -23,8 +23,8 @@ use Rattle.reading.specs.Reading.{Reads, looks, made}
 use Rattle.reading.proofs.Base.{read-columns, look-is}
 
 look-told : (t a y ns ns′ desks desks′ : List ℕ) (d j revised open′ : ℕ) (p : Words) (o : Option Store) → saw (Seen revised open′) ns′ ≡ looked p ns o
-    → desks′ ≡ withClient desks d (noted j revised open′ (clientIn desks d)) → stepDid Accepted (mem t ns′ a desks′) y ≡ lookDid (mem t ns a desks) y d j p o
-unfolding lookDid looked nowAt restored client
+    → desks′ ≡ withClient desks d (noted j revised open′ (clientIn desks d)) → didWith Accepted (mem t ns′ a desks′) y ≡ lookDid (mem t ns a desks) y d j p o
+unfolding lookDid looked nowAt storeBack client
 look-told t a y ns ns′ desks desks′ d j revised open′ p none e g =
     let x : Seen revised open′ ≡ Stuck = ap (λ (l : Looked). l .sight) e in
     let z : _≡_ {A = ℕ} 0 1 = cc in
@@ -37,7 +37,7 @@ look-told t a y ns ns′ desks desks′ d j revised open′ p (some s) e g =
     rw (g, n, u, v)
 
 look-not : (t a y ns ns′ desks : List ℕ) (d j : ℕ) (p : Words) (o : Option Store) → saw Stuck ns′ ≡ looked p ns o
-    → stepDid (Refused 3) (mem t ns′ a desks) y ≡ lookDid (mem t ns a desks) y d j p o
+    → didWith (Refused 3) (mem t ns′ a desks) y ≡ lookDid (mem t ns a desks) y d j p o
 unfolding lookDid looked
 look-not t a y ns ns′ desks d j p none e = let n : ns′ ≡ ns = ap (λ (l : Looked). l .mem) e in rw n
 look-not t a y ns ns′ desks d j p (some s) e =
@@ -57,13 +57,13 @@ module _ (desks : List ℕ) (d k : ℕ) (r : Reads desks d k) (h : made desks d 
     label-is = f ∙ rw (read-columns desks d k r cols e, l)
 
     pub look-stuck : sight ≡ Stuck → (t a y : List ℕ)
-        → stepDid (Refused 3) (mem t ns′ a desks) y ≡ readDid (mem t ns a desks) y d (queryAt k (clientIn desks d)) (made desks d)
+        → didWith (Refused 3) (mem t ns′ a desks) y ≡ readDid (mem t ns a desks) y d (queryAt k (clientIn desks d)) (made desks d)
     look-stuck x t a y =
         rw (look-is (mem t ns a desks) y d (queryAt k (clientIn desks d)) (made desks d) h, ← label-is)
         (look-not t a y ns ns′ desks d (made desks d) p (ensured p (storeIn ns)) (ap (λ (s : Sight). saw s ns′) (sym x) ∙ g))
 
     pub look-noted : (revised open′ : ℕ) → sight ≡ Seen revised open′ → (desks′ : List ℕ) → desks′ ≡ withClient desks d (noted look revised open′ (clientIn desks d)) → (t a y : List ℕ)
-        → stepDid Accepted (mem t ns′ a desks′) y ≡ readDid (mem t ns a desks) y d (queryAt k (clientIn desks d)) (made desks d)
+        → didWith Accepted (mem t ns′ a desks′) y ≡ readDid (mem t ns a desks) y d (queryAt k (clientIn desks d)) (made desks d)
     look-noted revised open′ x desks′ u t a y =
         rw (look-is (mem t ns a desks) y d (queryAt k (clientIn desks d)) (made desks d) h, ← label-is)
         (look-told t a y ns ns′ desks desks′ d (made desks d) revised open′ p (ensured p (storeIn ns)) (ap (λ (s : Sight). saw s ns′) (sym x) ∙ g) (u ∙ rw l))

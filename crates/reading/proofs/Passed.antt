@@ -10,7 +10,7 @@ use Rattle.rules.specs.Client.{kind, steps, reads, queryAt}
 use Rattle.rules.specs.Memory.{Mem, columnsAt}
 use Rattle.rules.specs.Refusals.{columns, client, isShort, badColumns, isUnsound, noDesk, atDesk, stepCode}
 use Rattle.rules.specs.Steps.{readDid, progress}
-use Rattle.rules.specs.Calls.{stepDone}
+use Rattle.rules.specs.Calls.{stepDid}
 use Rattle.reading.specs.Reading.{Steps}
 
 passed : (b : Bool) (n rest : ℕ) → cond b (suc n) rest ≡ 0 → (b ≡ false) × (rest ≡ 0)
@@ -52,6 +52,6 @@ module _ (m : Mem) (tray : List ℕ) (d : ℕ) (e : stepCode m tray d ≡ 0) (x 
         room = ltb-false _ _ (s .1);
       }
 
-  pub read-due : stepDone m tray d ≡ readDid m tray d (queryAt (columns m) (client m d)) (steps (client m d))
-  unfolding stepDone progress
+  pub read-due : stepDid m tray d ≡ readDid m tray d (queryAt (columns m) (client m d)) (steps (client m d))
+  unfolding stepDid progress
   read-due = rw (eq-eqb (stepCode m tray d) 0 e, eq-eqb (kind (client m d)) reads x)

@@ -8,7 +8,7 @@ ghost use Rattle.lists.specs.Lists.{written, flat};
 ghost use Rattle.rules.specs.Table.{listOf};
 ghost use Rattle.rules.specs.Client.{queryAt};
 ghost use Rattle.rules.specs.Memory.{mem, clientIn, recordsIn};
-ghost use Rattle.rules.specs.Outcome.{stepDid};
+ghost use Rattle.rules.specs.Outcome.{didWith};
 ghost use Rattle.rules.specs.Steps.{readDid};
 ghost use Rattle.table.specs.Table.{gathered};
 ghost use Rattle.reading.specs.Reading.{Reads, looks, made, Looks, Finds, foundFor, Fetches, Gathers, Lists, Files, Steps};
@@ -18,7 +18,7 @@ use rules::Outcome;
 // A look: the next node's revision is noted, and whether writes are pending there.
 pub fn look_step(nodes: &mut [u32], desks: &mut [u32], d: usize, k: usize) -> Outcome
     requires { ⌜ Looks (now nodes) (now desks) d k ⌝ }
-    ensures { λ r. ⌜ ((t a y : List ℕ) → stepDid r (mem t (now (nodes .exit)) a (now (desks .exit))) y ≡ readDid (mem t (now (nodes .entry)) a (now (desks .entry))) y d (queryAt k (clientIn (now (desks .entry)) d)) (made (now (desks .entry)) d)) ⌝ }
+    ensures { λ r. ⌜ ((t a y : List ℕ) → didWith r (mem t (now (nodes .exit)) a (now (desks .exit))) y ≡ readDid (mem t (now (nodes .entry)) a (now (desks .entry))) y d (queryAt k (clientIn (now (desks .entry)) d)) (made (now (desks .entry)) d)) ⌝ }
 {
     let cols = clients::columns_at(desks, d, k);
     let look = clients::steps_of(desks, d) as usize;
@@ -55,7 +55,7 @@ pub fn fetch_step(
     k: usize,
 ) -> Outcome
     requires { ⌜ Fetches (now answers) (now desks) (now tray) d k ⌝ }
-    ensures { λ r. ⌜ ((t n : List ℕ) → stepDid r (mem t n (now (answers .entry)) (now (desks .exit))) (now (tray .exit)) ≡ readDid (mem t n (now (answers .entry)) (now (desks .entry))) (now (tray .entry)) d (queryAt k (clientIn (now (desks .entry)) d)) (made (now (desks .entry)) d)) ⌝ }
+    ensures { λ r. ⌜ ((t n : List ℕ) → didWith r (mem t n (now (answers .entry)) (now (desks .exit))) (now (tray .exit)) ≡ readDid (mem t n (now (answers .entry)) (now (desks .entry))) (now (tray .entry)) d (queryAt k (clientIn (now (desks .entry)) d)) (made (now (desks .entry)) d)) ⌝ }
 {
     let i = find_filed(answers, desks, d);
     if answers[0] as usize <= i {
@@ -85,7 +85,7 @@ fn gather_list(table: &[u32], desks: &mut [u32], d: usize, k: usize) -> usize
 // The table step: the list is taken. Where it is too long the read ends; where a look saw a mark it is answered with and not filed.
 pub fn table_step(table: &[u32], desks: &mut [u32], tray: &mut [u32], d: usize, k: usize) -> Outcome
     requires { ⌜ Lists (now table) (now desks) (now tray) d k ⌝ }
-    ensures { λ r. ⌜ ((n a : List ℕ) → stepDid r (mem (now (table .entry)) n a (now (desks .exit))) (now (tray .exit)) ≡ readDid (mem (now (table .entry)) n a (now (desks .entry))) (now (tray .entry)) d (queryAt k (clientIn (now (desks .entry)) d)) (made (now (desks .entry)) d)) ⌝ }
+    ensures { λ r. ⌜ ((n a : List ℕ) → didWith r (mem (now (table .entry)) n a (now (desks .exit))) (now (tray .exit)) ≡ readDid (mem (now (table .entry)) n a (now (desks .entry))) (now (tray .entry)) d (queryAt k (clientIn (now (desks .entry)) d)) (made (now (desks .entry)) d)) ⌝ }
 {
     let n = gather_list(table, desks, d, k);
     if 32 < n {
@@ -115,7 +115,7 @@ pub fn file_step(
     k: usize,
 ) -> Outcome
     requires { ⌜ Files (now answers) (now desks) (now tray) d k ⌝ }
-    ensures { λ r. ⌜ ((t n : List ℕ) → stepDid r (mem t n (now (answers .exit)) (now (desks .exit))) (now (tray .exit)) ≡ readDid (mem t n (now (answers .entry)) (now (desks .entry))) (now (tray .entry)) d (queryAt k (clientIn (now (desks .entry)) d)) (made (now (desks .entry)) d)) ⌝ }
+    ensures { λ r. ⌜ ((t n : List ℕ) → didWith r (mem t n (now (answers .exit)) (now (desks .exit))) (now (tray .exit)) ≡ readDid (mem t n (now (answers .entry)) (now (desks .entry))) (now (tray .entry)) d (queryAt k (clientIn (now (desks .entry)) d)) (made (now (desks .entry)) d)) ⌝ }
 {
     let at = 8 + d * 157 + 5;
     let end = at + 152;
@@ -149,7 +149,7 @@ pub fn read_step(
     k: usize,
 ) -> Outcome
     requires { ⌜ Steps (now table) (now nodes) (now answers) (now desks) (now tray) d k ⌝ }
-    ensures { λ r. ⌜ stepDid r (mem (now (table .entry)) (now (nodes .exit)) (now (answers .exit)) (now (desks .exit))) (now (tray .exit)) ≡ readDid (mem (now (table .entry)) (now (nodes .entry)) (now (answers .entry)) (now (desks .entry))) (now (tray .entry)) d (queryAt k (clientIn (now (desks .entry)) d)) (made (now (desks .entry)) d) ⌝ }
+    ensures { λ r. ⌜ didWith r (mem (now (table .entry)) (now (nodes .exit)) (now (answers .exit)) (now (desks .exit))) (now (tray .exit)) ≡ readDid (mem (now (table .entry)) (now (nodes .entry)) (now (answers .entry)) (now (desks .entry))) (now (tray .entry)) d (queryAt k (clientIn (now (desks .entry)) d)) (made (now (desks .entry)) d) ⌝ }
 {
     let count = looks_of(desks, d, k);
     let step = clients::steps_of(desks, d) as usize;

@@ -20,7 +20,7 @@ use Rattle.rules.specs.Client.{begun}
 use Rattle.rules.specs.Memory.{Mem, mem, storeIn, withStore, answersIn, withAnswers, withClient, renewed}
 use Rattle.rules.specs.Outcome.{Did, did}
 use Rattle.rules.specs.Refusals.{columns, beginCode, evictAnswerCode, evictNodeCode, renewCode}
-use Rattle.rules.specs.Steps.{nowAt, restored}
+use Rattle.rules.specs.Steps.{nowAt, storeBack}
 use Rattle.rules.specs.Calls.{unless, beginDid, evictAnswerDid, evictNodeDid, renewDid}
 use Rattle.clients.specs.Clients.{begunWith}
 use Rattle.checks.proofs.Sound.{Begins}
@@ -67,7 +67,7 @@ module _ (m : Mem) (n : ℕ) where
 
   pub node-goes : (i : ℕ) (s : List ℕ) → n ≡ evictNodeCode m i → n ≡ 0 → s ≡ withStore (m .nodes) (evictNode i (storeIn (m .nodes)))
       → did Accepted (mem (m .table) s (m .answers) (m .desks)) ≡ evictNodeDid m i
-  unfolding evictNodeDid restored
+  unfolding evictNodeDid storeBack
   node-goes i s e h f = rw f (done m (evictNodeCode m i) n e _ h)
 
   pub renews : (s t : List ℕ) → n ≡ renewCode m → n ≡ 0 → s ≡ withStore (m .nodes) (store 1 []) → t ≡ withAnswers (m .answers) []

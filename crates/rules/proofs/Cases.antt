@@ -16,11 +16,11 @@ use Rattle.rules.specs.declared.Outcome.the-variants.{Refused, Accepted,
 use Rattle.rules.specs.Table.{listOf, has, putIn, target, isFull, outside, effect, noRoom, changes}
 use Rattle.rules.specs.Nodes.{labelIn, pending, revision, withPending, withRevision, hasLabel, nodePlace, isPresent, nodeOf, withNode, evictNode, added, isFree, oldestFree, makeRoom, addedIn, ensured, markedIn, marked, isPending, unmarked, raised, unmarkedAll, isHigh, isWorn}
 use Rattle.rules.specs.Answers.{keyIn, lengthIn, revisionIn, listIn, hasKeyOf, atLeast, serves, fetchPlace, keyPlace, filed, isLong, someLong}
-use Rattle.rules.specs.Client.{kind, steps, sawMark, didChange, foundFull, entryOf, idle, isIdle, begun, queryAt, writeAt, lastStep, isBad, stepped, flag, noted, holding, wrote}
+use Rattle.rules.specs.Client.{kind, steps, sawMark, didChange, foundFull, entryOf, idle, isIdle, begun, queryAt, writeAt, stepsInAll, isBad, stepped, flag, noted, holding, wrote}
 use Rattle.rules.specs.Memory.{Mem, mem, withTable, withNodes, recordsIn, withRecords, storeIn, withStore, answersIn, withAnswers, columnsAt, clientIn, withClient, cleared, opened, renewed}
 use Rattle.rules.specs.Refusals.{columns, client, isShort, badColumns, badQuery, isUnsound, noDesk, isCommitted, allIdle, openCode, beginCode, atDesk, stepCode, abandonCode, evictAnswerCode, evictNodeCode, renewCode}
-use Rattle.rules.specs.Steps.{nowAt, restored, answered, lookDid, fetchDid, tableDid, fileDid, readDid, markDid, writeTableDid, endOf, raiseDid, writeDid, progress}
-use Rattle.rules.specs.Calls.{unless, openDid, beginDid, stepDone, takenBack, marksSet, abandoned, abandonDid, evictAnswerDid, evictNodeDid, renewDid}
+use Rattle.rules.specs.Steps.{nowAt, storeBack, answered, lookDid, fetchDid, tableDid, fileDid, readDid, markDid, writeTableDid, endOf, raiseDid, writeDid, progress}
+use Rattle.rules.specs.Calls.{unless, openDid, beginDid, stepDid, takenBack, marksSet, abandoned, abandonDid, evictAnswerDid, evictNodeDid, renewDid}
 use Rattle.rules.specs.History.{Call, beginRead, beginInsert, step, evictNode as dropNode, untrayed, callDid}
 
 -- memories that held other numbers, as an opening with k columns leaves them
@@ -214,5 +214,5 @@ cases =
     ++ (case-6 ∷ case-7 ∷ case-8 ∷ case-9 ∷ case-10-at ∷ case-10-above ∷ case-11 ∷ case-12-at ∷ case-12-above ∷ case-12-floor)
 
 pub cases-1-to-12 : T (all cases)
-unfolding readNodes writeNodes sheetEntry turned looks starsOf starsIn same keep place without allBelow listed padded written rows flat entriesIn withEntries admits lies naming pick readNode writeNode named readCount writeCount columnOf queryOf wellMarked isQuery namesAll recordOf termValue columnValue tag tags labelWords marks keyWords columnsIn queryIn isKey listOf before has putIn target isFull outside effect noRoom changes labelIn pending revision withPending withRevision hasLabel nodePlace isPresent nodeOf withNode evictNode added isFree oldestFree makeRoom addedIn ensured markedIn marked isPending unmarked raised unmarkedAll isHigh isWorn keyIn lengthIn revisionIn listIn hasKeyOf atLeast serves fetchPlace keyPlace filed isLong someLong kind steps sawMark didChange foundFull entryOf idle isIdle begun queryAt writeAt lastStep isBad stepped flag noted holding wrote recordsIn withRecords storeIn withStore answersIn withAnswers columnsAt clientIn withClient cleared opened renewed columns client isShort badColumns badQuery isUnsound noDesk isCommitted allIdle openCode beginCode atDesk stepCode abandonCode evictAnswerCode evictNodeCode renewCode nowAt restored answered lookDid fetchDid tableDid fileDid readDid markDid writeTableDid endOf raiseDid writeDid progress unless openDid beginDid stepDone takenBack marksSet abandoned abandonDid evictAnswerDid evictNodeDid renewDid untrayed callDid
+unfolding readNodes writeNodes sheetEntry turned looks starsOf starsIn same keep place without allBelow listed padded written rows flat entriesIn withEntries admits lies naming pick readNode writeNode named readCount writeCount columnOf queryOf wellMarked isQuery namesAll recordOf termValue columnValue tag tags labelWords marks keyWords columnsIn queryIn isKey listOf before has putIn target isFull outside effect noRoom changes labelIn pending revision withPending withRevision hasLabel nodePlace isPresent nodeOf withNode evictNode added isFree oldestFree makeRoom addedIn ensured markedIn marked isPending unmarked raised unmarkedAll isHigh isWorn keyIn lengthIn revisionIn listIn hasKeyOf atLeast serves fetchPlace keyPlace filed isLong someLong kind steps sawMark didChange foundFull entryOf idle isIdle begun queryAt writeAt stepsInAll isBad stepped flag noted holding wrote recordsIn withRecords storeIn withStore answersIn withAnswers columnsAt clientIn withClient cleared opened renewed columns client isShort badColumns badQuery isUnsound noDesk isCommitted allIdle openCode beginCode atDesk stepCode abandonCode evictAnswerCode evictNodeCode renewCode nowAt storeBack answered lookDid fetchDid tableDid fileDid readDid markDid writeTableDid endOf raiseDid writeDid progress unless openDid beginDid stepDid takenBack marksSet abandoned abandonDid evictAnswerDid evictNodeDid renewDid untrayed callDid
 cases-1-to-12 = tt

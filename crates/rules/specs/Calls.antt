@@ -12,9 +12,9 @@ use Rattle.query.specs.Words.{queryOf, labelWords}
 use Rattle.rules.specs.Nodes.{Words, Store, evictNode, unmarkedAll}
 use Rattle.rules.specs.Client.{kind, steps, reads, idle, begun, queryAt}
 use Rattle.rules.specs.Memory.{Mem, withFiled, storeIn, answersIn, withAnswers, opened, renewed}
-use Rattle.rules.specs.Outcome.{Did, did, Stepped, stepDid}
+use Rattle.rules.specs.Outcome.{Did, did, Stepped, didWith}
 use Rattle.rules.specs.Refusals.{columns, client, openCode, beginCode, stepCode, abandonCode, evictAnswerCode, evictNodeCode, renewCode}
-use Rattle.rules.specs.Steps.{nowAt, restored, progress}
+use Rattle.rules.specs.Steps.{nowAt, storeBack, progress}
 
 -- "1 to 11 .. alter no memory": where the code is not 0 it is returned, and the memories are as they were
 unfoldable pub unless : ℕ → Mem → Did → Did
@@ -27,8 +27,8 @@ openDid m k = unless (openCode m k) m (did Accepted (opened k m))
 unfoldable pub beginDid : Mem → ℕ → ℕ → List ℕ → Did
 beginDid m x d a = unless (beginCode m x d a) m (did Accepted (nowAt m d (begun x (queryOf a))))
 
-unfoldable pub stepDone : Mem → List ℕ → ℕ → Stepped
-stepDone m tray d = cond (eqb (stepCode m tray d) 0) (progress m tray d) (stepDid (Refused (stepCode m tray d)) m tray)
+unfoldable pub stepDid : Mem → List ℕ → ℕ → Stepped
+stepDid m tray d = cond (eqb (stepCode m tray d) 0) (progress m tray d) (didWith (Refused (stepCode m tray d)) m tray)
 
 -- "**Abandon.** A reader's desk becomes idle. A writer before its table step takes back the marks it has set."
 -- the labels that a write has marked in its first n steps
@@ -37,7 +37,7 @@ marksSet q n = listed (λ j. labelWords (writeNode q j)) 0 n
 
 unfoldable pub takenBack : Mem → ℕ → Option Store → Did
 takenBack m d none = did (Refused 3) m
-takenBack m d (some s) = did Accepted (nowAt (restored m s) d idle)
+takenBack m d (some s) = did Accepted (nowAt (storeBack m s) d idle)
 
 unfoldable pub abandoned : Mem → ℕ → Did
 abandoned m d =
@@ -54,7 +54,7 @@ evictAnswerDid m i =
     unless (evictAnswerCode m i) m (did Accepted (withFiled m (withAnswers (m .answers) (without i (answersIn (m .answers))))))
 
 unfoldable pub evictNodeDid : Mem → ℕ → Did
-evictNodeDid m i = unless (evictNodeCode m i) m (did Accepted (restored m (evictNode i (storeIn (m .nodes)))))
+evictNodeDid m i = unless (evictNodeCode m i) m (did Accepted (storeBack m (evictNode i (storeIn (m .nodes)))))
 
 -- "**Renew.** With all desks idle: answers and nodes are emptied, the floor is 1, the table stays."
 unfoldable pub renewDid : Mem → Did

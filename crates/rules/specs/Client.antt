@@ -64,8 +64,8 @@ unfoldable pub writeAt : ℕ → Client → Write
 writeAt k c = cond (eqb (kind c) inserts) (insert (recordOf (queryAt k c))) (delete (queryAt k c))
 
 -- how many steps it makes at the most: looks, fetch, table, file; or marks, table, raises
-unfoldable pub lastStep : ℕ → Query → ℕ
-lastStep x q = cond (eqb x reads) (readCount q + 3) (writeCount q + 1 + writeCount q)
+unfoldable pub stepsInAll : ℕ → Query → ℕ
+stepsInAll x q = cond (eqb x reads) (readCount q + 3) (writeCount q + 1 + writeCount q)
 
 -- "the called desk is not idle and its kind, query, step or list length is out of range" (3)
 unfoldable pub isBad : ℕ → Client → Bool
@@ -74,7 +74,7 @@ isBad k c =
     && ((eqb (kind c) 0 || ltb 3 (kind c))
     || (not (isKey k (keyIn (entryOf c)))
     || ((eqb (kind c) inserts && not (namesAll (queryAt k c)))
-    || (leb (lastStep (kind c) (queryAt k c)) (steps c)
+    || (leb (stepsInAll (kind c) (queryAt k c)) (steps c)
     || ltb maxList (lengthIn (entryOf c))))))
 
 -- one step more

@@ -8,8 +8,8 @@ use Rattle.query.specs.Words.{queryOf, recordOf}
 use Rattle.rules.specs.Table.{Table, Write, insert, delete, target, effect}
 use Rattle.rules.specs.Client.{reads, inserts, deletes}
 use Rattle.rules.specs.Memory.{Mem}
-use Rattle.rules.specs.Outcome.{Did, Stepped, stepDid, number}
-use Rattle.rules.specs.Calls.{beginDid, stepDone, abandonDid, evictAnswerDid, evictNodeDid, renewDid}
+use Rattle.rules.specs.Outcome.{Did, Stepped, didWith, number}
+use Rattle.rules.specs.Calls.{beginDid, stepDid, abandonDid, evictAnswerDid, evictNodeDid, renewDid}
 
 -- "begins of reads, inserts and deletes, steps, abandonings, both puttings out, renewals, with any arguments.
 -- The tray may be another each time, of any length and contents."
@@ -25,13 +25,13 @@ pub data Call : Type 0 where
 
 -- what a call returns and leaves; a call that is lent no tray leaves none
 unfoldable pub untrayed : Did → Stepped
-untrayed x = stepDid (x .out) (x .mem) []
+untrayed x = didWith (x .out) (x .mem) []
 
 unfoldable pub callDid : Mem → Call → Stepped
 callDid m (beginRead d a) = untrayed (beginDid m reads d a)
 callDid m (beginInsert d a) = untrayed (beginDid m inserts d a)
 callDid m (beginDelete d a) = untrayed (beginDid m deletes d a)
-callDid m (step d tray) = stepDone m tray d
+callDid m (step d tray) = stepDid m tray d
 callDid m (abandon d) = untrayed (abandonDid m d)
 callDid m (evictAnswer i) = untrayed (evictAnswerDid m i)
 callDid m (evictNode i) = untrayed (evictNodeDid m i)

@@ -50,5 +50,5 @@ pub record Stepped : Type 0 where
   pub mem : Mem
   pub tray : List ℕ
 
-abbrev pub stepDid : Outcome → Mem → List ℕ → Stepped
-stepDid o m t = record { out = o; mem = m; tray = t }
+abbrev pub didWith : Outcome → Mem → List ℕ → Stepped
+didWith o m t = record { out = o; mem = m; tray = t }

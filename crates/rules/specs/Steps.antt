@@ -17,26 +17,26 @@ use Rattle.rules.specs.Nodes.{Words, Store, ensured, marked, raised, nod
 use Rattle.rules.specs.Answers.{Entry, lengthIn, listIn, fetchPlace, filed}
 use Rattle.rules.specs.Client.{Client, kind, steps, sawMark, didChange, foundFull, entryOf, reads, idle, queryAt, writeAt, stepped, noted, holding, wrote}
 use Rattle.rules.specs.Memory.{Mem, withTable, withNodes, withFiled, withDesks, recordsIn, withRecords, storeIn, withStore, answersIn, withAnswers, withClient}
-use Rattle.rules.specs.Outcome.{Stepped, stepDid}
+use Rattle.rules.specs.Outcome.{Stepped, didWith}
 use Rattle.rules.specs.Refusals.{columns, client}
 
 -- the client at d becomes c
 unfoldable pub nowAt : Mem → ℕ → Client → Mem
 nowAt m d c = withDesks m (withClient (m .desks) d c)
 
-unfoldable pub restored : Mem → Store → Mem
-restored m s = withNodes m (withStore (m .nodes) s)
+unfoldable pub storeBack : Mem → Store → Mem
+storeBack m s = withNodes m (withStore (m .nodes) s)
 
 -- "An answer writes its records, k numbers each, from the tray's start and reports their count and whether it was filed before;
 -- the rest of the tray keeps its contents."
 unfoldable pub answered : Mem → List ℕ → ℕ → ℕ → List ℕ → Bool → Stepped
-answered m tray d n l cached = stepDid (Answered n cached) (nowAt m d idle) (written tray 0 l)
+answered m tray d n l cached = didWith (Answered n cached) (nowAt m d idle) (written tray 0 l)
 
 -- **Read.** "A look at a node present notes its counter and whether its marks are above 0. A missing node is added last"
 unfoldable pub lookDid : Mem → List ℕ → ℕ → ℕ → Words → Option Store → Stepped
-lookDid m tray d j p none = stepDid (Refused 3) m tray
+lookDid m tray d j p none = didWith (Refused 3) m tray
 lookDid m tray d j p (some s) =
-    stepDid Accepted (nowAt (restored m s) d (noted j (revision (nodeOf p s)) (pending (nodeOf p s)) (client m d))) tray
+    didWith Accepted (nowAt (storeBack m s) d (noted j (revision (nodeOf p s)) (pending (nodeOf p s)) (client m d))) tray
 
 -- "Then *fetch*: if no look saw a mark and an answer is filed for this query whose revision at every node is at least the one noted,
 -- the read answers with it."
@@ -44,15 +44,15 @@ unfoldable pub fetchDid : Mem → List ℕ → ℕ → ℕ → Stepped
 fetchDid m tray d i =
     cond (not (sawMark (client m d)) && ltb i (length (answersIn (m .answers))))
     (answered m tray d (lengthIn (getD (answersIn (m .answers)) i [])) (listIn (columns m) (getD (answersIn (m .answers)) i [])) true)
-    (stepDid Accepted (nowAt m d (stepped (client m d))) tray)
+    (didWith Accepted (nowAt m d (stepped (client m d))) tray)
 
 -- "Otherwise *table*: the matching list is taken. More than 32 records ends the read with 12. If a look saw a mark, the read answers
 -- here and files nothing."
 unfoldable pub tableDid : Mem → List ℕ → ℕ → List Record → Stepped
 tableDid m tray d l =
-    cond (ltb maxList (length l)) (stepDid Long (nowAt m d idle) tray)
+    cond (ltb maxList (length l)) (didWith Long (nowAt m d idle) tray)
     (cond (sawMark (client m d)) (answered m tray d (length l) (flat l) false)
-    (stepDid Accepted (nowAt m d (holding l (client m d))) tray))
+    (didWith Accepted (nowAt m d (holding l (client m d))) tray))
 
 -- "Otherwise *file*: .. the list goes last with the noted revisions, and the read answers."
 unfoldable pub fileDid : Mem → List ℕ → ℕ → Entry → Stepped
@@ -68,13 +68,13 @@ readDid m tray d q i =
 
 -- **Write.** "One *mark* for each node"
 unfoldable pub markDid : Mem → List ℕ → ℕ → Option Store → Stepped
-markDid m tray d none = stepDid (Refused 3) m tray
-markDid m tray d (some s) = stepDid Accepted (nowAt (restored m s) d (stepped (client m d))) tray
+markDid m tray d none = didWith (Refused 3) m tray
+markDid m tray d (some s) = didWith Accepted (nowAt (storeBack m s) d (stepped (client m d))) tray
 
 -- "Then *table*: the record is added or the subspace removed."
 unfoldable pub writeTableDid : Mem → List ℕ → ℕ → Write → Stepped
 writeTableDid m tray d w =
-    stepDid Accepted
+    didWith Accepted
     (nowAt (withTable m (withRecords (columns m) (m .table) (effect w (recordsIn (columns m) (m .table))))) d
     (wrote (changes w (recordsIn (columns m) (m .table))) (noRoom w (recordsIn (columns m) (m .table))) (client m d))) tray
 
@@ -84,10 +84,10 @@ endOf c = cond (foundFull c) Full (Ended (didChange c))
 
 -- "Then one *raise* for each node"
 unfoldable pub raiseDid : Mem → List ℕ → ℕ → Bool → Option Store → Stepped
-raiseDid m tray d isLast none = stepDid (Refused 3) m tray
+raiseDid m tray d isLast none = didWith (Refused 3) m tray
 raiseDid m tray d isLast (some s) =
-    cond isLast (stepDid (endOf (client m d)) (nowAt (restored m s) d idle) tray)
-    (stepDid Accepted (nowAt (restored m s) d (stepped (client m d))) tray)
+    cond isLast (didWith (endOf (client m d)) (nowAt (storeBack m s) d idle) tray)
+    (didWith Accepted (nowAt (storeBack m s) d (stepped (client m d))) tray)
 
 unfoldable pub writeDid : Mem → List ℕ → ℕ → Write → Query → ℕ → Stepped
 writeDid m tray d w q i =

@@ -7,10 +7,10 @@ use borrow.Author.Tests.{eq-eqb, ne-eqb}
 use Rattle.rules.specs.declared.Outcome.the-variants.{Refused, Accepted}
 use Rattle.rules.specs.Client.{kind, steps, reads, idle, queryAt}
 use Rattle.rules.specs.Memory.{Mem, columnsAt, clientIn, withDesks, withClient}
-use Rattle.rules.specs.Outcome.{did, stepDid}
+use Rattle.rules.specs.Outcome.{did, didWith}
 use Rattle.rules.specs.Refusals.{columns, client, stepCode, abandonCode}
 use Rattle.rules.specs.Steps.{nowAt, readDid, progress}
-use Rattle.rules.specs.Calls.{unless, stepDone, abandoned, abandonDid}
+use Rattle.rules.specs.Calls.{unless, stepDid, abandoned, abandonDid}
 use Rattle.checks.proofs.Sound.{Sound, Busy, step-told, abandon-told, steps-before, nodes-fit, client-fit}
 use Rattle.clients.specs.Clients as clients
 use Rattle.nodes.specs.Nodes as nodes
@@ -49,8 +49,8 @@ module _ (m : Mem) (d : ℕ) (b : Busy m d) where
 
 -- ---- The step
 module _ (m : Mem) (tray : List ℕ) (d n : ℕ) (e : n ≡ stepCode m tray d) where
-  pub step-refused : (n ≡ 0 → ⊥) → stepDid (Refused n) m tray ≡ stepDone m tray d
-  unfolding stepDone
+  pub step-refused : (n ≡ 0 → ⊥) → didWith (Refused n) m tray ≡ stepDid m tray d
+  unfolding stepDid
   step-refused h = rw (ne-eqb (stepCode m tray d) 0 (λ z. h (e ∙ z)), e)
 
   pub step-busy : n ≡ 0 → Busy m d
@@ -61,15 +61,15 @@ module _ (m : Mem) (tray : List ℕ) (d n : ℕ) (e : n ≡ stepCode m tray d) w
     unfolding columnsAt client
     step-reads r = reads-on m tray d (sym e ∙ z) (sym f ∙ r)
 
-    pub step-read : x ≡ 1 → readDid m tray d (queryAt (getD (m .desks) 0 0) (clientIn (m .desks) d)) (steps (clientIn (m .desks) d)) ≡ stepDone m tray d
+    pub step-read : x ≡ 1 → readDid m tray d (queryAt (getD (m .desks) 0 0) (clientIn (m .desks) d)) (steps (clientIn (m .desks) d)) ≡ stepDid m tray d
     unfolding columns columnsAt client
     step-read r = sym (read-due m tray d (sym e ∙ z) (sym f ∙ r))
 
     pub step-writes : (x ≡ 1 → ⊥) → Writer (m .desks) d (getD (m .desks) 0 0)
     step-writes r = writer m d (step-busy z) (λ y. r (f ∙ y))
 
-    pub step-write : (x ≡ 1 → ⊥) → stepOf (getD (m .desks) 0 0) m tray d ≡ stepDone m tray d
-    unfolding stepDone progress columns columnsAt client
+    pub step-write : (x ≡ 1 → ⊥) → stepOf (getD (m .desks) 0 0) m tray d ≡ stepDid m tray d
+    unfolding stepDid progress columns columnsAt client
     step-write r = rw (eq-eqb (stepCode m tray d) 0 (sym e ∙ z), ne-eqb (kind (clientIn (m .desks) d)) 1 (λ y. r (f ∙ y)))
 
 -- ---- The abandoning

@@ -1,8 +1,8 @@
 // The two calls that move or end what is under way at a desk: one step, and the abandoning. Neither asks anything of its caller.
 ghost use mathlib.Core.Path.{_≡_};
 ghost use Rattle.rules.specs.Memory.{mem};
-ghost use Rattle.rules.specs.Outcome.{did, stepDid};
-ghost use Rattle.rules.specs.Calls.{stepDone, abandonDid};
+ghost use Rattle.rules.specs.Outcome.{did, didWith};
+ghost use Rattle.rules.specs.Calls.{stepDid, abandonDid};
 use rules::Outcome;
 
 // The kind of a client that reads.
@@ -17,7 +17,7 @@ pub fn step(
     tray: &mut [u32],
     client: u32,
 ) -> Outcome
-    ensures { λ r. ⌜ stepDid r (mem (now (table .exit)) (now (nodes .exit)) (now (answers .exit)) (now (desks .exit))) (now (tray .exit)) ≡ stepDone (mem (now (table .entry)) (now (nodes .entry)) (now (answers .entry)) (now (desks .entry))) (now (tray .entry)) client ⌝ }
+    ensures { λ r. ⌜ didWith r (mem (now (table .exit)) (now (nodes .exit)) (now (answers .exit)) (now (desks .exit))) (now (tray .exit)) ≡ stepDid (mem (now (table .entry)) (now (nodes .entry)) (now (answers .entry)) (now (desks .entry))) (now (tray .entry)) client ⌝ }
 {
     let code = checks::step_code(table, nodes, answers, desks, tray, client);
     if code != 0 {

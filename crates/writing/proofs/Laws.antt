@@ -18,11 +18,11 @@ use Rattle.rules.specs.declared.Outcome.{Outcome}
 use Rattle.rules.specs.declared.Outcome.the-variants.{Refused, Accepted, Ended, Full}
 use Rattle.rules.specs.Table.{Write, insert, delete, effect}
 use Rattle.rules.specs.Nodes.{Words, Store, marked, raised}
-use Rattle.rules.specs.Client.{Client, kind, steps, inserts, didChange, foundFull, idle, queryAt, writeAt, lastStep, stepped, wrote}
+use Rattle.rules.specs.Client.{Client, kind, steps, inserts, didChange, foundFull, idle, queryAt, writeAt, stepsInAll, stepped, wrote}
 use Rattle.rules.specs.Memory.{mem, recordsIn, withRecords, storeIn, withStore, columnsAt, clientIn, withClient}
-use Rattle.rules.specs.Outcome.{stepDid}
+use Rattle.rules.specs.Outcome.{didWith}
 use Rattle.rules.specs.Refusals.{columns, client}
-use Rattle.rules.specs.Steps.{nowAt, restored, markDid, writeTableDid, endOf, raiseDid, writeDid}
+use Rattle.rules.specs.Steps.{nowAt, storeBack, markDid, writeTableDid, endOf, raiseDid, writeDid}
 use Rattle.lists.specs.Lists.{padded}
 use Rattle.laws.proofs.Lists.{length-padded, take-padded}
 use Rattle.columns.specs.declared.Taken.{Taken}
@@ -39,8 +39,8 @@ use Rattle.writing.specs.declared.Report.{Report}
 use Rattle.writing.specs.Writing.{Writer, writeOf, report, reported, raiseEnd, raiseLeft}
 
 -- ---- what a passed check tells
-last-of-write : (x : ℕ) (q : Query) → (x ≡ 1 → ⊥) → lastStep x q ≡ writeCount q + 1 + writeCount q
-unfolding lastStep
+last-of-write : (x : ℕ) (q : Query) → (x ≡ 1 → ⊥) → stepsInAll x q ≡ writeCount q + 1 + writeCount q
+unfolding stepsInAll
 last-of-write x q h = rw (ne-eqb x 1 h)
 
 count-power : (q : Query) (k : ℕ) → length q ≡ k → writeCount q ≡ 2 ^ k
@@ -60,7 +60,7 @@ module _ (s : List ℕ) (d k : ℕ) (w : Writer s d k) where
 
   pub step-most : steps (clientIn s d) ≤ writeCount (queryAt k (clientIn s d)) + writeCount (queryAt k (clientIn s d))
   step-most =
-      let a : steps (clientIn s d) < lastStep (kind (clientIn s d)) (queryAt k (clientIn s d)) = sound .step in
+      let a : steps (clientIn s d) < stepsInAll (kind (clientIn s d)) (queryAt k (clientIn s d)) = sound .step in
       let b = last-of-write (kind (clientIn s d)) (queryAt k (clientIn s d)) (w .writes) in
       omega arith
 
@@ -83,52 +83,52 @@ label-is k c cols j i p e f g = rw (e, columns-back k c cols f, g)
 -- ---- the steps
 module _ (t n a s y : List ℕ) (d : ℕ) (w : Write) (q : Query) (i : ℕ) (u : List ℕ) (st : Store) (v : List ℕ) where
   mark-stored : i < writeCount q → marked (labelWords (writeNode q i)) (storeIn n) ≡ some st → u ≡ withStore n st → v ≡ withClient s d (stepped (clientIn s d))
-      → stepDid Accepted (mem t u a v) y ≡ writeDid (mem t n a s) y d w q i
-  unfolding writeDid markDid nowAt restored client
+      → didWith Accepted (mem t u a v) y ≡ writeDid (mem t n a s) y d w q i
+  unfolding writeDid markDid nowAt storeBack client
   mark-stored h e f l = rw (lt-ltb i (writeCount q) h, e, f, l)
 
   raise-stored : writeCount q < i → raised (labelWords (writeNode q (i - (writeCount q + 1)))) (storeIn n) ≡ some st → u ≡ withStore n st
       → (last : Bool) (o : Outcome) → last ≡ eqb i (writeCount q + writeCount q) → (o ≡ raiseEnd last (clientIn s d)) × (v ≡ withClient s d (raiseLeft last (clientIn s d)))
-      → stepDid o (mem t u a v) y ≡ writeDid (mem t n a s) y d w q i
-  unfolding writeDid raiseDid nowAt restored client raiseEnd raiseLeft
+      → didWith o (mem t u a v) y ≡ writeDid (mem t n a s) y d w q i
+  unfolding writeDid raiseDid nowAt storeBack client raiseEnd raiseLeft
   raise-stored h e f last o m l =
       rw (le-ltb i (writeCount q) (omega arith), ne-eqb i (writeCount q) (λ r. omega arith), e, ← m, f, l .0, l .1) (go last)
     where
       go : (f : Bool)
-          → stepDid (cond f (endOf (clientIn s d)) Accepted) (mem t (withStore n st) a (withClient s d (cond f idle (stepped (clientIn s d))))) y
-          ≡ cond f (stepDid (endOf (clientIn s d)) (mem t (withStore n st) a (withClient s d idle)) y) (stepDid Accepted (mem t (withStore n st) a (withClient s d (stepped (clientIn s d)))) y)
+          → didWith (cond f (endOf (clientIn s d)) Accepted) (mem t (withStore n st) a (withClient s d (cond f idle (stepped (clientIn s d))))) y
+          ≡ cond f (didWith (endOf (clientIn s d)) (mem t (withStore n st) a (withClient s d idle)) y) (didWith Accepted (mem t (withStore n st) a (withClient s d (stepped (clientIn s d)))) y)
       go true = refl
       go false = refl
 
 module _ (t n a s y : List ℕ) (d : ℕ) (w : Write) (q : Query) (i : ℕ) (p : Words) (b : Bool) (u : List ℕ) where
   module _ (e : p ≡ labelWords (writeNode q i)) (g : did b u ≡ tried n (marked p (storeIn n))) (h : i < writeCount q) where
-    pub mark-refused : b ≡ false → stepDid (Refused 3) (mem t u a s) y ≡ writeDid (mem t n a s) y d w q i
+    pub mark-refused : b ≡ false → didWith (Refused 3) (mem t u a s) y ≡ writeDid (mem t n a s) y d w q i
     unfolding writeDid markDid
     mark-refused z =
         let x = went-not n (marked p (storeIn n)) u (rw z at g) in
         rw (lt-ltb i (writeCount q) h, ← e, x .0, x .1)
 
-    pub mark-done : b ≡ true → (v : List ℕ) → v ≡ withClient s d (stepped (clientIn s d)) → stepDid Accepted (mem t u a v) y ≡ writeDid (mem t n a s) y d w q i
+    pub mark-done : b ≡ true → (v : List ℕ) → v ≡ withClient s d (stepped (clientIn s d)) → didWith Accepted (mem t u a v) y ≡ writeDid (mem t n a s) y d w q i
     mark-done z v l =
         let x : Went n (marked p (storeIn n)) u = went-well n (marked p (storeIn n)) u (rw z at g) in
         mark-stored t n a s y d w q i u (x .store) v h (ap (λ (m : Words). marked m (storeIn n)) (sym e) ∙ x .is) (x .mem) l
 
   module _ (e : p ≡ labelWords (writeNode q (i - (writeCount q + 1)))) (g : did b u ≡ tried n (raised p (storeIn n))) (h : writeCount q < i) where
-    pub raise-refused : b ≡ false → stepDid (Refused 3) (mem t u a s) y ≡ writeDid (mem t n a s) y d w q i
+    pub raise-refused : b ≡ false → didWith (Refused 3) (mem t u a s) y ≡ writeDid (mem t n a s) y d w q i
     unfolding writeDid raiseDid
     raise-refused z =
         let x = went-not n (raised p (storeIn n)) u (rw z at g) in
         rw (le-ltb i (writeCount q) (omega arith), ne-eqb i (writeCount q) (λ m. omega arith), ← e, x .0, x .1)
 
     pub raise-done : b ≡ true → (last : Bool) (o : Outcome) (v : List ℕ) → last ≡ eqb i (writeCount q + writeCount q)
-        → (o ≡ raiseEnd last (clientIn s d)) × (v ≡ withClient s d (raiseLeft last (clientIn s d))) → stepDid o (mem t u a v) y ≡ writeDid (mem t n a s) y d w q i
+        → (o ≡ raiseEnd last (clientIn s d)) × (v ≡ withClient s d (raiseLeft last (clientIn s d))) → didWith o (mem t u a v) y ≡ writeDid (mem t n a s) y d w q i
     raise-done z last o v m l =
         let x : Went n (raised p (storeIn n)) u = went-well n (raised p (storeIn n)) u (rw z at g) in
         raise-stored t n a s y d w q i u (x .store) v h (ap (λ (m : Words). raised m (storeIn n)) (sym e) ∙ x .is) (x .mem) last o m l
 
 pub table-done : (t n a s y : List ℕ) (d k : ℕ) (w w′ : Write) (q : Query) (i : ℕ) (x v : List ℕ) (r : Report) → i ≡ writeCount q → k ≡ getD s 0 0 → w′ ≡ w
     → (r ≡ reported w′ (recordsIn k t)) × (x ≡ withRecords k t (effect w′ (recordsIn k t))) → v ≡ withClient s d (wrote (r .changed) (r .full) (clientIn s d))
-    → stepDid Accepted (mem x n a v) y ≡ writeDid (mem t n a s) y d w q i
+    → didWith Accepted (mem x n a v) y ≡ writeDid (mem t n a s) y d w q i
 unfolding writeDid writeTableDid nowAt columns columnsAt client reported
 table-done t n a s y d k w w′ q i x v r h e f l m =
     rw (le-ltb i (writeCount q) (omega arith), eq-eqb i (writeCount q) h, ← e, m, l .0, l .1, f)

@@ -20,7 +20,7 @@ use Rattle.rules.specs.Nodes.{Words, Store, isPending, unmarked, unmarkedAll}
 use Rattle.rules.specs.Client.{Client, steps, idle, queryAt}
 use Rattle.rules.specs.Memory.{Mem, mem, storeIn, withStore, clientIn, withClient}
 use Rattle.rules.specs.Outcome.{did}
-use Rattle.rules.specs.Steps.{nowAt, restored}
+use Rattle.rules.specs.Steps.{nowAt, storeBack}
 use Rattle.rules.specs.Calls.{marksSet, takenBack}
 use Rattle.columns.specs.Columns.{four}
 use Rattle.nodes.specs.Nodes as Nodes
@@ -161,7 +161,7 @@ module _ (q : Query) (n : ℕ) (s₀ s : List ℕ) (j : ℕ) (x : Taking q n s�
 -- ---- the call
 back-stored : (t n a s : List ℕ) (d : ℕ) (o : Option Store) (u : List ℕ) (st : Store) (v : List ℕ) → o ≡ some st → u ≡ withStore n st → v ≡ withClient s d idle
     → did Accepted (mem t u a v) ≡ takenBack (mem t n a s) d o
-unfolding takenBack nowAt restored
+unfolding takenBack nowAt storeBack
 back-stored t n a s d o u st v e f l = rw (e, f, l)
 
 back-none : (m : Mem) (d : ℕ) (o : Option Store) → isFound o ≡ false → did (Refused 3) m ≡ takenBack m d o

@@ -11,7 +11,7 @@ ghost use Rattle.rules.specs.Table.{insert, effect};
 ghost use Rattle.rules.specs.Nodes.{unmarkedAll};
 ghost use Rattle.rules.specs.Client.{inserts, idle};
 ghost use Rattle.rules.specs.Memory.{mem, recordsIn, withRecords, storeIn, clientIn, withClient};
-ghost use Rattle.rules.specs.Outcome.{did, stepDid};
+ghost use Rattle.rules.specs.Outcome.{did, didWith};
 ghost use Rattle.rules.specs.Steps.{endOf};
 ghost use Rattle.rules.specs.Calls.{marksSet};
 ghost use Rattle.nodes.specs.Nodes;
@@ -35,7 +35,7 @@ pub fn mark_step(nodes: &mut [u32], desks: &mut [u32], d: usize, k: usize) -> Ou
     requires { ⌜ Writer (now desks) d k ⌝ }
     requires { ⌜ Nodes.Fit (now nodes) ⌝ }
     requires { ⌜ stepAt (now desks) d < countAt k (now desks) d ⌝ }
-    ensures { λ r. ⌜ ((t a y : List ℕ) → stepDid r (mem t (now (nodes .exit)) a (now (desks .exit))) y ≡ stepOf k (mem t (now (nodes .entry)) a (now (desks .entry))) y d) ⌝ }
+    ensures { λ r. ⌜ ((t a y : List ℕ) → didWith r (mem t (now (nodes .exit)) a (now (desks .exit))) y ≡ stepOf k (mem t (now (nodes .entry)) a (now (desks .entry))) y d) ⌝ }
 {
     let cols = clients::columns_at(desks, d, k);
     let made = clients::steps_of(desks, d);
@@ -94,7 +94,7 @@ pub fn write_table_step(table: &mut [u32], desks: &mut [u32], d: usize, k: usize
     requires { ⌜ Writer (now desks) d k ⌝ }
     requires { ⌜ Table.Fit k (now table) ⌝ }
     requires { ⌜ stepAt (now desks) d ≡ countAt k (now desks) d ⌝ }
-    ensures { λ r. ⌜ ((n a y : List ℕ) → stepDid r (mem (now (table .exit)) n a (now (desks .exit))) y ≡ stepOf k (mem (now (table .entry)) n a (now (desks .entry))) y d) ⌝ }
+    ensures { λ r. ⌜ ((n a y : List ℕ) → didWith r (mem (now (table .exit)) n a (now (desks .exit))) y ≡ stepOf k (mem (now (table .entry)) n a (now (desks .entry))) y d) ⌝ }
 {
     let cols = clients::columns_at(desks, d, k);
     let kind = clients::kind_of(desks, d);
@@ -135,7 +135,7 @@ pub fn raise_step(nodes: &mut [u32], desks: &mut [u32], d: usize, k: usize) -> O
     requires { ⌜ Writer (now desks) d k ⌝ }
     requires { ⌜ Nodes.Fit (now nodes) ⌝ }
     requires { ⌜ countAt k (now desks) d < stepAt (now desks) d ⌝ }
-    ensures { λ r. ⌜ ((t a y : List ℕ) → stepDid r (mem t (now (nodes .exit)) a (now (desks .exit))) y ≡ stepOf k (mem t (now (nodes .entry)) a (now (desks .entry))) y d) ⌝ }
+    ensures { λ r. ⌜ ((t a y : List ℕ) → didWith r (mem t (now (nodes .exit)) a (now (desks .exit))) y ≡ stepOf k (mem t (now (nodes .entry)) a (now (desks .entry))) y d) ⌝ }
 {
     let cols = clients::columns_at(desks, d, k);
     let made = clients::steps_of(desks, d);
@@ -160,7 +160,7 @@ pub fn write_step(
     requires { ⌜ Writer (now desks) d k ⌝ }
     requires { ⌜ Nodes.Fit (now nodes) ⌝ }
     requires { ⌜ Table.Fit k (now table) ⌝ }
-    ensures { λ r. ⌜ ((a y : List ℕ) → stepDid r (mem (now (table .exit)) (now (nodes .exit)) a (now (desks .exit))) y ≡ stepOf k (mem (now (table .entry)) (now (nodes .entry)) a (now (desks .entry))) y d) ⌝ }
+    ensures { λ r. ⌜ ((a y : List ℕ) → didWith r (mem (now (table .exit)) (now (nodes .exit)) a (now (desks .exit))) y ≡ stepOf k (mem (now (table .entry)) (now (nodes .entry)) a (now (desks .entry))) y d) ⌝ }
 {
     let made = clients::steps_of(desks, d);
     let count = columns::keys::power(k);
