@@ -1,5 +1,6 @@
 // The filed answers over their lent memory: search, file, evict, empty, and the copy of a list into the tray. An entry is 152 numbers
 // (docs/LAYOUT.md): key at 0, list length at 7, revisions from 8, list from 24. The rules stand in the crate rules.
+use hall::Hall;
 ghost use mathlib.Core.Path.{_≡_};
 ghost use mathlib.Core.List.{[], _∷_, _++_};
 ghost use Prim.Native.Nat.{_≤_, _<_};
@@ -8,6 +9,9 @@ ghost use Rattle.lists.specs.Lists.{without, allBelow};
 ghost use Rattle.rules.specs.Answers.{hasKeyOf, atLeast, serves, fetchPlace, keyPlace, filed, someLong, lengthIn};
 ghost use Rattle.rules.specs.Memory.{answersIn, withAnswers};
 ghost use Rattle.answers.specs.Answers.{Fit, Gave};
+
+// The most answers that are kept.
+const ANSWERS: usize = Hall::ANSWERS as usize;
 
 // Whether the entry e answers x's query.
 fn has_key(e: &[u32], x: &[u32]) -> bool
@@ -91,7 +95,7 @@ pub fn some_long(answers: &[u32]) -> bool
     let mut at = 8;
     let mut i = 0;
     while i < count {
-        if 32 < answers[at + 7] {
+        if Hall::LIST < answers[at + 7] {
             return true;
         }
         at += 152;
@@ -132,7 +136,7 @@ pub fn file(answers: &mut [u32], entry: &[u32])
     let i = find_key(answers, entry);
     if i < count {
         replace(answers, i, entry);
-    } else if count < 64 {
+    } else if count < ANSWERS {
         append(answers, entry);
     } else {
         replace(answers, 0, entry);

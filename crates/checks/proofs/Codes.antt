@@ -22,7 +22,7 @@ use Rattle.rules.specs.Client.{Client, kind, steps, isIdle, isBad, reads, inser
 use Rattle.rules.specs.Memory.{Mem, columnsAt, clientIn, storeIn, answersIn}
 use Rattle.rules.specs.Refusals.{columns, client, isShort, badColumns, badQuery, isUnsound, noDesk, isCommitted, allIdle, atDesk, beginCode, stepCode, abandonCode, evictAnswerCode, evictNodeCode, renewCode}
 use Rattle.clients.specs.Clients.{idleAt}
-use Rattle.clients.proofs.Sound.{length-query}
+use Rattle.clients.proofs.Sound.{length-query, kind-busy, none-idle}
 use Rattle.nodes.proofs.Stores.{node-word}
 use Rattle.checks.specs.Checks.{soundCode, recordCode}
 
@@ -85,13 +85,13 @@ module _ (m : Mem) (d : ℕ) where
       desk-bad c = rw (← a, lt-leb 12 d b, ← c)
 
       module _ (c : false ≡ isBad (getD (m .desks) 0 0) (clientIn (m .desks) d)) where
-        pub desk-idle : true ≡ isIdle (clientIn (m .desks) d) → 6 ≡ atDesk m d
+        pub desk-idle : (x : ℕ) → x ≡ kind (clientIn (m .desks) d) → x ≡ 0 → 6 ≡ atDesk m d
         unfolding atDesk noDesk columns columnsAt client
-        desk-idle e = rw (← a, lt-leb 12 d b, ← c, ← e)
+        desk-idle x e h = rw (← a, lt-leb 12 d b, ← c, ← none-idle _ _ c (sym e ∙ h))
 
-        pub desk-busy : false ≡ isIdle (clientIn (m .desks) d) → 0 ≡ atDesk m d
+        pub desk-busy : (x : ℕ) → x ≡ kind (clientIn (m .desks) d) → (x ≡ 0 → ⊥) → 0 ≡ atDesk m d
         unfolding atDesk noDesk columns columnsAt client
-        desk-busy e = rw (← a, lt-leb 12 d b, ← c, ← e)
+        desk-busy x e h = rw (← a, lt-leb 12 d b, ← c, kind-busy (clientIn (m .desks) d) (λ z. h (e ∙ z)))
 
 -- ---- Begins
 -- the record of an insert, column after column

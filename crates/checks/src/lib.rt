@@ -63,7 +63,8 @@ pub fn at_desk(table: &[u32], nodes: &[u32], answers: &[u32], desks: &[u32], d: 
     if clients::is_bad(desks, d as usize, k) {
         return 3;
     }
-    if clients::is_idle(desks, d as usize) {
+    // A client that is not bad is idle exactly if its kind is 0: its other numbers need not be read again.
+    if clients::kind_of(desks, d as usize) == 0 {
         return 6;
     }
     0

@@ -1,6 +1,6 @@
 -- Laws of the check for senseless contents: its ways out, and what a client that passes it and is not idle is known to hold.
 -- Leans on rules and on the laws of Reading and of columns. Assumes nothing.
-use mathlib.Core.Path.{_≡_, refl, ap, _∙_}
+use mathlib.Core.Path.{_≡_, refl, sym, ap, _∙_}
 use mathlib.Core.Bool.{Bool, true, false, cond, not, _&&_, _||_, true≢false}
 use mathlib.Core.List.{List}
 use Prim.Native.Nat.{ℕ, zero, suc, _+_, _^_, _≤_, _<_}
@@ -8,7 +8,7 @@ use native.Mathlib.Omega.{arith}
 use lib.Dec.{eqb, ltb, leb}
 use lib.ListN.{length, getD, take}
 use lib.Seq.{length-take-le}
-use borrow.Author.Tests.{eqb-false, eq-eqb, ne-eqb, ltb-false, lt-ltb, le-ltb, leb-false}
+use borrow.Author.Tests.{eqb-false, eq-eqb, ne-eqb, ltb-false, lt-ltb, le-ltb, leb-false, not-false}
 use Rattle.laws.proofs.Lists.{ne-same}
 use Rattle.query.specs.declared.Column.{Column}
 use Rattle.query.specs.Query.{Query, named, readCount, writeCount}
@@ -98,6 +98,10 @@ module _ (k : ℕ) (c : Client) where
   bad-none true e h = rw (← e)
   bad-none false e h = rw (← e, h)
 
+  -- a client that is not bad and has no kind is idle
+  pub none-idle : false ≡ isBad k c → kind c ≡ 0 → true ≡ isIdle c
+  none-idle g h = sym (not-false (isIdle c) (bad-none (isIdle c) refl h ∙ sym g))
+
   bad-busy : (kind c ≡ 0 → ⊥) → kind c ≤ 3 → isBadBusy k c ≡ isBad k c
   unfolding isBad isBadBusy
   bad-busy h g = rw (kind-busy c h, ne-eqb (kind c) 0 h, le-ltb 3 (kind c) g)
@@ -151,10 +155,6 @@ pub record Sound (k : ℕ) (c : Client) : Type 0 where
 or-false : (a b : Bool) → a || b ≡ false → (a ≡ false) × (b ≡ false)
 or-false false b e = (refl, e)
 or-false true b e = absurd (true≢false e)
-
-not-false : (a : Bool) → not a ≡ false → a ≡ true
-not-false true e = refl
-not-false false e = absurd (true≢false e)
 
 -- an insert that passes
 named-all : (x : ℕ) (b : Bool) → eqb x inserts && not b ≡ false → x ≡ inserts → b ≡ true

@@ -1,5 +1,6 @@
 // One client's numbers in the desks memory (docs/LAYOUT.md): read, changed, and checked for senseless contents.
 // The rules stand in rules, what a function takes for granted in specs/Clients.antt.
+use hall::Hall;
 ghost use mathlib.Core.Path.{_≡_};
 ghost use mathlib.Core.Bool.{not, _&&_};
 ghost use Prim.Native.Nat.{_+_, _*_, _<_, _≤_};
@@ -13,6 +14,9 @@ ghost use Rattle.rules.specs.Client.{kind, steps, sawMark, didChange, foundFull
 ghost use Rattle.rules.specs.Memory.{clientIn, withClient};
 ghost use Rattle.clients.specs.Clients.{Fit, idleAt, begunWith, listSet};
 use query::Column;
+
+// How many clients there are.
+const CLIENTS: usize = Hall::CLIENTS as usize;
 
 // ---- Reading
 // Number j of client d.
@@ -77,7 +81,7 @@ pub fn all_idle(desks: &[u32]) -> bool
     ensures { λ r. ⌜ r ≡ allBelow 12 (idleAt (now (desks .entry))) ⌝ }
 {
     let mut d = 0;
-    while d < 12 {
+    while d < CLIENTS {
         if !is_idle(desks, d) {
             return false;
         }
@@ -193,7 +197,7 @@ pub fn set_list(desks: &mut [u32], d: usize, n: usize, k: usize)
 
 // ---- Soundness
 // How many steps a client of this kind makes at the most.
-pub fn last_step(kind: u32, cols: [Column; 4], k: usize) -> u32
+pub fn steps_in_all(kind: u32, cols: [Column; 4], k: usize) -> u32
     requires { ⌜ k ≤ 4 ⌝ }
     ensures { λ r. ⌜ r ≡ stepsInAll kind (take k cols) ⌝ }
 {
@@ -232,7 +236,7 @@ fn bad_step(desks: &[u32], d: usize, kind: u32, cols: [Column; 4], k: usize) -> 
     ensures { λ r. ⌜ r ≡ leb (stepsInAll kind (take k cols)) (steps (clientIn (now (desks .entry)) d)) ⌝ }
 {
     let made = steps_of(desks, d);
-    last_step(kind, cols, k) <= made
+    steps_in_all(kind, cols, k) <= made
 }
 
 // Whether a client's list is longer than any.
@@ -240,7 +244,7 @@ fn bad_length(desks: &[u32], d: usize) -> bool
     requires { ⌜ Fit (now desks) d ⌝ }
     ensures { λ r. ⌜ r ≡ ltb 32 (lengthIn (entryOf (clientIn (now (desks .entry)) d))) ⌝ }
 {
-    32 < word(desks, d, 12)
+    Hall::LIST < word(desks, d, 12)
 }
 
 // Whether a client is not idle and its kind, query, step or list length is out of range. Only where the kind is 0 are all its numbers read.

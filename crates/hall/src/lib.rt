@@ -33,6 +33,9 @@ impl Hall {
 
     pub const CLIENTS: u32 = 12;
 
+    // The most pending writes of a node.
+    pub const PENDING: u32 = 12;
+
     // The most records that a read lists.
     pub const LIST: u32 = 32;
 

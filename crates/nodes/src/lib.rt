@@ -1,5 +1,6 @@
 // Functions over the nodes memory: the floor at 0, the count at 1, nodes of 8 numbers from place 8 on (docs/LAYOUT.md). Each finds a node by
 // one scan. What they leave stands in the rules' Nodes.antt, read and written back by the rules' Memory.antt.
+use hall::Hall;
 ghost use mathlib.Core.Path.{_≡_};
 ghost use mathlib.Core.Bool.{Bool, true, false};
 ghost use mathlib.Core.List.{[]};
@@ -9,6 +10,9 @@ ghost use Rattle.lists.specs.Lists.{same};
 ghost use Rattle.rules.specs.Nodes.{store, nodePlace, oldestFree, evictNode, added, makeRoom, ensured, marked, raised, isPending, unmarked, isWorn};
 ghost use Rattle.rules.specs.Memory.{storeIn, withStore};
 ghost use Rattle.nodes.specs.Nodes.{Fit, did, tried, saw, looked, put, placed};
+
+// The most nodes that are kept.
+const NODES: usize = Hall::NODES as usize;
 
 // What a look saw: the node's revision and its pending writes; or that it is missing and there is no room for it.
 pub enum Sight {
@@ -125,7 +129,7 @@ fn make_room(nodes: &mut [u32]) -> bool
     ensures { λ r. ⌜ did r (now (nodes .exit)) ≡ tried (now (nodes .entry)) (makeRoom (storeIn (now (nodes .entry)))) ⌝ }
 {
     let n = nodes[1] as usize;
-    if n < 1024 {
+    if n < NODES {
         return true;
     }
     let i = find_free(nodes);
@@ -182,7 +186,7 @@ pub fn mark(nodes: &mut [u32], label: &[u32]) -> bool
     };
     let at = 8 + i * 8 + 5;
     let pending = nodes[at];
-    if 12 <= pending {
+    if Hall::PENDING <= pending {
         return false;
     }
     let more = pending + 1;

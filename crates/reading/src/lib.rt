@@ -1,5 +1,6 @@
 // The four steps of a read, after its refusals: look, fetch, table, file. Each is lent only the memories that it needs; its contract says of
 // any others that they are left alone. What a step leaves stands in the rules' Steps.antt, what it takes for granted in specs/Reading.antt.
+use hall::Hall;
 ghost use mathlib.Core.Path.{_≡_};
 ghost use mathlib.Core.List.{List};
 ghost use Prim.Native.Nat.{ℕ, _+_, _*_};
@@ -14,6 +15,9 @@ ghost use Rattle.table.specs.Table.{gathered};
 ghost use Rattle.reading.specs.Reading.{Reads, looks, made, Looks, Finds, foundFor, Fetches, Gathers, Lists, Files, Steps};
 use nodes::Sight;
 use rules::Outcome;
+
+// The most records that a read lists.
+const LIST: usize = Hall::LIST as usize;
 
 // A look: the next node's revision is noted, and whether writes are pending there.
 pub fn look_step(nodes: &mut [u32], desks: &mut [u32], d: usize, k: usize) -> Outcome
@@ -88,7 +92,7 @@ pub fn table_step(table: &[u32], desks: &mut [u32], tray: &mut [u32], d: usize, 
     ensures { λ r. ⌜ ((n a : List ℕ) → didWith r (mem (now (table .entry)) n a (now (desks .exit))) (now (tray .exit)) ≡ readDid (mem (now (table .entry)) n a (now (desks .entry))) (now (tray .entry)) d (queryAt k (clientIn (now (desks .entry)) d)) (made (now (desks .entry)) d)) ⌝ }
 {
     let n = gather_list(table, desks, d, k);
-    if 32 < n {
+    if LIST < n {
         clients::set_idle(desks, d);
         return Outcome::Long;
     }

@@ -7,13 +7,14 @@ ghost use Rattle.lists.specs.Lists.{written, flat};
 ghost use Rattle.rules.specs.Table.{insert, delete, effect, listOf};
 ghost use Rattle.rules.specs.Memory.{recordsIn, withRecords};
 ghost use Rattle.table.specs.Table.{Fit, gathered, spotOf, insertedAs, gone};
+use hall::Hall;
 use query::Column;
 use words::Order;
 
 // The most records that a table holds, and that a read lists.
-const RECORDS: usize = 2048;
+const RECORDS: usize = Hall::RECORDS as usize;
 
-const LIST: usize = 32;
+const LIST: usize = Hall::LIST as usize;
 
 // What an insert did.
 pub enum Inserted {

@@ -29,14 +29,14 @@ is-bad-requires c κs = (client-fit _ (sound _ (c .before .before .before .befor
 returns-3 : tie.Need-returns-3
 returns-3 c = desk-bad _ _ (sym (c .before .before .before .before .if1 .left) ∙ c .before .before .before .before .before .is-unsound .ensures) (c .before .before .before .if2 .left) (sym (c .if3 .taken) ∙ c .before .is-bad .ensures)
 
-is-idle-requires : tie.Need-is-idle-requires
-is-idle-requires c κs = client-fit _ (sound _ (c .before .before .before .before .before .before .before .before .before .before .pre) (sym (sym (c .before .before .before .before .if1 .left) ∙ c .before .before .before .before .before .is-unsound .ensures))) _ (c .before .before .before .if2 .left)
+kind-of-requires : tie.Need-kind-of-requires
+kind-of-requires c κs = client-fit _ (sound _ (c .before .before .before .before .before .before .before .before .before .before .pre) (sym (sym (c .before .before .before .before .if1 .left) ∙ c .before .before .before .before .before .is-unsound .ensures))) _ (c .before .before .before .if2 .left)
 
 returns-4 : tie.Need-returns-4
-returns-4 c = desk-idle _ _ (sym (c .before .before .before .before .before .before .if1 .left) ∙ c .before .before .before .before .before .before .before .is-unsound .ensures) (c .before .before .before .before .before .if2 .left) (sym (c .before .before .if3 .left) ∙ c .before .before .before .is-bad .ensures) (sym (c .if4 .taken) ∙ c .before .is-idle .ensures)
+returns-4 c = desk-idle _ _ (sym (c .before .before .before .before .before .before .if1 .left) ∙ c .before .before .before .before .before .before .before .is-unsound .ensures) (c .before .before .before .before .before .if2 .left) (sym (c .before .before .if3 .left) ∙ c .before .before .before .is-bad .ensures) _ (c .before .kind-of .ensures) (c .if4 .taken)
 
 returns-5 : tie.Need-returns-5
-returns-5 c = desk-busy _ _ (sym (c .before .before .before .before .before .before .if1 .left) ∙ c .before .before .before .before .before .before .before .is-unsound .ensures) (c .before .before .before .before .before .if2 .left) (sym (c .before .before .if3 .left) ∙ c .before .before .before .is-bad .ensures) (sym (c .if4 .left) ∙ c .before .is-idle .ensures)
+returns-5 c = desk-busy _ _ (sym (c .before .before .before .before .before .before .if1 .left) ∙ c .before .before .before .before .before .before .before .is-unsound .ensures) (c .before .before .before .before .before .if2 .left) (sym (c .before .before .if3 .left) ∙ c .before .before .before .is-bad .ensures) _ (c .before .kind-of .ensures) (c .if4 .left)
 
 pub at-desk-spec : {M : Type 1} → statement M
 at-desk-spec =
@@ -49,6 +49,6 @@ at-desk-spec =
     cast-k
     is-bad-requires
     returns-3
-    is-idle-requires
+    kind-of-requires
     returns-4
     returns-5)

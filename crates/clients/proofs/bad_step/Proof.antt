@@ -7,11 +7,11 @@ use Rattle.clients.proofs.bad_step.Tie as tie
 steps-of-requires : tie.Need-steps-of-requires
 steps-of-requires c κs = search needs
 
-last-step-requires : tie.Need-last-step-requires
-last-step-requires c κs = search needs
+steps-in-all-requires : tie.Need-steps-in-all-requires
+steps-in-all-requires c κs = search needs
 
 returns : tie.Need-returns
-returns c = rw (← c .last-step .ensures, ← c .before .steps-of .ensures)
+returns c = rw (← c .steps-in-all .ensures, ← c .before .steps-of .ensures)
 
 pub bad-step-spec : {M : Type 1} → statement M
-bad-step-spec = tie.close (tie.spec steps-of-requires last-step-requires returns)
+bad-step-spec = tie.close (tie.spec steps-of-requires steps-in-all-requires returns)

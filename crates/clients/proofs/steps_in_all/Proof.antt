@@ -1,9 +1,9 @@
--- `clients::last_step` meets its contract: a read's by the columns it names, a write's by k. Assumes nothing.
+-- `clients::steps_in_all` meets its contract: a read's by the columns it names, a write's by k. Assumes nothing.
 use native.Mathlib.Omega.{arith}
 use Rattle.clients.proofs.Sound.{last-read, last-write, power-small, named-small}
 use borrow.Author.Needs.{needs}
-use Rattle.clients.proofs.last_step.Statement.{statement}
-use Rattle.clients.proofs.last_step.Tie as tie
+use Rattle.clients.proofs.steps_in_all.Statement.{statement}
+use Rattle.clients.proofs.steps_in_all.Tie as tie
 
 named-requires : tie.Need-named-requires
 named-requires c κs = search needs
@@ -29,8 +29,8 @@ add-result-3 c = omega (arith, power-small _ _ (c .power2 .ensures) (search need
 returns-2 : tie.Need-returns-2
 returns-2 c = last-write _ _ _ _ (c .power2 .ensures) (search needs) (c .before .if1 .left)
 
-pub last-step-spec : {M : Type 1} → statement M
-last-step-spec =
+pub steps-in-all-spec : {M : Type 1} → statement M
+steps-in-all-spec =
     tie.close
     (tie.spec
     named-requires
