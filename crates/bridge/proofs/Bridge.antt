@@ -12,6 +12,7 @@ use Rattle.rules.specs.Client.{kind, reads}
 use Rattle.rules.specs.Memory.{Mem, storeIn}
 use Rattle.rules.specs.Outcome.{Stepped, number}
 use Rattle.rules.specs.Refusals.{columns, client, stepCode}
+use Rattle.rules.proofs.Passed.{step-told}
 use Rattle.rules.specs.Steps.{progress}
 use Rattle.rules.specs.Calls.{stepDid}
 use Rattle.rules.specs.History.{Call, beginRead, beginInsert, beginDelete, step, abandon, evictAnswer, evictNode, renew, callDid}
@@ -20,7 +21,7 @@ use Rattle.machine.proofs.Machine as machine
 use Rattle.machine.proofs.Did.{Did}
 use Rattle.bridge.proofs.View.{stateOf, callOf, resultIn, resultOf, Fits}
 use Rattle.bridge.proofs.States.{Led}
-use Rattle.bridge.proofs.Refusals.{refused-led, step-low, step-told}
+use Rattle.bridge.proofs.Refusals.{refused-led, step-low}
 use Rattle.bridge.proofs.Steps.{Going, going}
 use Rattle.bridge.proofs.Reading.{read-led}
 use Rattle.bridge.proofs.Writing.{write-led}
@@ -38,7 +39,7 @@ step-led : (m : Mem) (tray : List ℕ) (d : ℕ) → Fits m → NoDup (storeIn (
 unfolding stepDid
 step-led m tray d f once =
     byTest (eqb (stepCode m tray d) 0)
-    (λ t. let s = step-told m tray d (eqb-true (stepCode m tray d) 0 t) in rw t (progress-led m tray d (going m f once d (s .1) (s .2))))
+    (λ t. let s = step-told m tray d (eqb-true (stepCode m tray d) 0 t) in rw t (progress-led m tray d (going m f once d (s .1 .desk) (s .1 .busy))))
     (λ t. rw t (refused-led m (machine.step d) (stepCode m tray d) tray f (step-low m tray d) (eqb-false (stepCode m tray d) 0 t)))
 
 -- ---- Every call

@@ -1,10 +1,9 @@
 -- What the changes of a client do to its parts: kind, steps, flags and entry. Leans on rules' Client and on the laws of lists.
 -- Assumes nothing.
 use mathlib.Core.Path.{_≡_, refl, sym, ap, _∙_}
-use mathlib.Core.Bool.{Bool, true, false, cond, not, _||_}
+use mathlib.Core.Bool.{Bool, true, false, cond, not, _||_, or-true, or-false}
 use mathlib.Core.List.{List, [], _∷_, _++_, append-assoc}
 use Prim.Native.Nat.{ℕ, suc, _+_, _-_, _*_, _≤_, _<_}
-use native.Mathlib.Nat.{mul-le-mul-right}
 use native.Mathlib.Omega.{arith}
 use lib.Dec.{eqb, ltb}
 use lib.ListN.{length, getD, take, drop, set, replicate, length-drop, length-set, List·getD-eq-default}
@@ -20,6 +19,7 @@ use Rattle.query.specs.Words.{keyWords}
 use Rattle.query.proofs.Words.{key-words-length}
 use Rattle.rules.specs.Answers.{Entry, keyIn, lengthIn, listIn}
 use Rattle.rules.specs.Client.{Client, kind, steps, sawMark, didChange, foundFull, entryOf, begun, stepped, flag, noted, holding, wrote}
+use Rattle.rules.proofs.Clients.{list-room}
 use Rattle.bridge.proofs.View.{valueIn, revisionsIn}
 
 -- ---- Lists
@@ -138,16 +138,8 @@ module _ (c : Client) (w : length c ≡ 157) where
     saw-or : (x : ℕ) → not (eqb (cond (eqb p 0) x 1) 0) ≡ (not (eqb x 0) || ltb 0 p)
     saw-or x =
         byTest (eqb p 0)
-        (λ e. let z : p ≡ 0 = eqb-true p 0 e in rw (e, le-ltb 0 p (omega arith)) (or-off (not (eqb x 0))))
-        (λ e. let z : p ≡ 0 → ⊥ = eqb-false p 0 e in rw (e, lt-ltb 0 p (omega arith)) (sym (or-on (not (eqb x 0)))))
-      where
-        or-off : (b : Bool) → b ≡ (b || false)
-        or-off true = refl
-        or-off false = refl
-
-        or-on : (b : Bool) → (b || true) ≡ true
-        or-on true = refl
-        or-on false = refl
+        (λ e. let z : p ≡ 0 = eqb-true p 0 e in rw (e, le-ltb 0 p (omega arith)) (sym (or-false (not (eqb x 0)))))
+        (λ e. let z : p ≡ 0 → ⊥ = eqb-false p 0 e in rw (e, lt-ltb 0 p (omega arith)) (sym (or-true (not (eqb x 0)))))
 
     pub noted-saw : sawMark (noted j r p c) ≡ (sawMark c || ltb 0 p)
     unfolding noted sawMark stepped
@@ -183,10 +175,6 @@ module _ (c : Client) (w : length c ≡ 157) where
     unfolding wrote foundFull stepped
     wrote-full = ap (λ (x : ℕ). not (eqb x 0)) (three-last c 1 (steps c + 1) 3 (flag changed) 4 (flag full) (omega arith)) ∙ flag-told full
 
--- a list of at most 32 records of at most 4 numbers
-pub few-numbers : (k n : ℕ) → k ≤ 4 → n ≤ 32 → n * k ≤ 128
-few-numbers k n h g = let a : n * k ≤ 32 * k = mul-le-mul-right k g in omega arith
-
 padded-front : (n x : ℕ) (a r : List ℕ) → length a ≡ x → take x (padded n a ++ r) ≡ a
 unfolding padded
 padded-front n x a r h = rw append-assoc (take-at a (replicate (n - length a) 0 ++ r) x h)
@@ -198,7 +186,7 @@ counted c n = set (entryOf c) 7 n
 
 module _ (c : Client) (w : length c ≡ 157) (k : ℕ) (l : List Record) (wl : Wide k l) (few : k ≤ 4) (short : length l ≤ 32) where
   length-list : length (padded 128 (flat l)) ≡ 128
-  length-list = let a = length-flat k l wl in let b = few-numbers k (length l) few short in length-padded 128 (flat l) (omega arith)
+  length-list = let a = length-flat k l wl in let b = list-room (length l) k short few in length-padded 128 (flat l) (omega arith)
 
   length-counted : length (counted c (length l)) ≡ 152
   unfolding counted

@@ -1,24 +1,25 @@
--- Which desk of the machine a client stands for in each phase, and that what a step leaves is sound again. Leans on View and Clients.
--- Assumes nothing.
+-- Which desk of the machine a client stands for in each phase, and that what a step leaves is sound again. Leans on View and Clients, and
+-- on what rules' sound client keeps to. Assumes nothing.
 use mathlib.Core.Path.{_≡_, refl, sym, ap, ap₂, _∙_}
-use mathlib.Core.Bool.{Bool, true, false, not, _&&_, _||_}
+use mathlib.Core.Bool.{Bool, true, false}
 use mathlib.Core.List.{List, [], _∷_}
 use Prim.Native.Nat.{ℕ, _+_, _-_, _≤_, _<_}
 use native.Mathlib.Omega.{arith}
-use lib.Dec.{eqb, ltb, leb}
-use borrow.Author.Tests.{ltb-false, leb-false, eqb-true, eqb-false, le-ltb, le-leb, lt-leb, eq-eqb, ne-eqb, not-false}
+use lib.Dec.{eqb}
+use borrow.Author.Tests.{eqb-true, le-leb, lt-leb, eq-eqb, ne-eqb}
 use lib.ListN.{length, getD, length-replicate}
-use Rattle.laws.proofs.Tests.{or-false-l, or-false-r, byTest, clash}
+use Rattle.laws.proofs.Tests.{byTest}
 use Rattle.query.specs.declared.Column.the-variants.{Is, Wildcard}
 use Rattle.query.specs.Query.{Query, naming, named, readCount, writeCount}
-use Rattle.query.specs.Words.{recordOf, namesAll, queryIn, isKey}
+use Rattle.query.specs.Words.{recordOf, namesAll, queryIn}
 use Rattle.query.proofs.Nodes.{named-most}
 use Rattle.query.proofs.Words.{query-in-key, key-is-key}
 use Rattle.rules.specs.Sizes.{maxList}
 use Rattle.rules.specs.Table.{Write, insert, delete, target}
-use Rattle.rules.specs.Answers.{Entry, keyIn, lengthIn}
+use Rattle.rules.specs.Answers.{Entry, lengthIn}
 use Rattle.rules.specs.Client.{Client, kind, steps, sawMark, didChange, foundFull, entryOf, isIdle, queryAt, writeAt, stepsInAll, isBad, begun, reads, inserts, deletes}
 use Rattle.rules.specs.Client as rules
+use Rattle.rules.proofs.Clients.{Busy, idle-sound}
 use Rattle.laws.proofs.Lists.{same-refl, same-eq}
 use Rattle.machine.proofs.Keys.{Key}
 use Rattle.machine.proofs.Machine.{Desk, idle, looking, tabling, filing, marking, raising}
@@ -26,81 +27,10 @@ use Rattle.bridge.proofs.View.{keyOf, valueIn, revisionsIn, looksOf, re
 use Rattle.bridge.proofs.Clients.{Next}
 use Rattle.bridge.proofs.Clients.{begun-kind, begun-steps, begun-saw, begun-key, begun-length}
 
--- ---- Soundness
--- what a busy client that is sound keeps to
-pub record Busy (k : ℕ) (c : Client) : Type 0 where
-  pub low : 1 ≤ kind c
-  pub high : kind c ≤ 3
-  pub key : isKey k (keyIn (entryOf c)) ≡ true
-  pub names : kind c ≡ inserts → namesAll (queryAt k c) ≡ true
-  pub going : steps c < stepsInAll (kind c) (queryAt k c)
-  pub short : lengthIn (entryOf c) ≤ maxList
-
-pub and-not : (a b : Bool) → (a && not b) ≡ false → a ≡ true → b ≡ true
-and-not true true e f = refl
-and-not true false e f = sym e
-and-not false b e f = clash f refl
-
--- the tests of a busy client
-faults : ℕ → Client → Bool
-faults k c =
-    (eqb (kind c) 0 || ltb 3 (kind c))
-    || (not (isKey k (keyIn (entryOf c)))
-    || ((eqb (kind c) inserts && not (namesAll (queryAt k c)))
-    || (leb (stepsInAll (kind c) (queryAt k c)) (steps c)
-    || ltb maxList (lengthIn (entryOf c)))))
-
-bad-faults : (k : ℕ) (c : Client) → isBad k c ≡ (not (isIdle c) && faults k c)
-unfolding isBad faults
-bad-faults k c = refl
-
-faults-busy : (k : ℕ) (c : Client) → faults k c ≡ false → Busy k c
-unfolding faults
-faults-busy k c h =
-    let a = or-false-l (eqb (kind c) 0 || ltb 3 (kind c)) _ h in
-    let r = or-false-r (eqb (kind c) 0 || ltb 3 (kind c)) _ h in
-    let b = or-false-l (not (isKey k (keyIn (entryOf c)))) _ r in
-    let s = or-false-r (not (isKey k (keyIn (entryOf c)))) _ r in
-    let d = or-false-l (eqb (kind c) inserts && not (namesAll (queryAt k c))) _ s in
-    let t = or-false-r (eqb (kind c) inserts && not (namesAll (queryAt k c))) _ s in
-    let e = or-false-l (leb (stepsInAll (kind c) (queryAt k c)) (steps c)) _ t in
-    let f = or-false-r (leb (stepsInAll (kind c) (queryAt k c)) (steps c)) _ t in
-    let z : kind c ≡ 0 → ⊥ = eqb-false (kind c) 0 (or-false-l (eqb (kind c) 0) _ a) in
-    record {
-      low = omega arith;
-      high = ltb-false 3 (kind c) (or-false-r (eqb (kind c) 0) _ a);
-      key = not-false _ b;
-      names = λ i. and-not (eqb (kind c) inserts) (namesAll (queryAt k c)) d (eq-eqb (kind c) inserts i);
-      going = leb-false _ _ e;
-      short = ltb-false _ _ f;
-    }
-
-pub busy-of : (k : ℕ) (c : Client) → isBad k c ≡ false → isIdle c ≡ false → Busy k c
-busy-of k c h e = faults-busy k c (rw e at (sym (bad-faults k c) ∙ h))
-
-names-off : (k : ℕ) (c : Client) → Busy k c → (eqb (kind c) inserts && not (namesAll (queryAt k c))) ≡ false
-names-off k c b = byTest (eqb (kind c) inserts) (λ e. rw (e, b .names (eqb-true (kind c) inserts e))) (λ e. rw e)
-
-busy-faults : (k : ℕ) (c : Client) → Busy k c → faults k c ≡ false
-unfolding faults
-busy-faults k c b =
-    let l = b .low in
-    rw (ne-eqb (kind c) 0 (λ z. omega arith), le-ltb 3 (kind c) (b .high), b .key, names-off k c b, lt-leb _ _ (b .going), le-ltb _ _ (b .short))
-
-and-false : (a : Bool) → (a && false) ≡ false
-and-false true = refl
-and-false false = refl
-
-pub busy-sound : (k : ℕ) (c : Client) → Busy k c → isBad k c ≡ false
-busy-sound k c b = bad-faults k c ∙ rw (busy-faults k c b) (and-false (not (isIdle c)))
-
 -- ---- An idle client
 pub idle-is : isIdle rules.idle ≡ true
 unfolding isIdle
 idle-is = same-refl rules.idle
-
-pub idle-sound : (k : ℕ) → isBad k rules.idle ≡ false
-idle-sound k = bad-faults k rules.idle ∙ rw idle-is
 
 pub idle-wide : length rules.idle ≡ 157
 unfolding rules.idle
@@ -124,7 +54,7 @@ pub record Left (k : ℕ) (t : Client) (x : Desk) : Type 0 where
   pub desk : deskOf k t ≡ x
 
 pub idle-left : (k : ℕ) → Left k rules.idle idle
-idle-left k = record { sound = idle-sound k; wide = idle-wide; desk = idle-desk k }
+idle-left k = record { sound = idle-sound k rules.idle idle-is; wide = idle-wide; desk = idle-desk k }
 
 -- ---- A busy client's desk
 pub busy-desk : (k : ℕ) (c : Client) → Busy k c → deskOf k c ≡ busyDesk k c

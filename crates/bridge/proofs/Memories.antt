@@ -1,61 +1,21 @@
--- What is read from a memory after something was written into it: clients, records, nodes, filed answers. Leans on rules' Memory and on the
+-- What is read from a memory after something was written into it: records, nodes, filed answers. Leans on rules' Memory and on the
 -- laws of lists. Assumes nothing.
-use mathlib.Core.Path.{_≡_, sym, ap, _∙_}
+use mathlib.Core.Path.{_≡_, ap, _∙_}
 use mathlib.Core.List.{List, [], _∷_}
-use Prim.Native.Nat.{ℕ, _+_, _-_, _*_, _≤_, _<_}
+use Prim.Native.Nat.{ℕ, _+_, _-_, _*_, _≤_}
 use native.Mathlib.Nat.{mul-le-mul-right}
 use native.Mathlib.Omega.{arith}
-use lib.Dec.{ltb}
-use borrow.Author.Tests.{ltb-true, ltb-false}
-use lib.ListN.{length, getD, take, drop, length-set, length-drop}
-use lib.Seq.{take-at, length-take-le, getD-set-same, getD-set-other}
-use Rattle.laws.proofs.Tests.{byTest}
-use Rattle.lists.specs.Lists.{written, entriesIn, withEntries}
-use Rattle.laws.proofs.Written.{drop-take, take-written, drop-written, drop-of-written, getD-before, length-written}
+use lib.ListN.{length, getD, length-set}
+use lib.Seq.{getD-set-same, getD-set-other}
+use Rattle.lists.specs.Lists.{entriesIn, withEntries}
 use Rattle.laws.proofs.Rows.{Wide}
 use Rattle.laws.proofs.Entries.{length-entries, wide-entries, entries-header, entries-with, length-with, count-with}
 use Rattle.rules.specs.Table.{Table}
 use Rattle.rules.specs.Nodes.{Node, Store}
 use Rattle.rules.specs.Answers.{Entry}
-use Rattle.rules.specs.Client.{Client}
-use Rattle.rules.specs.Memory.{recordsIn, withRecords, storeIn, withStore, answersIn, withAnswers, columnsAt, clientIn, withClient}
+use Rattle.rules.specs.Memory.{recordsIn, withRecords, storeIn, withStore, answersIn, withAnswers}
 use Rattle.revisions.proofs.Nodes.{Each, AllRows}
 use Rattle.machine.proofs.Base.{In, here, there}
-
--- ---- Clients
-module _ (s : List ℕ) (d : ℕ) (c : Client) (w : length c ≡ 157) (room : 8 + d * 157 + 157 ≤ length s) where
-  start : 8 + d * 157 ≤ length s
-  start = omega arith
-
-  pub client-same : clientIn (withClient s d c) d ≡ c
-  unfolding clientIn withClient
-  client-same = rw (drop-of-written s (8 + d * 157) c start) (take-at c (drop (8 + d * 157 + length c) s) 157 w)
-
-  -- an earlier part of the memory
-  part-before : (j n : ℕ) → j + n ≤ 8 + d * 157 → take n (drop j (written s (8 + d * 157) c)) ≡ take n (drop j s)
-  part-before j n h =
-      let e : j + n - j ≡ n = omega arith in
-      let a : (l : List ℕ) → take n (drop j l) ≡ drop j (take (j + n) l) = λ l. rw (drop-take j (j + n) l, e) in
-      a (written s (8 + d * 157) c) ∙ ap (drop j) (take-written s (8 + d * 157) c start (j + n) h) ∙ sym (a s)
-
-  pub client-other : (e : ℕ) → (e ≡ d → ⊥) → clientIn (withClient s d c) e ≡ clientIn s e
-  unfolding clientIn withClient
-  client-other e ne =
-      byTest (ltb e d)
-      (λ t. let z : e < d = ltb-true e d t in part-before (8 + e * 157) 157 (omega arith))
-      (λ t. let z : d ≤ e = ltb-false e d t in ap (take 157) (drop-written s (8 + d * 157) c start (8 + e * 157) (omega arith)))
-
-  pub columns-with : columnsAt (withClient s d c) ≡ columnsAt s
-  unfolding columnsAt withClient
-  columns-with = getD-before s (8 + d * 157) c start 0 0 (omega arith)
-
-  pub length-client : length (withClient s d c) ≡ length s
-  unfolding withClient
-  length-client = length-written s (8 + d * 157) c (omega arith)
-
-pub client-wide : (s : List ℕ) (d : ℕ) → 8 + d * 157 + 157 ≤ length s → length (clientIn s d) ≡ 157
-unfolding clientIn
-client-wide s d h = length-take-le 157 (drop (8 + d * 157) s) (rw length-drop (omega arith))
 
 -- ---- Records
 pub records-room : (k n : ℕ) → k ≤ 4 → n ≤ 2048 → 8 + n * k ≤ 8200

@@ -1,26 +1,26 @@
 -- Memories that an accepted opening leaves fit, and stand for the machine's opened state. Leans on View and Desks. Assumes nothing.
 use mathlib.Core.Path.{_≡_, _∙_, fun-ext}
-use mathlib.Core.Bool.{false}
 use mathlib.Core.List.{List, [], _++_, map, append-assoc}
 use Prim.Native.Nat.{ℕ, _+_, _-_, _*_, _≤_, _<_}
 use native.Mathlib.Omega.{arith}
-use lib.Dec.{eqb, ltb}
-use borrow.Author.Tests.{ltb-true, ltb-false, eqb-false}
+use lib.Dec.{ltb}
+use borrow.Author.Tests.{ltb-true}
 use lib.ListN.{length, getD, take, drop, replicate, length-append, length-drop, length-set, length-replicate, getD-replicate, List·getD-append, replicate-append-replicate}
 use lib.Seq.{take-at, drop-at, getD-set-same, getD-set-other, drop-set-lt}
-use Rattle.laws.proofs.Tests.{or-false-l, or-false-r, byTest}
+use Rattle.laws.proofs.Tests.{byTest}
 use Rattle.lists.specs.Lists.{rows, entriesIn}
 use Rattle.rules.specs.Sizes.{maxClients, tableLeast, nodesLeast, answersLeast, desksLeast}
 use Rattle.rules.specs.Nodes.{store}
 use Rattle.rules.specs.Client as rules
 use Rattle.rules.specs.Memory.{Mem, recordsIn, storeIn, answersIn, columnsAt, clientIn, cleared, opened}
-use Rattle.rules.specs.Refusals.{columns, client, isShort, badColumns, openCode}
+use Rattle.rules.specs.Refusals.{columns, client, openCode}
+use Rattle.rules.proofs.Clients.{idle-sound}
+use Rattle.rules.proofs.Passed.{Long, open-told}
 use Rattle.machine.proofs.Base.{in-none}
 use Rattle.machine.proofs.Machine.{idle}
 use Rattle.machine.proofs.Machine as machine
 use Rattle.bridge.proofs.View.{ansOf, desksOf, filedOf, stateOf, Fits}
-use Rattle.bridge.proofs.Desks.{idle-sound, idle-desk}
-use Rattle.bridge.proofs.Refusals.{passed}
+use Rattle.bridge.proofs.Desks.{idle-is, idle-desk}
 
 -- ---- A cleared memory
 module _ (n : ℕ) (s : List ℕ) where
@@ -52,36 +52,6 @@ cleared-part n s i j h = rw (split n i j h, append-assoc, append-assoc) (zeros-p
 no-entries : (c w : ℕ) (s : List ℕ) → getD s c 0 ≡ 0 → entriesIn c w s ≡ []
 unfolding entriesIn rows
 no-entries c w s e = rw e
-
--- ---- An opening that is accepted
-open-told : (m : Mem) (k : ℕ) → openCode m k ≡ 0 → (isShort m ≡ false) × (badColumns k ≡ false)
-unfolding openCode
-open-told m k e = let p = passed (isShort m) 0 _ e in (p .0, passed (badColumns k) 1 0 (p .1) .0)
-
--- every memory has its least length
-record Long (m : Mem) : Type 0 where
-  table : tableLeast ≤ length (m .table)
-  nodes : nodesLeast ≤ length (m .nodes)
-  answers : answersLeast ≤ length (m .answers)
-  desks : desksLeast ≤ length (m .desks)
-
-long-told : (m : Mem) → isShort m ≡ false → Long m
-unfolding isShort
-long-told m e =
-    let a = or-false-r (ltb (length (m .table)) tableLeast) _ e in
-    let b = or-false-r (ltb (length (m .nodes)) nodesLeast) _ a in
-    record {
-      table = ltb-false _ _ (or-false-l (ltb (length (m .table)) tableLeast) _ e);
-      nodes = ltb-false _ _ (or-false-l (ltb (length (m .nodes)) nodesLeast) _ a);
-      answers = ltb-false _ _ (or-false-l (ltb (length (m .answers)) answersLeast) _ b);
-      desks = ltb-false _ _ (or-false-r (ltb (length (m .answers)) answersLeast) _ b);
-    }
-
-columns-told : (k : ℕ) → badColumns k ≡ false → (1 ≤ k) × (k ≤ 4)
-unfolding badColumns
-columns-told k e =
-    let z : k ≡ 0 → ⊥ = eqb-false k 0 (or-false-l (eqb k 0) _ e) in
-    (omega arith, ltb-false _ _ (or-false-r (eqb k 0) _ e))
 
 -- ---- What it leaves
 module _ (m : Mem) (k : ℕ) (l : Long m) where
@@ -141,7 +111,7 @@ module _ (m : Mem) (k : ℕ) (l : Long m) where
     nodes = let z = no-nodes in omega arith;
     answers = let z = no-answers in omega arith;
     kept = λ e i. in-none (rw none-filed at i);
-    sound = λ d h. rw (opened-client d h) (idle-sound (columns (opened k m)));
+    sound = λ d h. rw (opened-client d h) (idle-sound (columns (opened k m)) rules.idle idle-is);
   }
 
   desks-opened : (d : ℕ) → desksOf (opened k m) d ≡ idle
@@ -162,6 +132,4 @@ module _ (m : Mem) (k : ℕ) (l : Long m) where
 pub opened-fits : (m : Mem) (k : ℕ) → openCode m k ≡ 0 → Fits (opened k m) × (stateOf (opened k m) ≡ machine.opened k)
 opened-fits m k e =
     let t = open-told m k e in
-    let l = long-told m (t .0) in
-    let c = columns-told k (t .1) in
-    (fits-opened m k l (c .0) (c .1), state-opened m k l)
+    (fits-opened m k (t .0) (t .1 .0) (t .1 .1), state-opened m k (t .0))

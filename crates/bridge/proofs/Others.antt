@@ -24,6 +24,8 @@ use Rattle.rules.specs.Client.{Client, kind, sawMark, isIdle, writeAt, begun, r
 use Rattle.rules.specs.Client as rules
 use Rattle.rules.specs.Memory.{Mem, withFiled, storeIn, answersIn, withAnswers, renewed}
 use Rattle.rules.specs.Refusals.{columns, client, beginCode, abandonCode, evictAnswerCode, evictNodeCode, renewCode}
+use Rattle.rules.proofs.Clients.{Busy, busy-sound}
+use Rattle.rules.proofs.Passed.{Begins, begin-told, abandon-told, steps-before, evict-answer-told, evict-node-told, renew-told}
 use Rattle.rules.specs.Outcome.{did}
 use Rattle.rules.specs.Steps.{nowAt, storeBack}
 use Rattle.rules.specs.Calls.{beginDid, marksSet, takenBack, abandoned, abandonDid, evictAnswerDid, evictNodeDid, renewDid}
@@ -36,11 +38,11 @@ use Rattle.machine.proofs.Keys.{marksOf, width, widthOf}
 use Rattle.machine.proofs.Machine.{Desk, idle, State, begin-read, begin-write, abandon, out-answer, out-node, renew, with-store, with-filed, cut}
 use Rattle.machine.proofs.Did as steps-of
 use Rattle.bridge.proofs.View.{looksOf, ansOf, readerOf, deskOf, busyDesk, desksOf, filedOf, stateOf, resultIn, Fits}
-use Rattle.bridge.proofs.Desks.{Left, Busy, idle-left, busy-sound, busy-desk, marking-desk, write-target, target-insert, target-delete, begun-busy, begun-reads, begun-insert, begun-delete, begun-writes}
+use Rattle.bridge.proofs.Desks.{Left, idle-left, busy-desk, marking-desk, write-target, target-insert, target-delete, begun-busy, begun-reads, begun-insert, begun-delete, begun-writes}
 use Rattle.bridge.proofs.Clients.{begun-wide}
 use Rattle.bridge.proofs.Memories.{rows-nodes, length-nodes, wide-answers, length-answers}
 use Rattle.bridge.proofs.States.{After, Led, led, as-it-was, at-store, at-filed, then-now}
-use Rattle.bridge.proofs.Refusals.{refused-led, unless-led, Begins, begin-low, begin-told, abandon-low, abandon-told, evict-answer-low, evict-answer-told, evict-node-low, evict-node-told, renew-low, renew-told}
+use Rattle.bridge.proofs.Refusals.{refused-led, unless-led, begin-low, abandon-low, evict-answer-low, evict-node-low, renew-low}
 use Rattle.bridge.proofs.Answers.{map-without, in-without}
 use Rattle.bridge.proofs.Steps.{wroteAt, marksAt, askedAt, stepsAt, entryAt, Going, going, desk-at}
 
@@ -174,7 +176,7 @@ module _ (m : Mem) (d : ℕ) (g : Going m d) where
 pub abandon-led : (m : Mem) (d : ℕ) → Fits m → NoDup (storeIn (m .nodes) .nodes) → Led m (abandon d) (untrayed (abandonDid m d))
 unfolding abandonDid
 abandon-led m d f once = unless-led m _ (abandonCode m d) _ f (abandon-low m d) (λ e.
-    let t = abandon-told m d e in abandoned-led m d (going m f once d (t .0) (t .1)) (t .2))
+    let t = abandon-told m d e in abandoned-led m d (going m f once d (t .0 .desk) (t .0 .busy)) (steps-before m d (t .1)))
 
 -- ---- Puttings out
 evicted-led : (m : Mem) (i : ℕ) → Fits m → i < getD (m .answers) 0 0
@@ -192,7 +194,7 @@ evicted-led m i f h =
 
 pub evict-answer-led : (m : Mem) (i : ℕ) → Fits m → Led m (out-answer i) (untrayed (evictAnswerDid m i))
 unfolding evictAnswerDid
-evict-answer-led m i f = unless-led m _ (evictAnswerCode m i) _ f (evict-answer-low m i) (λ e. evicted-led m i f (evict-answer-told m i e))
+evict-answer-led m i f = unless-led m _ (evictAnswerCode m i) _ f (evict-answer-low m i) (λ e. evicted-led m i f (evict-answer-told m i e .1))
 
 pub evict-node-led : (m : Mem) (i : ℕ) → Fits m → NoDup (storeIn (m .nodes) .nodes) → Led m (out-node i) (untrayed (evictNodeDid m i))
 unfolding evictNodeDid untrayed resultIn stateOf
@@ -200,8 +202,8 @@ evict-node-led m i f once = unless-led m _ (evictNodeCode m i) _ f (evict-node-l
     let t = evict-node-told m i e in
     let n = length-nodes (m .nodes) (f .nodes-long) (f .nodes) in
     let y = f .nodes in
-    let a = t .0 in
-    let k = evict-ok i (storeIn (m .nodes)) once (rows-nodes (m .nodes) (f .nodes-long) (f .nodes)) (omega arith) (t .1) in
+    let a = t .1 in
+    let k = evict-ok i (storeIn (m .nodes)) once (rows-nodes (m .nodes) (f .nodes-long) (f .nodes)) (omega arith) (t .2) in
     let z = k .2 in
     led Accepted [] (at-store m f (evictNode i (storeIn (m .nodes))) (k .1) (omega arith)) (steps-of.node-out (omega arith) (k .0)))
 
@@ -220,4 +222,4 @@ renewed-after m f =
 pub renew-led : (m : Mem) → Fits m → Led m renew (untrayed (renewDid m))
 unfolding renewDid untrayed resultIn
 renew-led m f = unless-led m _ (renewCode m) _ f (renew-low m) (λ e.
-    led Accepted [] (renewed-after m f) (steps-of.renewed (all-idle m (renew-told m e))))
+    led Accepted [] (renewed-after m f) (steps-of.renewed (all-idle m (renew-told m e .1))))

@@ -18,11 +18,12 @@ use Rattle.rules.specs.Answers.{Entry, keyIn}
 use Rattle.rules.specs.Client.{Client, kind, steps, sawMark, didChange, foundFull, entryOf, queryAt, writeAt, stepsInAll, stepped, noted, holding, wrote, reads}
 use Rattle.machine.proofs.Keys.{Key, Val}
 use Rattle.machine.proofs.Machine.{looking, tabling, filing, marking, raising}
+use Rattle.rules.proofs.Clients.{Busy, busy-sound}
 use Rattle.bridge.proofs.View.{keyOf, revisionsIn, looksOf}
 use Rattle.bridge.proofs.Clients.{Next, stepped-next, stepped-entry, stepped-saw, stepped-change, stepped-full}
 use Rattle.bridge.proofs.Clients.{noted-next, noted-revisions, noted-length, noted-saw}
 use Rattle.bridge.proofs.Clients.{holding-next, holding-revisions, holding-length, holding-value, wrote-next, wrote-entry, wrote-change, wrote-full}
-use Rattle.bridge.proofs.Desks.{Busy, Left, busy-sound, looking-eq, looking-desk, tabling-desk, filing-desk, marking-desk, raising-desk, write-target}
+use Rattle.bridge.proofs.Desks.{Left, looking-eq, looking-desk, tabling-desk, filing-desk, marking-desk, raising-desk, write-target}
 use Rattle.bridge.proofs.Desks.{next-key, next-looks, next-write, next-busy, last-read, last-write}
 
 pub looks-most : (k : ℕ) (e : Entry) → k ≤ 4 → looksOf k e ≤ 16

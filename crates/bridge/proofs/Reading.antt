@@ -27,6 +27,7 @@ use Rattle.rules.specs.Client.{kind, sawMark, queryAt, stepped, noted, holding,
 use Rattle.rules.specs.Client as rules
 use Rattle.rules.specs.Memory.{Mem, withFiled, recordsIn, storeIn, answersIn, withAnswers}
 use Rattle.rules.specs.Refusals.{columns, client}
+use Rattle.rules.proofs.Clients.{list-room}
 use Rattle.rules.specs.Outcome.{didWith}
 use Rattle.rules.specs.Steps.{nowAt, answered, lookDid, fetchDid, tableDid, fileDid, readDid}
 use Rattle.revisions.proofs.Effect.{has, eff, mrk}
@@ -37,7 +38,7 @@ use Rattle.machine.proofs.Machine.{idle, looking, tabling, filing, Ans, step, n
 use Rattle.machine.proofs.Machine as machine
 use Rattle.machine.proofs.Did as did
 use Rattle.bridge.proofs.View.{keyOf, valueIn, revisionsIn, looksOf, ansOf, filedOf, stateOf, resultIn, Kept}
-use Rattle.bridge.proofs.Clients.{few-numbers, length-entry}
+use Rattle.bridge.proofs.Clients.{length-entry}
 use Rattle.bridge.proofs.Desks.{Left, idle-left, looking-eq, looking-desk, tabling-desk, filing-desk}
 use Rattle.bridge.proofs.Phases.{looks-most, noted-left, missed-left, holding-left}
 use Rattle.bridge.proofs.Memories.{rows-nodes, length-nodes, wide-records, wide-answers, length-answers, wide-in}
@@ -147,7 +148,7 @@ module _ (m : Mem) (tray : List ℕ) (d : ℕ) (g : Going m d) (r : kind (client
       let kept = f .kept (getD es i []) j in
       let z : serves (looksOf (columns m) x) x (getD es i []) ≡ true = rw is (place-at (serves (looksOf (columns m) x) x) es [] (rw is at h)) in
       answered-led tray (listIn (columns m) (getD es i [])) d (lengthIn (getD es i [])) true (as-it-was m f) (g .desk)
-      (length-list (columns m) (getD es i []) w (few-numbers (columns m) (lengthIn (getD es i [])) (f .few) (kept .short)))
+      (length-list (columns m) (getD es i []) w (list-room (lengthIn (getD es i [])) (columns m) (kept .short) (f .few)))
       (did.hit (g .desk) (fetch-desk false e s) (looks-done e) (map-in (ansOf (columns m)) j)
       (serves-holds (columns m) x (getD es i []) (kept .key) (g .busy .key) ∙ z))
 
@@ -246,7 +247,7 @@ module _ (m : Mem) (tray : List ℕ) (d : ℕ) (g : Going m d) (r : kind (client
   file-led h =
       let f = g .fits in
       let x : Entry = entryAt m d in
-      let l = length-list (columns m) x (length-entry (client m d) (g .wide)) (few-numbers (columns m) (lengthIn x) (f .few) (g .busy .short)) in
+      let l = length-list (columns m) x (length-entry (client m d) (g .wide)) (list-room (lengthIn x) (columns m) (g .busy .short) (f .few)) in
       let y : did.Did (stateOf m) (step d) (machine.answered (valueIn (columns m) x) false)
       (at-desk (with-filed (stateOf m) (filed-in (keyOf (columns m) x) (revisionsIn (looksOf (columns m) x) x) (valueIn (columns m) x) (stateOf m .filed))) d idle) =
       did.filed (g .desk) (desk-at m d (g .desk) ∙ filing-desk (columns m) (client m d) (g .busy) r h) in

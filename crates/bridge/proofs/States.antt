@@ -19,6 +19,7 @@ use Rattle.rules.specs.Client.{Client, isBad}
 use Rattle.rules.specs.Memory.{Mem, withTable, withFiled, recordsIn, withRecords, answersIn, withAnswers}
 use Rattle.rules.specs.Outcome.{Stepped, didWith}
 use Rattle.rules.specs.Refusals.{columns, client}
+use Rattle.rules.proofs.Clients.{client-same, client-other, columns-with, length-with}
 use Rattle.rules.specs.Steps.{nowAt, storeBack}
 use Rattle.revisions.proofs.Nodes.{AllRows}
 use Rattle.machine.proofs.Base.{In, upd, upd-same, upd-other}
@@ -26,7 +27,7 @@ use Rattle.machine.proofs.Machine.{Desk, State, Call, at-desk, with-store, with
 use Rattle.machine.proofs.Did.{Did}
 use Rattle.bridge.proofs.View.{ansOf, desksOf, filedOf, stateOf, resultIn, resultOf, Kept, Fits}
 use Rattle.bridge.proofs.Desks.{Left}
-use Rattle.bridge.proofs.Memories.{client-same, client-other, columns-with, length-client, records-with, length-with-records, count-records}
+use Rattle.bridge.proofs.Memories.{records-with, length-with-records, count-records}
 use Rattle.bridge.proofs.Memories.{store-with, length-with-store, count-nodes, answers-with, length-with-answers, count-answers}
 
 -- the memories n stand for s; they fit, and have the columns of m
@@ -88,7 +89,7 @@ module _ (m : Mem) (f : Fits m) (d : ℕ) (h : d < 12) (c : Client) (x : Desk) (
     table-long = f .table-long;
     nodes-long = f .nodes-long;
     answers-long = f .answers-long;
-    desks-long = let z = length-client (m .desks) d c (l .wide) room in let y = f .desks-long in omega arith;
+    desks-long = let z = length-with (m .desks) d c (l .wide) room in let y = f .desks-long in omega arith;
     some = rw now-columns (f .some);
     few = rw now-columns (f .few);
     records = f .records;

@@ -1,13 +1,15 @@
--- What every step leans on: the desk that goes, the nodes of its query, and the tray. Leans on States, Desks and Memories. Assumes nothing.
-use mathlib.Core.Path.{_≡_, refl, ap, _∙_}
+-- What every step leans on: the desk that goes, the nodes of its query, and the tray. Leans on States and Desks. Assumes nothing.
+use mathlib.Core.Path.{_≡_, ap, _∙_}
 use mathlib.Core.Bool.{Bool, false}
-use mathlib.Core.List.{List, [], _∷_, map}
-use Prim.Native.Nat.{ℕ, zero, suc, _+_, _*_, _≤_, _<_}
+use mathlib.Core.List.{List, []}
+use Prim.Native.Nat.{ℕ, _*_, _≤_, _<_}
 use native.Mathlib.Omega.{arith}
 use borrow.Author.Tests.{lt-ltb}
-use lib.ListN.{length, getD, take, drop, length-drop}
-use lib.Seq.{take-at, length-take-le}
+use lib.ListN.{length, getD, drop, length-drop}
+use lib.Seq.{length-take-le}
 use Rattle.lists.specs.Lists.{written}
+use Rattle.laws.proofs.Lists.{getD-map}
+use Rattle.laws.proofs.Written.{written-read}
 use Rattle.query.specs.Query.{Query, readNode, writeNode, readNodes, writeNodes, readCount, writeCount}
 use Rattle.query.specs.Words.{labelWords, queryIn}
 use Rattle.query.proofs.Nodes.{read-nodes-count, write-nodes-count, read-nodes-at, write-nodes-at}
@@ -20,13 +22,13 @@ use Rattle.rules.specs.Client as rules
 use Rattle.rules.specs.Memory.{Mem, storeIn}
 use Rattle.rules.specs.Refusals.{columns, client}
 use Rattle.rules.specs.Steps as rules-steps
+use Rattle.rules.proofs.Clients.{Busy, busy-of, client-wide}
 use Rattle.revisions.proofs.Effect.{NoDup}
 use Rattle.machine.proofs.Keys.{Key, nodesOf, marksOf}
 use Rattle.machine.proofs.Machine.{Desk, idle, State, Call, answered, at-desk, node}
 use Rattle.machine.proofs.Did.{Did}
 use Rattle.bridge.proofs.View.{keyOf, revisionsIn, looksOf, deskOf, desksOf, stateOf, resultIn, Fits}
-use Rattle.bridge.proofs.Desks.{Left, Busy, busy-of, idle-left}
-use Rattle.bridge.proofs.Memories.{client-wide}
+use Rattle.bridge.proofs.Desks.{Left, idle-left}
 use Rattle.bridge.proofs.States.{After, Led, led, then-now}
 
 -- ---- What stands at a desk
@@ -85,11 +87,6 @@ pub left-to : {k : ℕ} {t : Client} {x y : Desk} → Left k t x → x ≡ y →
 left-to l e = record { sound = l .sound; wide = l .wide; desk = l .desk ∙ e }
 
 -- ---- The nodes of a query
-getD-map : {A B : Type 0} (f : A → B) (l : List A) (i : ℕ) (x : B) (y : A) → i < length l → getD (map f l) i x ≡ f (getD l i y)
-getD-map f [] i x y h = absurd (omega arith)
-getD-map f (a ∷ l) zero x y h = refl
-getD-map f (a ∷ l) (suc i) x y h = getD-map f l i x y (omega arith)
-
 pub read-node : (k : ℕ) (e : Entry) (i : ℕ) → i < looksOf k e → node (keyOf k e) i ≡ labelWords (readNode (queryIn k (keyIn e)) i)
 unfolding node nodesOf keyOf looksOf readCount
 read-node k e i h =
@@ -104,15 +101,11 @@ write-node w i h =
     getD-map labelWords (writeNodes (target w)) i [] [] (omega arith) ∙ ap labelWords (write-nodes-at (target w) i h)
 
 -- ---- The tray
-tray-read : (tray l : List ℕ) (n : ℕ) → length l ≡ n → take n (written tray 0 l) ≡ l
-unfolding written
-tray-read tray l n h = take-at l (drop (0 + length l) tray) n h
-
 pub answered-led : {m n : Mem} {s : State} {c : Call} (tray l : List ℕ) (d x : ℕ) (cached : Bool) → After m n s → d < 12 → length l ≡ x * columns m
     → Did (stateOf m) c (answered (record { count = x; numbers = l }) cached) (at-desk s d idle) → Led m c (rules-steps.answered n tray d x l cached)
 unfolding rules-steps.answered resultIn
 answered-led {m} tray l d x cached a h e y =
-    led (Answered x cached) (written tray 0 l) (then-now a d h rules.idle idle (idle-left (columns m))) (rw (tray-read tray l (x * columns m) e) y)
+    led (Answered x cached) (written tray 0 l) (then-now a d h rules.idle idle (idle-left (columns m))) (rw (written-read tray l (x * columns m) e) y)
 
 -- an entry's list
 pub length-list : (k : ℕ) (e : Entry) → length e ≡ 152 → lengthIn e * k ≤ 128 → length (listIn k e) ≡ lengthIn e * k

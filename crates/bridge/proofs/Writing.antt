@@ -1,26 +1,20 @@
 -- Each step of a write is a step of the machine: mark, table, raise. Leans on Steps and Phases. Assumes nothing.
 use mathlib.Core.Path.{_≡_, refl, sym, ap, _∙_}
 use mathlib.Core.Option.{Option, none, some}
-use mathlib.Core.Bool.{Bool, true, false, _||_}
+use mathlib.Core.Bool.{Bool, true, false}
 use mathlib.Core.List.{List, [], _∷_}
-use Prim.Native.Nat.{ℕ, suc, _+_, _-_, _≤_, _<_}
+use Prim.Native.Nat.{ℕ, suc, _+_, _-_, _<_}
 use native.Mathlib.Omega.{arith}
-use lib.Dec.{eqb, ltb, leb}
-use borrow.Author.Tests.{ltb-true, ltb-false, leb-false, eqb-true, eqb-false}
-use lib.ListN.{length, getD, length-map}
-use Rattle.laws.proofs.Tests.{or-false-r, byTest}
-use Rattle.lists.specs.Lists.{before}
-use Rattle.laws.proofs.Lists.{keep-le}
-use Rattle.laws.proofs.Rows.{Wide, wide-keep}
-use Rattle.query.specs.declared.Column.the-variants.{Is}
-use Rattle.query.specs.Query.{Query, Record, naming, writeNode, writeCount}
+use lib.Dec.{eqb, ltb}
+use borrow.Author.Tests.{ltb-true, ltb-false, eqb-true, eqb-false}
+use lib.ListN.{length, getD}
+use Rattle.laws.proofs.Tests.{byTest}
+use Rattle.query.specs.Query.{Query, writeNode, writeCount}
 use Rattle.query.specs.Words.{labelWords}
 use Rattle.query.proofs.Nodes.{write-node-length, write-count-least}
 use Rattle.query.proofs.Words.{label-words-length, query-in-length}
-use Rattle.rules.specs.Sizes.{maxRecords}
 use Rattle.rules.specs.declared.Outcome.the-variants.{Accepted}
-use Rattle.rules.specs.Table.{Table, Write, insert, delete, target, effect, changes, noRoom, putIn, outside}
-use Rattle.rules.specs.Table as tables
+use Rattle.rules.specs.Table.{Table, Write, target, effect, changes, noRoom}
 use Rattle.rules.specs.Nodes.{Words, Store, marked, raised}
 use Rattle.rules.specs.Answers.{keyIn}
 use Rattle.rules.specs.Client.{kind, didChange, foundFull, queryAt, wrote, reads}
@@ -28,6 +22,7 @@ use Rattle.rules.specs.Client as rules
 use Rattle.rules.specs.Memory.{Mem, recordsIn, storeIn}
 use Rattle.rules.specs.Refusals.{columns, client}
 use Rattle.rules.specs.Steps.{storeBack, markDid, writeTableDid, endOf, raiseDid, writeDid}
+use Rattle.records.proofs.Writes.{of-width, effect-wide, effect-few}
 use Rattle.revisions.proofs.Operations.{MarkedOk, marked-ok, RaisedTo, RaisedOk, raised-ok}
 use Rattle.machine.proofs.Keys.{marksOf, length-marksOf}
 use Rattle.machine.proofs.Machine.{idle, step, write-end, at-desk, with-store}
@@ -39,31 +34,6 @@ use Rattle.bridge.proofs.Memories.{rows-nodes, length-nodes, wide-recor
 use Rattle.bridge.proofs.States.{After, Led, led, at-store, at-table, then-now}
 use Rattle.bridge.proofs.Refusals.{refused-led}
 use Rattle.bridge.proofs.Steps.{wroteAt, marksAt, askedAt, stepsAt, entryAt, Going, desk-at, write-node}
-
--- ---- What a write leaves fits: records of k columns, at most 2,048
-wide-put : (k : ℕ) (r : Record) (t : Table) → length r ≡ k → Wide k t → Wide k (putIn r t)
-unfolding putIn Wide
-wide-put k r [] h w = (h, tt)
-wide-put k r (s ∷ t) h w = byTest (before r s) (λ e. rw e (h, w)) (λ e. rw e (w .0, wide-put k r t h (w .1)))
-
-length-put : (r : Record) (t : Table) → length (putIn r t) ≡ suc (length t)
-unfolding putIn
-length-put r [] = refl
-length-put r (s ∷ t) = byTest (before r s) (λ e. rw e refl) (λ e. rw e (ap suc (length-put r t)))
-
-wide-effect : (k : ℕ) (w : Write) (t : Table) → length (target w) ≡ k → Wide k t → Wide k (effect w t)
-unfolding effect target naming
-wide-effect k (insert r) t h w =
-    byTest (tables.has r t || leb maxRecords (length t)) (λ e. rw e w) (λ e. rw e (wide-put k r t (sym (length-map r Is) ∙ h) w))
-wide-effect k (delete q) t h w = wide-keep k (outside q) t w
-
-length-effect : (w : Write) (t : Table) → length t ≤ maxRecords → length (effect w t) ≤ maxRecords
-unfolding effect
-length-effect (insert r) t h =
-    byTest (tables.has r t || leb maxRecords (length t))
-    (λ e. rw e h)
-    (λ e. let y = leb-false maxRecords (length t) (or-false-r (tables.has r t) _ e) in let z = length-put r t in rw e (omega arith))
-length-effect (delete q) t h = let z = keep-le (outside q) t in omega arith
 
 module _ (m : Mem) (tray : List ℕ) (d : ℕ) (g : Going m d) (r : kind (client m d) ≡ reads → ⊥) where
   -- ---- The nodes of the write
@@ -113,7 +83,7 @@ module _ (m : Mem) (tray : List ℕ) (d : ℕ) (g : Going m d) (r : kind (client
       let n = length-records (columns m) (m .table) (f .few) (f .table-long) (f .records) in
       let y = f .records in
       let z = length-marksOf w in
-      let a = at-table m f (effect w t) (wide-effect (columns m) w t length-target (wide-records (columns m) (m .table) (f .few) (f .table-long) (f .records))) (length-effect w t (omega arith)) in
+      let a = at-table m f (effect w t) (effect-wide (columns m) w t (of-width (columns m) w length-target) (wide-records (columns m) (m .table) (f .few) (f .table-long) (f .records))) (effect-few w t (omega arith)) in
       led Accepted tray
       (then-now a d (g .desk) _ _ (wrote-left (columns m) (client m d) (g .wide) (g .busy) r (changes w t) (noRoom w t) e (write-count-least (target w))))
       (did.wrote (g .desk) (desk-at m d (g .desk) ∙ marking-desk (columns m) (client m d) (g .busy) r (omega arith)) (omega arith))

@@ -1,18 +1,16 @@
 -- Laws of one client in the desks memory: what is read of it, what a changed client leaves, and what it leaves alone.
--- Leans on rules and on the laws of lists. Assumes nothing.
-use mathlib.Core.Path.{_≡_, refl, sym, ap, _∙_}
+-- Leans on rules, on its laws of a client in memory and on the laws of lists. Assumes nothing.
+use mathlib.Core.Path.{_≡_, sym, ap, _∙_}
 use mathlib.Core.List.{List, _++_, append-assoc, append-nil}
-use mathlib.Core.Bool.{Bool, true, false}
 use Prim.Native.Nat.{ℕ, _+_, _-_, _*_, _≤_, _<_}
 use native.Mathlib.Omega.{arith}
-use lib.Dec.{ltb}
 use lib.ListN.{length, getD, take, drop, set, replicate, length-drop, length-replicate, drop-of-length-le}
-use lib.Seq.{length-take-le, getD-take, getD-drop, drop-drop, take-take, take-at, drop-append-add, drop-append-le, take-append-add, take-append-le}
-use borrow.Author.Tests.{ltb-true, ltb-false}
+use lib.Seq.{length-take-le, getD-take, getD-drop, drop-drop, take-take, drop-append-add, drop-append-le, take-append-add, take-append-le}
 use borrow.Rule.Slice.PartMut.{putMid}
 use Rattle.lists.specs.Lists.{written}
-use Rattle.laws.proofs.Written.{drop-take, take-written, drop-written, drop-of-written, getD-before, length-written, written-over, written-self, set-inside}
+use Rattle.laws.proofs.Written.{mid-written, drop-take, length-written, written-over, written-self, set-inside}
 use Rattle.rules.specs.Memory.{columnsAt, clientIn, withClient}
+use Rattle.rules.proofs.Clients as rules
 use Rattle.clients.specs.Clients.{Fit}
 
 -- ---- what is written over a part of a memory
@@ -31,11 +29,6 @@ written-inside s i u j v h k =
     let r : drop (i + j + length v) (take i s ++ (u ++ rest)) ≡ drop (j + length v) u ++ rest =
     ap (λ (m : ℕ). drop m (take i s ++ (u ++ rest))) b ∙ drop-append-add (take i s) (u ++ rest) (j + length v) ∙ drop-append-le (j + length v) u rest h in
     rw (append-assoc (take i s) u rest, t, r, n) (simp append-assoc)
-
--- a part of the memory that was lent and came back as v
-mid-written : (s : List ℕ) (i n : ℕ) (v : List ℕ) → length v ≡ n → putMid i n s v ≡ written s i v
-unfolding written
-mid-written s i n v e = rw (e, drop-drop n i s, append-assoc)
 
 -- a part cleared whole
 pub part-cleared : (s : List ℕ) (at end n : ℕ) (t : List ℕ) → t ≡ replicate n 0 ++ drop n (take (end - at) (drop at s)) → at + n ≡ end → end ≤ length s
@@ -63,8 +56,7 @@ module _ (s : List ℕ) (d : ℕ) (f : Fit s d) where
   client-room = omega arith
 
   pub length-client : length (clientIn s d) ≡ 157
-  unfolding clientIn
-  length-client = length-take-le 157 (drop (8 + d * 157) s) (rw length-drop (omega arith))
+  length-client = rules.client-wide s d client-room
 
   pub with-self : withClient s d (clientIn s d) ≡ s
   unfolding clientIn withClient
@@ -73,38 +65,19 @@ module _ (s : List ℕ) (d : ℕ) (f : Fit s d) where
 -- ---- what a changed client leaves
 module _ (s : List ℕ) (d : ℕ) (f : Fit s d) (c : List ℕ) (n : length c ≡ 157) where
   pub length-kept : length (withClient s d c) ≡ length s
-  unfolding withClient
-  length-kept = length-written s (8 + d * 157) c (omega arith)
+  length-kept = rules.length-with s d c n (client-room s d f)
 
   pub fit-kept : (e : ℕ) → e < 12 → Fit (withClient s d c) e
   fit-kept e h = let l = length-kept in record { long = omega arith; below = h }
 
   pub client-same : clientIn (withClient s d c) d ≡ c
-  unfolding clientIn withClient
-  client-same = ap (take 157) (drop-of-written s (8 + d * 157) c (omega arith)) ∙ take-at c (drop (8 + d * 157 + length c) s) 157 n
-
-  client-before : (e : ℕ) → e < d → clientIn (withClient s d c) e ≡ clientIn s e
-  unfolding clientIn withClient
-  client-before e h =
-      let b : ℕ = 8 + e * 157 in
-      let m : b + 157 - b ≡ 157 = omega arith in
-      let q : (t : List ℕ) → take 157 (drop b t) ≡ drop b (take (b + 157) t) = λ t. ap (λ (x : ℕ). take x (drop b t)) (sym m) ∙ sym (drop-take b (b + 157) t) in
-      q (written s (8 + d * 157) c) ∙ ap (drop b) (take-written s (8 + d * 157) c (omega arith) (b + 157) (omega arith)) ∙ sym (q s)
-
-  client-after : (e : ℕ) → d < e → clientIn (withClient s d c) e ≡ clientIn s e
-  unfolding clientIn withClient
-  client-after e h = ap (take 157) (drop-written s (8 + d * 157) c (omega arith) (8 + e * 157) (omega arith))
+  client-same = rules.client-same s d c n (client-room s d f)
 
   pub client-other : (e : ℕ) → (e ≡ d → ⊥) → clientIn (withClient s d c) e ≡ clientIn s e
-  client-other e h = go (ltb e d) refl
-    where
-      go : (x : Bool) → ltb e d ≡ x → clientIn (withClient s d c) e ≡ clientIn s e
-      go true x = client-before e (ltb-true e d x)
-      go false x = let y : d ≤ e = ltb-false e d x in client-after e (omega arith)
+  client-other e h = rules.client-other s d c n (client-room s d f) e h
 
   pub columns-kept : columnsAt (withClient s d c) ≡ columnsAt s
-  unfolding columnsAt withClient
-  columns-kept = getD-before s (8 + d * 157) c (omega arith) 0 0 (omega arith)
+  columns-kept = rules.columns-with s d c n (client-room s d f)
 
   pub with-twice : (v : List ℕ) → length v ≡ 157 → withClient (withClient s d c) d v ≡ withClient s d v
   unfolding withClient

@@ -3,7 +3,6 @@ use mathlib.Core.Path.{_≡_, refl, sym, ap, _∙_}
 use mathlib.Core.Bool.{Bool, true, false, not}
 use mathlib.Core.List.{List}
 use Prim.Native.Nat.{ℕ, _+_, _-_, _*_, _≤_, _<_}
-use native.Mathlib.Nat.{mul-le-mul}
 use native.Mathlib.Omega.{arith}
 use lib.ListN.{length, getD, take, drop, replicate}
 use lib.Seq.{getD-take, getD-drop, drop-drop}
@@ -15,6 +14,7 @@ use Rattle.rules.specs.Answers.{keyIn, lengthIn, listIn}
 use Rattle.rules.specs.Client.{Client, entryOf, isIdle, idle, queryAt}
 use Rattle.rules.specs.Memory.{Mem, clientIn}
 use Rattle.rules.specs.Refusals.{client, allIdle}
+use Rattle.rules.proofs.Clients.{list-room}
 use Rattle.clients.specs.Clients.{Fit, idleAt}
 use Rattle.clients.proofs.Memory.{length-client, part-at}
 
@@ -75,10 +75,6 @@ columns-read s d k m e =
 pub length-read : (c : Client) → getD c 12 0 ≡ lengthIn (entryOf c)
 unfolding lengthIn entryOf
 length-read c = sym (getD-drop 5 c 7 0)
-
--- a list of 32 records has 128 numbers at the most
-pub list-room : (n k : ℕ) → n ≤ 32 → k ≤ 4 → n * k ≤ 128
-list-room n k h g = mul-le-mul h g
 
 pub list-fits : (c : Client) (n k : ℕ) → n ≡ getD c 12 0 → lengthIn (entryOf c) ≤ 32 → k ≤ 4 → n * k ≤ 128
 list-fits c n k e h g = let l = length-read c in list-room n k (omega arith) g

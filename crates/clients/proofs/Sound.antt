@@ -1,36 +1,31 @@
 -- Laws of the check for senseless contents: its ways out, and what a client that passes it and is not idle is known to hold.
 -- Leans on rules and on the laws of Reading and of columns. Assumes nothing.
 use mathlib.Core.Path.{_≡_, refl, sym, ap, _∙_}
-use mathlib.Core.Bool.{Bool, true, false, cond, not, _&&_, _||_, true≢false}
+use mathlib.Core.Bool.{Bool, true, false, cond, not, _&&_, _||_}
 use mathlib.Core.List.{List}
-use Prim.Native.Nat.{ℕ, zero, suc, _+_, _^_, _≤_, _<_}
+use Prim.Native.Nat.{ℕ, _+_, _^_, _≤_, _<_}
+use native.Mathlib.Nat.{pow-le-pow-right}
 use native.Mathlib.Omega.{arith}
 use lib.Dec.{eqb, ltb, leb}
 use lib.ListN.{length, getD, take}
 use lib.Seq.{length-take-le}
-use borrow.Author.Tests.{eqb-false, eq-eqb, ne-eqb, ltb-false, lt-ltb, le-ltb, leb-false, not-false}
+use borrow.Author.Tests.{eq-eqb, ne-eqb, lt-ltb, le-ltb, not-false}
 use Rattle.laws.proofs.Lists.{ne-same}
 use Rattle.query.specs.declared.Column.{Column}
 use Rattle.query.specs.Query.{Query, named, readCount, writeCount}
 use Rattle.query.specs.Words.{namesAll, isKey}
+use Rattle.query.proofs.Nodes.{named-most, read-count-most, write-count-most}
 use Rattle.query.proofs.Words.{query-in-length}
 use Rattle.columns.specs.Columns.{four}
-use Rattle.columns.proofs.Laws.{four-back, named-most}
+use Rattle.columns.proofs.Laws.{four-back}
 use Rattle.rules.specs.Sizes.{maxList}
 use Rattle.rules.specs.Answers.{keyIn, lengthIn}
 use Rattle.rules.specs.Client.{Client, kind, steps, entryOf, inserts, idle, isIdle, queryAt, stepsInAll, isBad}
+use Rattle.rules.proofs.Clients.{busy-of}
 
 -- ---- counts of nodes
-power-most : (n : ℕ) → n ≤ 4 → 2 ^ n ≤ 16
-power-most zero h = omega arith
-power-most (suc zero) h = omega arith
-power-most (suc (suc zero)) h = omega arith
-power-most (suc (suc (suc zero))) h = omega arith
-power-most (suc (suc (suc (suc zero)))) h = omega arith
-power-most (suc (suc (suc (suc (suc n))))) h = absurd (omega arith)
-
 pub power-small : (n p : ℕ) → p ≡ 2 ^ n → n ≤ 4 → p ≤ 16
-power-small n p e h = let m : 2 ^ n ≤ 16 = power-most n h in omega arith
+power-small n p e h = rw e (pow-le-pow-right {n = 2} (omega arith) {i = n} {j = 4} h)
 
 pub named-small : (n k : ℕ) (cols : List Column) → n ≡ named (take k cols) → k ≤ length cols → k ≤ 4 → n ≤ 4
 named-small n k cols e l h =
@@ -47,13 +42,10 @@ pub columns-back : (k : ℕ) (c : Client) (cols : List Column) → cols ≡ four
 columns-back k c cols e = ap (take k) e ∙ four-back k (queryAt k c) (length-query k c)
 
 pub last-most : (x : ℕ) (q : Query) → length q ≤ 4 → stepsInAll x q ≤ 33
-unfolding stepsInAll readCount writeCount
-last-most x q h =
-    let a : 2 ^ named q ≤ 16 = (let m : named q ≤ length q = named-most q in power-most (named q) (omega arith)) in
-    let b : 2 ^ length q ≤ 16 = power-most (length q) h in
-    go (eqb x 1) a b
+unfolding stepsInAll
+last-most x q h = go (eqb x 1) (read-count-most q h) (write-count-most q h)
   where
-    go : (y : Bool) → 2 ^ named q ≤ 16 → 2 ^ length q ≤ 16 → cond y (2 ^ named q + 3) (2 ^ length q + 1 + 2 ^ length q) ≤ 33
+    go : (y : Bool) → readCount q ≤ 16 → writeCount q ≤ 16 → cond y (readCount q + 3) (writeCount q + 1 + writeCount q) ≤ 33
     go true a b = omega arith
     go false a b = omega arith
 
@@ -152,29 +144,15 @@ pub record Sound (k : ℕ) (c : Client) : Type 0 where
   pub last : stepsInAll (kind c) (queryAt k c) ≤ 33
   pub list : lengthIn (entryOf c) ≤ 32
 
-or-false : (a b : Bool) → a || b ≡ false → (a ≡ false) × (b ≡ false)
-or-false false b e = (refl, e)
-or-false true b e = absurd (true≢false e)
-
--- an insert that passes
-named-all : (x : ℕ) (b : Bool) → eqb x inserts && not b ≡ false → x ≡ inserts → b ≡ true
-named-all x b e h = not-false b (rw (eq-eqb x inserts h) at e)
-
 pub sound-client : (k : ℕ) (c : Client) → k ≤ 4 → isBad k c ≡ false → isIdle c ≡ false → Sound k c
-unfolding isBad
 sound-client k c h e i =
-    let a = or-false _ _ (rw i at e) in
-    let b = or-false _ _ (a .0) in
-    let y = or-false _ _ (a .1) in
-    let z = or-false _ _ (y .1) in
-    let w = or-false _ _ (z .1) in
-    let n = eqb-false (kind c) 0 (b .0) in
+    let b = busy-of k c e i in
     record {
-      least = omega arith;
-      most = ltb-false 3 (kind c) (b .1);
-      key = not-false _ (y .0);
-      names = named-all (kind c) (namesAll (queryAt k c)) (z .0);
-      step = leb-false (stepsInAll (kind c) (queryAt k c)) (steps c) (w .0);
+      least = b .low;
+      most = b .high;
+      key = b .key;
+      names = b .names;
+      step = b .going;
       last = last-most (kind c) (queryAt k c) (let l : length (queryAt k c) ≡ k = length-query k c in omega arith);
-      list = ltb-false maxList (lengthIn (entryOf c)) (w .1);
+      list = b .short;
     }

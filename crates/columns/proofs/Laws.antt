@@ -1,6 +1,6 @@
 -- Laws on columns and queries, over plain lists. Leans on Fill and on the definitions of crates/query. Assumes nothing.
 use mathlib.Core.Path.{_≡_, refl, sym, ap, _∙_}
-use mathlib.Core.Bool.{Bool, true, false, _&&_, not}
+use mathlib.Core.Bool.{Bool, true, false, not}
 use mathlib.Core.List.{List, [], _∷_}
 use Prim.Native.Nat.{ℕ, zero, suc, _+_, _-_, _*_, _≤_, _<_}
 use native.Mathlib.Numerals.{add-one, add-two}
@@ -8,12 +8,13 @@ use native.Mathlib.Omega.{arith}
 use lib.Dec.{eqb, eqb·suc-suc}
 use lib.ListN.{length, take, drop, getD, set, replicate, length-take, length-drop, drop-of-length-le}
 use lib.Seq.{drop-cons, getD-take, take-at}
-use borrow.Author.Tests.{eq-eqb, ne-eqb, eqb-true, lt-leb, not-true, not-false}
+use borrow.Author.Tests.{eq-eqb, ne-eqb, lt-leb, not-true, not-false}
 use Rattle.lists.specs.Lists.{padded}
 use Rattle.query.specs.declared.Column.{Column}
 use Rattle.query.specs.declared.Column.the-variants.{Is, Wildcard}
 use Rattle.query.specs.Query.{Query, admits, lies, named}
 use Rattle.query.specs.Words.{columnOf, queryOf, wellMarked, isQuery, namesAll, recordOf}
+use Rattle.query.proofs.Nodes.{named-most}
 use Rattle.columns.specs.declared.Taken.{Taken}
 use Rattle.columns.specs.Columns.{columnMarked, four, front, takenOf}
 use Rattle.columns.proofs.Fill.{Filled, next-rest, fill-none, fill-more, fill-all}
@@ -51,12 +52,6 @@ past-all cols k i h =
     drop-of-length-le (take k cols) w
 
 -- ---- What an insert takes
-pub named-most : (q : Query) → named q ≤ length q
-unfolding named
-named-most [] = omega arith
-named-most (Is v ∷ q) = omega (arith, named-most q)
-named-most (Wildcard ∷ q) = omega (arith, named-most q)
-
 pub names-value : (v : ℕ) (q : Query) → namesAll (Is v ∷ q) ≡ namesAll q
 unfolding namesAll named
 names-value v q = eqb·suc-suc (named q) (length q)
@@ -192,21 +187,6 @@ arriving-all a cols i from t h =
 pub four-back : (k : ℕ) (q : Query) → length q ≡ k → take k (four q) ≡ q
 unfolding four
 four-back k q e = take-at q (replicate (4 - length q) Wildcard) k e
-
-pub length-query : (k : ℕ) (a : List ℕ) → length a ≡ 2 * k → length (queryOf a) ≡ k
-unfolding queryOf
-length-query k [] e = omega arith
-length-query k (x ∷ []) e = absurd (omega arith)
-length-query zero (x ∷ y ∷ a) e = absurd (omega arith)
-length-query (suc k) (x ∷ y ∷ a) e = ap suc (length-query k a (omega arith))
-
--- a query that is accepted has k columns
-pub query-length : (k : ℕ) (a : List ℕ) → isQuery k a ≡ true → length (queryOf a) ≡ k
-query-length k a e = length-query k a (go (eqb (length a) (2 * k)) refl (unfold isQuery in e))
-  where
-    go : (b : Bool) → eqb (length a) (2 * k) ≡ b → (b && wellMarked a) ≡ true → length a ≡ 2 * k
-    go true f g = eqb-true (length a) (2 * k) f
-    go false f g = absurd (let z : _≡_ {A = ℕ} 0 1 = cc in omega arith)
 
 -- an insert that is accepted takes its record
 pub taken-whole : (q : Query) → namesAll q ≡ true → takenOf q ≡ taken true (padded 4 (recordOf q))

@@ -1,5 +1,5 @@
 -- Laws on marks, values and keys, over plain lists. Leans on Fill and Laws. Assumes nothing.
-use mathlib.Core.Path.{_≡_, refl, sym, ap, _∙_}
+use mathlib.Core.Path.{_≡_, refl, sym, _∙_}
 use mathlib.Core.Bool.{Bool, true, false, _&&_, not}
 use mathlib.Core.List.{List, [], _∷_, _++_, map}
 use Prim.Native.Nat.{ℕ, zero, suc, _+_, _-_, _*_, _/_, _%_, _^_, _≤_, _<_}
@@ -15,6 +15,7 @@ use Rattle.query.specs.declared.Column.{Column}
 use Rattle.query.specs.declared.Column.the-variants.{Is, Wildcard}
 use Rattle.query.specs.Query.{Query, named}
 use Rattle.query.specs.Words.{columnOf, columnValue, marks, columnsIn, queryIn, keyWords, isKey}
+use Rattle.query.proofs.Words.{columns-length}
 use Rattle.columns.specs.Columns.{four}
 use Rattle.columns.specs.Keys.{markOf, keeps, zeroUnder}
 use Rattle.columns.proofs.Fill.{Filled, next-rest, fill-none, fill-more, fill-all, drop-map}
@@ -205,18 +206,13 @@ key-rule (suc k) m (v ∷ vs) h =
     let l : k ≤ length vs = omega arith in
     rw d (key-more k m v vs _ (columnsIn k (m / 2) vs) (key-rule k (m / 2) vs l) (m % 2) refl)
 
-pub length-columns : (k m : ℕ) (vs : List ℕ) → length (columnsIn k m vs) ≡ k
-unfolding columnsIn
-length-columns zero m vs = refl
-length-columns (suc k) m vs = ap suc (length-columns k (m / 2) (drop 1 vs))
-
 pub key-whole : (k : ℕ) (key : List ℕ) → k ≤ 4 → length key ≡ 7 → isKey k key ≡ (ltb (getD key 0 0) (2 ^ k) && zeroUnder (getD key 0 0) (drop 1 key))
 unfolding isKey keyWords queryIn padded same
 key-whole k [] b h = absurd (omega arith)
 key-whole k (m ∷ vs) b h =
     let l : k ≤ length vs = omega arith in
     let n : 6 - k ≡ length vs - k = omega arith in
-    rw (length-map (columnsIn k m vs) columnValue, length-columns k m vs, n) (key-rule k m vs l)
+    rw (length-map (columnsIn k m vs) columnValue, columns-length k m vs, n) (key-rule k m vs l)
 
 pub key-high : (k p : ℕ) (key : List ℕ) → p ≡ 2 ^ k → k ≤ 4 → length key ≡ 7 → p ≤ getD key 0 0 → false ≡ isKey k key
 key-high k p key e b h l = rw (key-whole k key b h, ← e, le-ltb (getD key 0 0) p l)

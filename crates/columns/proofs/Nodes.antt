@@ -4,7 +4,7 @@ use mathlib.Core.Path.{_≡_, refl, ap, _∙_}
 use mathlib.Core.Bool.{true, false}
 use mathlib.Core.List.{List, [], _∷_, _++_, map}
 use Prim.Native.Nat.{ℕ, zero, suc, _+_, _-_, _*_, _/_, _%_, _≤_, _<_}
-use native.Mathlib.Nat.{sub-zero, pow-succ', pow-le-pow-right}
+use native.Mathlib.Nat.{sub-zero, pow-succ'}
 use native.Mathlib.Numerals.{add-one}
 use native.Mathlib.Omega.{arith}
 use lib.Dec.{eqb}
@@ -13,31 +13,21 @@ use borrow.Author.Tests.{eqb-true, eqb-false, lt-ltb}
 use Rattle.lists.specs.Lists.{padded}
 use Rattle.query.specs.declared.Column.{Column}
 use Rattle.query.specs.declared.Column.the-variants.{Is, Wildcard}
-use Rattle.query.specs.Query.{Query, Term, value, wildcard, any, Label, pick, readNode, writeNode, named, readCount}
+use Rattle.query.specs.Query.{Query, Term, value, wildcard, any, Label, readNode, writeNode, named, readCount}
 use Rattle.query.specs.Sheet.{turned, looks, sheetEntry}
 use Rattle.query.specs.Words.{marks, tag, tags, termValue, labelWords}
+use Rattle.query.proofs.Choice.{pick-even, pick-odd, pick-same}
+use Rattle.query.proofs.Nodes.{read-count-most}
+use Rattle.query.proofs.Words.{tag-most}
 use Rattle.columns.specs.declared.labels.Word.{Word}
 use Rattle.columns.specs.Labels.{termOf, changedTerm, changedNode, wordOf, bytes, Tags}
 use Rattle.columns.proofs.Fill.{Filled, next-rest, fill-none, fill-more, fill-all, drop-map}
-use Rattle.columns.proofs.Laws.{at-place, past-all, named-most}
+use Rattle.columns.proofs.Laws.{at-place, past-all}
 use Rattle.columns.proofs.Marks.{ones, marks-most}
 
 -- ---- One column
-pub pick-kept : (n : ℕ) (a b : Term) → n % 2 ≡ 0 → pick n a b ≡ a
-unfolding pick
-pick-kept n a b e = rw e
-
-pub pick-changed : (n : ℕ) (a b : Term) → n % 2 ≡ 1 → pick n a b ≡ b
-unfolding pick
-pick-changed n a b e = rw e
-
 even : (n : ℕ) → eqb (n % 2) 1 ≡ false → n % 2 ≡ 0
 even n e = let d : n % 2 ≡ 1 → ⊥ = eqb-false (n % 2) 1 e in omega arith
-
--- a pick goes by the lowest bit alone
-pick-same : (n m : ℕ) (a b : Term) → n % 2 ≡ m % 2 → pick n a b ≡ pick m a b
-unfolding pick
-pick-same n m a b e = rw e
 
 -- ---- A write's node: its number's bits say which columns change
 pub write-node : (q : Query) (n : ℕ) → writeNode q n ≡ changedNode wildcard q n
@@ -80,7 +70,7 @@ turned-node (suc n) (Wildcard ∷ q) look h =
     let t : ℕ = turned n (ones n - marks q) look in
     let b : (0 + 2 * t) % 2 ≡ 0 = omega arith in
     let d : (0 + 2 * t) / 2 ≡ t = omega arith in
-    rw (bit-wildcard n q l, half-wildcard n q l, d, pick-kept _ wildcard any b, turned-node n q look l)
+    rw (bit-wildcard n q l, half-wildcard n q l, d, pick-even _ wildcard any b, turned-node n q look l)
 
 -- a pattern has as many looks as the read has nodes
 looks-ones : (n : ℕ) → looks n (ones n) ≡ 1
@@ -102,10 +92,6 @@ looks-count (suc n) (Wildcard ∷ q) h =
     let l : length q ≤ n = omega arith in
     rw (bit-wildcard n q l, half-wildcard n q l) (looks-count n q l)
 
-pub count-most : (q : Query) → length q ≤ 4 → readCount q ≤ 16
-unfolding readCount
-count-most q h = pow-le-pow-right {n = 2} (omega arith) {i = named q} {j = 4} (omega (arith, named-most q))
-
 -- what an entry of the sheet means: the columns of node `look` that become ?
 pub read-node : (q : Query) (look : ℕ) → length q ≤ 4 → look < readCount q → readNode q look ≡ changedNode any q (sheetEntry (15 - marks q) look)
 unfolding sheetEntry ones
@@ -115,7 +101,7 @@ read-node q look h l = rw (looks-count 4 q h, lt-ltb look (readCount q) l) (turn
 pub look-small : (cols : List Column) (k look : ℕ) → k ≤ 4 → look < readCount (take k cols) → look < 16
 look-small cols k look h l =
     let w : length (take k cols) ≤ 4 = simp length-take (omega arith) in
-    omega (arith, count-most (take k cols) w)
+    omega (arith, read-count-most (take k cols) w)
 
 pub read-words : (cols : List Column) (k look m t : ℕ) (r : List ℕ) → r ≡ labelWords (changedNode (termOf 3) (take k cols) t) → t ≡ sheetEntry (15 - m) look
     → m ≡ marks (take k cols) → k ≤ 4 → look < readCount (take k cols) → r ≡ labelWords (readNode (take k cols) look)
@@ -143,19 +129,19 @@ to-word (suc (suc (suc (suc n)))) l h = absurd (omega arith)
 module _ (n to : ℕ) (c : Column) where
   pub wildcard-changed : c ≡ Wildcard → eqb (n % 2) 1 ≡ true → word 3 0 ≡ wordOf (changedTerm (termOf to) c n)
   unfolding changedTerm wordOf tag termValue
-  wildcard-changed e b = rw (e, pick-changed n wildcard any (eqb-true (n % 2) 1 b))
+  wildcard-changed e b = rw (e, pick-odd n wildcard any (eqb-true (n % 2) 1 b))
 
   pub wildcard-kept : c ≡ Wildcard → eqb (n % 2) 1 ≡ false → word 2 0 ≡ wordOf (changedTerm (termOf to) c n)
   unfolding changedTerm wordOf tag termValue
-  wildcard-kept e b = rw (e, pick-kept n wildcard any (even n b))
+  wildcard-kept e b = rw (e, pick-even n wildcard any (even n b))
 
   pub value-changed : (v : ℕ) → c ≡ Is v → eqb (n % 2) 1 ≡ true → 2 ≤ to → to ≤ 3 → word to 0 ≡ wordOf (changedTerm (termOf to) c n)
   unfolding changedTerm
-  value-changed v e b l h = rw (e, pick-changed n (value v) (termOf to) (eqb-true (n % 2) 1 b)) (to-word to l h)
+  value-changed v e b l h = rw (e, pick-odd n (value v) (termOf to) (eqb-true (n % 2) 1 b)) (to-word to l h)
 
   pub value-kept : (v : ℕ) → c ≡ Is v → eqb (n % 2) 1 ≡ false → word 1 v ≡ wordOf (changedTerm (termOf to) c n)
   unfolding changedTerm wordOf tag termValue
-  value-kept v e b = rw (e, pick-kept n (value v) (termOf to) (even n b))
+  value-kept v e b = rw (e, pick-even n (value v) (termOf to) (even n b))
 
 -- ---- A label in five numbers
 pub record Labelling (t : Term) (q : Query) (n : ℕ) (words tags : List ℕ) (left i : ℕ) : Type 0 where
@@ -184,12 +170,6 @@ labelling-more t z cols k n words tags left i made g e h l b =
     }
 
 -- ---- Tags in one number
-tag-most : (t : Term) → tag t ≤ 3
-unfolding tag
-tag-most (value v) = omega arith
-tag-most wildcard = omega arith
-tag-most any = omega arith
-
 zeros-small : (n i : ℕ) → getD (replicate n 0) i 0 ≤ 3
 zeros-small zero i = omega arith
 zeros-small (suc n) zero = omega arith

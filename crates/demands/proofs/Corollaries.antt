@@ -12,9 +12,10 @@ use Rattle.query.specs.Query.{Query, Record, lies}
 use Rattle.query.specs.Words.{queryOf}
 use Rattle.rules.specs.declared.Outcome.{Outcome}
 use Rattle.rules.specs.declared.Outcome.the-variants.{Ended, Full}
-use Rattle.rules.specs.Table.{Table, insert, delete, listOf, has, changes, noRoom}
+use Rattle.rules.specs.Table.{Table, insert, delete, listOf, has, changes, noRoom, Distinct}
 use Rattle.rules.specs.History.{beginRead}
-use Rattle.machine.proofs.Ascending.{Once, ascending-once}
+use Rattle.records.proofs.Sets.{has-list}
+use Rattle.records.proofs.Ascending.{ascending-distinct}
 use Rattle.demands.specs.Whole.{History, plainAt, callAt, replyAt}
 use Rattle.demands.specs.Demand3.{IsList}
 use Rattle.demands.specs.Corollaries.{Ends, Unopposed, EveryAnswer, InsertsSeen, DeletesSeen, Answers, ListAt, tableAt, OneRead, SeesEarlier, NeverBack, QuietIsNow, AnswersAscend, NoneTwice, Corollaries}
@@ -26,7 +27,7 @@ use Rattle.demands.proofs.Works.{one-work}
 use Rattle.demands.proofs.Flags.{reading}
 use Rattle.demands.proofs.Steady.{lists-stay, answer-short, answer-steps}
 use Rattle.demands.proofs.Effects.{writes-take}
-use Rattle.demands.proofs.Seen.{has-keep, has-less, inserted, deleted, keeps}
+use Rattle.demands.proofs.Seen.{inserted, deleted, keeps}
 
 -- ---- Answers
 every-answer : (h : History) → EveryAnswer h
@@ -99,17 +100,17 @@ not-has r [] e j l i = omega arith
 not-has r (s ∷ t) e zero l i = clash (rw i (same-refl s)) (or-false-l (same s r) _ e)
 not-has r (s ∷ t) e (suc j) l i = not-has r t (or-false-r (same s r) _ e) j (omega arith) i
 
-once-places : (t : Table) → Once t → (i j : ℕ) → i < j → j < length t → getD t i [] ≡ getD t j [] → ⊥
-unfolding Once
-once-places [] o i j l m e = omega arith
-once-places (r ∷ t) o i zero l m e = omega arith
-once-places (r ∷ t) o zero (suc j) l m e = not-has r t (o .0) j (omega arith) e
-once-places (r ∷ t) o (suc i) (suc j) l m e = once-places t (o .1) i j (omega arith) (omega arith) e
+distinct-places : (t : Table) → Distinct t → (i j : ℕ) → i < j → j < length t → getD t i [] ≡ getD t j [] → ⊥
+unfolding Distinct
+distinct-places [] o i j l m e = omega arith
+distinct-places (r ∷ t) o i zero l m e = omega arith
+distinct-places (r ∷ t) o zero (suc j) l m e = not-has r t (o .0) j (omega arith) e
+distinct-places (r ∷ t) o (suc i) (suc j) l m e = distinct-places t (o .1) i j (omega arith) (omega arith) e
 
 none-twice : (h : History) → NoneTwice h
 none-twice h n l =
     let g = good-table h n l in
-    (once-places (tableAt h n) (ascending-once (tableAt h n) (g .ascending)), g .most)
+    (distinct-places (tableAt h n) (ascending-distinct (tableAt h n) (g .ascending)), g .most)
 
 -- ---- What writes have done
 not-full : (c d f : Bool) → Ended c ≡ cond f Full (Ended d) → f ≡ false
@@ -139,7 +140,6 @@ delete-stays h d q r b e n o x y m l u j low up =
     (ap (has r) (tables h (suc t) (omega arith) ∙ z .3) ∙ deleted q r (plainAt h t .table) y) j (omega arith) up
 
 inserts-seen : (h : History) → InsertsSeen h
-unfolding listOf
 inserts-seen h d r b e changed x d′ a b′ n count cached y m i u =
     let z = moment h d′ a b′ n count cached y in
     let l = y .within in
@@ -148,11 +148,10 @@ inserts-seen h d r b e changed x d′ a b′ n count cached y m i u =
     let early = y .runs .earlier in (
       listOf (queryOf a) (tableAt h (z .0)),
       table-list h a n count (z .0) (omega arith) (z .3),
-      has-keep (lies (queryOf a)) r (tableAt h (z .0)) i ∙ insert-stays h d r b e n changed x (omega arith) l u (z .0) (omega arith) up,
+      has-list r (queryOf a) (tableAt h (z .0)) ∙ rw (insert-stays h d r b e n changed x (omega arith) l u (z .0) (omega arith) up, i),
     )
 
 deletes-seen : (h : History) → DeletesSeen h
-unfolding listOf
 deletes-seen h d q b e o x d′ a b′ n count cached y m r i u =
     let z = moment h d′ a b′ n count cached y in
     let l = y .within in
@@ -161,7 +160,7 @@ deletes-seen h d q b e o x d′ a b′ n count cached y m r i u =
     let early = y .runs .earlier in (
       listOf (queryOf a) (tableAt h (z .0)),
       table-list h a n count (z .0) (omega arith) (z .3),
-      has-less (lies (queryOf a)) r (tableAt h (z .0)) (delete-stays h d q r b e n o x i (omega arith) l u (z .0) (omega arith) up),
+      has-list r (queryOf a) (tableAt h (z .0)) ∙ rw (delete-stays h d q r b e n o x i (omega arith) l u (z .0) (omega arith) up),
     )
 
 pub corollaries : (h : History) → Corollaries h

@@ -9,16 +9,15 @@ use native.Mathlib.Omega.{arith}
 use lib.ListN.{length}
 use Rattle.rules.specs.declared.Outcome.{Outcome}
 use Rattle.rules.specs.declared.Outcome.the-variants.{Refused, Accepted, Answered, Long, Ended, Full}
-use Rattle.rules.specs.Table.{Table, Write, effect}
+use Rattle.rules.specs.Table.{Write, effect}
 use Rattle.rules.specs.Refusals.{columns}
 use Rattle.rules.specs.History as rules
-use Rattle.machine.proofs.Base.{upd-same}
 use Rattle.machine.proofs.Machine as machine
 use Rattle.machine.proofs.Machine.{Desk, idle, looking, tabling, filing, marking, raising, Result, write-end}
-use Rattle.machine.proofs.Book.{Act, writes, tableStep, alone, leaves, told, Job, job, gave, at-table, Book, next-book, accepted-book, step-book, turn, placed}
+use Rattle.machine.proofs.Book.{writes, tableStep, alone, leaves, told, Job, job, gave, at-table, Book, next-book, placed}
 use Rattle.machine.proofs.Book.{filing-of-act, tabled-at, isRefused, blank-book}
 use Rattle.machine.proofs.BookInv.{begunBy, tabledBy, JobOk, Placed, AtTable}
-use Rattle.machine.proofs.Claims.{Hist, next, fresh}
+use Rattle.machine.proofs.Claims.{Hist, next, fresh, step-op}
 use Rattle.machine.proofs.Log.{after, startOf, JobFrom, linked, tabs-are, now-after, plainTable}
 use Rattle.bridge.proofs.View.{stateOf, callOf, resultIn, resultOf}
 use Rattle.demands.specs.Whole.{History, memAt, plainAt, callAt, replyAt}
@@ -44,13 +43,6 @@ job-of B d j (raising v i c f) w o e =
     (n, o .has .is ∙ ap (λ x. job (writes x) n (begunBy j) (tabledBy j)) k)
 
 -- ---- What its last step enters in the books
-step-op : (B : Book) (d : ℕ) (x : Act) (n b t : ℕ) (a : Result) (T : Table) → B .jobs d ≡ job x n b t → isRefused a ≡ false
-    → next-book B (machine.step d) a T .ops b ≡ placed x b (tabled-at x (suc n) (suc (B .now)) t) (filing-of-act x (B .filings)) (suc (B .now)) a
-unfolding next-book accepted-book step-book turn
-step-op B d x n b t a T e r =
-    let p = placed x b (tabled-at x (suc n) (suc (B .now)) t) (filing-of-act x (B .filings)) (suc (B .now)) a in
-    rw r (subst (λ y. step-book B d y a T .ops b ≡ p) (sym e) (upd-same (B .ops) b p))
-
 placed-end : (k : ℕ) (tray : List ℕ) (o : Outcome) (w : Write) (b t f i : ℕ) → isWriteEnd o ≡ true
     → placed (writes w) b t f i (resultIn k tray o) ≡ at-table (writes w) t (gave i (resultIn k tray o))
 unfolding isWriteEnd placed resultIn

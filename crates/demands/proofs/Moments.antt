@@ -2,15 +2,15 @@
 -- a desk's read stands at its fetch or at its file step. Leans on bridge and on machine's Calm. Assumes nothing.
 use mathlib.Core.Path.{_≡_, refl, sym, ap, _∙_}
 use mathlib.Core.Bool.{Bool, true, false, not}
-use mathlib.Core.List.{List, [], _∷_, map}
-use Prim.Native.Nat.{ℕ, zero, suc, _+_, _≤_, _<_}
+use mathlib.Core.List.{List, []}
+use Prim.Native.Nat.{ℕ, _+_, _≤_, _<_}
 use native.Mathlib.Omega.{arith}
 use lib.Dec.{eqb, leb}
 use borrow.Author.Tests.{eqb-true, eqb-false, leb-true, leb-false, not-true}
-use lib.ListN.{length, getD, drop, length-drop}
+use lib.ListN.{length, drop, length-drop}
 use lib.Seq.{length-take-le}
-use Rattle.laws.proofs.Lists.{all-below}
-use Rattle.laws.proofs.Tests.{byTest, clash}
+use Rattle.laws.proofs.Lists.{all-below, below-at, getD-map}
+use Rattle.laws.proofs.Tests.{byTest}
 use Rattle.query.specs.Query.{Query, readNode, readNodes, readCount, writeCount}
 use Rattle.query.specs.Graph.{meets}
 use Rattle.query.specs.Words.{labelWords}
@@ -23,9 +23,9 @@ use Rattle.rules.specs.Memory.{Mem, storeIn}
 use Rattle.rules.specs.Refusals.{columns, client}
 use Rattle.revisions.proofs.Effect.{NoDup, has}
 use Rattle.revisions.proofs.Operations.{present-has}
-use Rattle.machine.proofs.Base.{allBelow-at}
 use Rattle.machine.proofs.Keys.{Key, Val, nodesOf, length-nodesOf, touches}
-use Rattle.machine.proofs.Machine.{Desk, idle, looking, tabling, filing, marking, raising, node}
+use Rattle.machine.proofs.Machine.{looking, tabling, filing, node}
+use Rattle.machine.proofs.Moves.{isFiling, not-filing}
 use Rattle.machine.proofs.Calm.{opens, quiet, kept}
 use Rattle.bridge.proofs.View.{stateOf, keyOf, valueIn, revisionsIn, looksOf, readerOf, writerOf, busyDesk, deskOf, Fits}
 use Rattle.bridge.proofs.Desks.{looking-desk, tabling-desk, filing-desk, last-read}
@@ -61,15 +61,10 @@ client-opens k q c e = byTest (isIdle c)
 pub quiet-there : (q : Query) (m : Mem) → isQuiet q m ≡ true → quiet (stateOf m) (asking q) ≡ true
 unfolding isQuiet quiet
 quiet-there q m e = all-below 12 (λ d. not (opens (stateOf m .desks d) (asking q))) (λ d l.
-    let o = not-true (isOpen (columns m) q (client m d)) (allBelow-at 12 (λ d. not (isOpen (columns m) q (client m d))) e d l) in
+    let o = not-true (isOpen (columns m) q (client m d)) (below-at 12 (λ d. not (isOpen (columns m) q (client m d))) d e l) in
     rw (desk-at m d l, client-opens (columns m) q (client m d) o) refl)
 
 -- ---- No node put out
-getD-map : {A B : Type 0} (f : A → B) (l : List A) (i : ℕ) (x : B) (y : A) → i < length l → getD (map f l) i x ≡ f (getD l i y)
-getD-map f [] i x y h = absurd (omega arith)
-getD-map f (a ∷ l) zero x y h = refl
-getD-map f (a ∷ l) (suc i) x y h = getD-map f l i x y (omega arith)
-
 node-is : (q : Query) (j : ℕ) → j < readCount q → node (asking q) j ≡ labelWords (readNode q j)
 unfolding node nodesOf readCount
 node-is q j l = let n = read-nodes-count q in getD-map labelWords (readNodes q) j [] [] (omega arith) ∙ ap labelWords (read-nodes-at q j l)
@@ -82,7 +77,7 @@ pub kept-there : (q : Query) (m t : Mem) → keepsNodes q m t ≡ true → kept 
 unfolding keepsNodes kept stillThere
 kept-there q m t e = all-below (length (nodesOf (asking q))) _ (λ j l.
     let k : j < readCount q = let n = length-nodesOf (asking q) in omega arith in
-    rw (has-is q m j k, has-is q t j k) (allBelow-at (readCount q) (stillThere q m t) e j k))
+    rw (has-is q m j k, has-is q t j k) (below-at (readCount q) (stillThere q m t) j e k))
 
 -- ---- A read at its fetch, and at its file step
 query-is : (k : ℕ) (c : Client) → looksOf k (entryOf c) ≡ readCount (queryAt k c)
@@ -139,17 +134,6 @@ filing-there m d q f once r =
     )
 
 -- and back: a desk that files is a reader's before its last step
-abbrev isFiling : Desk → Bool
-isFiling idle = false
-isFiling (looking q ns saw) = false
-isFiling (tabling q ns saw) = false
-isFiling (filing q ns l) = true
-isFiling (marking w i) = false
-isFiling (raising w j c f) = false
-
-no-filing : {A : Type 0} {x : Desk} {q : Key} {ns : List ℕ} {l : Val} → x ≡ filing q ns l → isFiling x ≡ false → A
-no-filing e f = clash (ap isFiling e) f
-
 filing-key : {q r : Key} {ns ms : List ℕ} {l v : Val} → filing q ns l ≡ filing r ms v → q ≡ r
 filing-key e = cc
 
@@ -175,9 +159,9 @@ reader-files m d q ns l g b r e =
     let late = g .busy .going in
     let lst = last-read k c r in
     byTest (leb (steps c) (looksOf k (entryOf c)))
-    (λ t. no-filing (sym (looking-desk k c (g .busy) r (leb-true _ _ t)) ∙ e) refl)
+    (λ t. not-filing (looking _ _ _) refl (sym (looking-desk k c (g .busy) r (leb-true _ _ t)) ∙ e))
     (λ t. byTest (eqb (steps c) (looksOf k (entryOf c) + 1))
-    (λ u. no-filing (sym (tabling-desk k c (g .busy) r (eqb-true _ _ u)) ∙ e) refl)
+    (λ u. not-filing (tabling _ _ _) refl (sym (tabling-desk k c (g .busy) r (eqb-true _ _ u)) ∙ e))
     (λ u. let low = leb-false (steps c) (looksOf k (entryOf c)) t in
     let ne : steps c ≡ looksOf k (entryOf c) + 1 → ⊥ = eqb-false (steps c) (looksOf k (entryOf c) + 1) u in
     let a : queryAt k c ≡ q .asked = ap (λ (x : Key). x .asked) (filing-key (sym (filing-desk k c (g .busy) r (omega arith)) ∙ e)) in
@@ -189,7 +173,7 @@ pub files-there : (m : Mem) (d : ℕ) (q : Key) (ns : List ℕ) (l : Val) → Fi
 files-there m d q ns l f once h e =
     let e′ : deskOf (columns m) (client m d) ≡ filing q ns l = sym (desk-at m d h) ∙ e in
     byTest (isIdle (client m d))
-    (λ i. no-filing e′ (idle-not (columns m) (client m d) i))
+    (λ i. not-filing _ (idle-not (columns m) (client m d) i) e′)
     (λ i. byTest (eqb (kind (client m d)) reads)
     (λ r. reader-files m d q ns l (going m f once d h i) i (eqb-true _ _ r) e′)
-    (λ r. no-filing e′ (writer-not (columns m) (client m d) i r)))
+    (λ r. not-filing _ (writer-not (columns m) (client m d) i r) e′))

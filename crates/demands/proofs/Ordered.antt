@@ -1,27 +1,18 @@
--- Demand 2: after each call of a history the table is ascending, and so is every query's list on it. Leans on Third and on machine's
--- Ascending. Assumes nothing.
+-- Demand 2: after each call of a history the table is ascending, and so is every query's list on it. Leans on Third, on the
+-- laws of records and on machine's Ascending. Assumes nothing.
 use mathlib.Core.Path.{subst}
-use mathlib.Core.List.{[], _∷_}
 use Prim.Native.Nat.{ℕ, _≤_}
 use lib.ListN.{length}
 use Rattle.query.specs.Query.{Query}
-use Rattle.rules.specs.Table.{Table, listOf}
+use Rattle.rules.specs.Table.{listOf, Ascending}
 use Rattle.rules.specs.Memory.{recordsIn}
-use Rattle.machine.proofs.Ascending as machine
-use Rattle.machine.proofs.Ascending.{TableGood, list-ascending}
+use Rattle.records.proofs.Ascending.{list-ascending}
+use Rattle.machine.proofs.Ascending.{TableGood}
 use Rattle.machine.proofs.Histories.{tables-good}
 use Rattle.bridge.proofs.View.{stateOf}
 use Rattle.demands.specs.Whole.{History, memAt}
-use Rattle.demands.specs.Demand2.{Ascending}
 use Rattle.demands.proofs.Runs.{logTo, sound, few-columns}
 use Rattle.demands.proofs.Third.{table-is}
-
--- each is below all that follow, so below the next
-pub one-by-one : (t : Table) → machine.Ascending t → Ascending t
-unfolding machine.Ascending machine.Above
-one-by-one [] a = tt
-one-by-one (r ∷ []) a = tt
-one-by-one (r ∷ s ∷ t) a = (a .0 .0, one-by-one (s ∷ t) (a .1))
 
 pub good-table : (h : History) (n : ℕ) → n ≤ length (h .calls) → TableGood (h .k) (recordsIn (h .k) (memAt h n .table))
 good-table h n l =
@@ -32,4 +23,4 @@ pub demand-2-ascending : (h : History) (n : ℕ) → n ≤ length (h .calls)
 demand-2-ascending h n l =
     let t = recordsIn (h .k) (memAt h n .table) in
     let a = good-table h n l .ascending in
-    (one-by-one t a, (λ q. one-by-one (listOf q t) (list-ascending q t a)))
+    (a, (λ q. list-ascending q t a))

@@ -25,7 +25,7 @@ use Rattle.machine.proofs.Did
 use Rattle.machine.proofs.Did.{Did}
 use Rattle.machine.proofs.Book.{Act, reads, writes, isRefused}
 use Rattle.machine.proofs.Log as log
-use Rattle.machine.proofs.Log.{Entry, entry, startOf, isEnd, ends, goesOn, stepped, stepsOf}
+use Rattle.machine.proofs.Log.{Entry, entry, startOf, isEnd, ends, goesOn, stepped, stepsOf, steps-append}
 use Rattle.bridge.proofs.View.{stateOf, callOf, resultIn, resultOf}
 use Rattle.demands.specs.Whole.{History, memAt, callAt, replyAt, acceptedAt, endsWork, endsAt, UnderWay, isStepAt, stepsIn}
 use Rattle.demands.proofs.Runs.{resultAt, entryAt, logTo, did-at, number-at}
@@ -136,11 +136,6 @@ stepped-at h d n l =
     stepped-same d (callAt h n) (resultAt h n) ∙ ap (λ b. cond (isStepAt d (callAt h n) && b) 1 0) (sym (accepted-at h n l))
 
 -- ---- How many steps
-steps-more : (d : ℕ) (l : List Entry) (e : Entry) → stepsOf d (l ++ (e ∷ [])) ≡ stepsOf d l + stepped d (e .call) (e .result)
-unfolding stepsOf
-steps-more d [] e = omega arith
-steps-more d (c ∷ l) e = let a = steps-more d l e in omega arith
-
 pub steps-log : (h : History) (d b n : ℕ) → n ≤ length (h .calls) → stepsIn h d b n ≡ stepsOf d (drop (suc b) (logTo h n))
 unfolding stepsIn stepsOf logTo entryAt
 steps-log h d b zero l = refl
@@ -150,7 +145,7 @@ steps-log h d b (suc n) l =
     byTest (ltb b n)
     (λ e. let le = ltb-true b n e in
     let s = drop-append-le (suc b) (logTo h n) (entryAt h n ∷ []) (omega arith) in
-    let t = steps-more d (drop (suc b) (logTo h n)) (entryAt h n) in
+    let t = steps-append d (drop (suc b) (logTo h n)) (entryAt h n) in
     let u = stepped-at h d n (omega arith) in
     rw (e, s) (omega arith))
     (λ e. let le = ltb-false b n e in

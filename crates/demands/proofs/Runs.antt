@@ -18,7 +18,7 @@ use Rattle.machine.proofs.Tidy.{Tidy}
 use Rattle.machine.proofs.Plain as plain
 use Rattle.machine.proofs.Claims.{Hist, next, fresh, Good, good-next, opened-good}
 use Rattle.machine.proofs.Log.{Entry, entry, after}
-use Rattle.machine.proofs.Histories.{Run}
+use Rattle.machine.proofs.Histories.{Run, after-append}
 use Rattle.bridge.proofs.View.{stateOf, callOf, resultOf, Fits}
 use Rattle.bridge.proofs.Bridge.{bridge, columns-stay, number-is}
 use Rattle.bridge.proofs.Opening.{opened-fits}
@@ -58,14 +58,9 @@ unfoldable pub logTo : History → ℕ → List Entry
 logTo h zero = []
 logTo h (suc n) = logTo h n ++ (entryAt h n ∷ [])
 
-after-more : (l : List Entry) (g : Hist) (e : Entry) → after g (l ++ (e ∷ [])) ≡ next (after g l) (e .call) (e .result)
-unfolding after
-after-more [] g e = refl
-after-more (c ∷ l) g e = after-more l (next g (c .call) (c .result)) e
-
 pub after-to : (h : History) (n : ℕ) → after fresh (logTo h (suc n)) ≡ next (after fresh (logTo h n)) (callOf (callAt h n)) (resultAt h n)
 unfolding logTo entryAt
-after-to h n = after-more (logTo h n) fresh (entryAt h n)
+after-to h n = after-append (logTo h n) fresh (entryAt h n)
 
 -- ---- After n calls
 pub record Sound (h : History) (n : ℕ) : Type 0 where

@@ -1,23 +1,21 @@
 -- What a write has done stays done while no write that would undo it is open: a record put in is in the table, one taken out is not.
--- Leans on machine's Did, on Effects and Third. Assumes nothing.
+-- Leans on the laws of records, on machine's Did and on Third. Assumes nothing.
 use mathlib.Core.Path.{_≡_, refl, sym, ap, _∙_}
-use mathlib.Core.Bool.{Bool, true, false, not, _||_, true≢false, false≢true, or-true}
-use mathlib.Core.List.{[], _∷_}
+use mathlib.Core.Bool.{Bool, true, false, not, _||_, and-false}
 use Prim.Native.Nat.{ℕ, zero, suc, _+_, _≤_, _<_}
 use native.Mathlib.Omega.{arith}
 use lib.Dec.{eqb, leb}
 use borrow.Author.Tests.{eqb-true, eqb-false, not-true}
 use lib.ListN.{length}
-use Rattle.lists.specs.Lists.{same, before, keep}
-use Rattle.laws.proofs.Lists.{same-eq, same-refl}
-use Rattle.laws.proofs.Tests.{or-false-l, or-false-r, byTest, clash}
+use Rattle.lists.specs.Lists.{same}
+use Rattle.laws.proofs.Lists.{same-refl, below-at}
+use Rattle.laws.proofs.Tests.{byTest, clash, or-right}
 use Rattle.query.specs.Query.{Query, Record, lies, writeCount}
-use Rattle.rules.specs.Sizes.{maxRecords}
-use Rattle.rules.specs.Table.{Table, Write, insert, delete, target, has, putIn, isFull, outside, effect, noRoom}
+use Rattle.rules.specs.Table.{Table, Write, insert, delete, target, has, effect, noRoom}
 use Rattle.rules.specs.Client.{Client, kind, steps, isIdle, entryOf, sawMark, didChange, foundFull, writeAt, reads}
 use Rattle.rules.specs.Memory.{Mem}
 use Rattle.rules.specs.Refusals.{columns, client}
-use Rattle.machine.proofs.Base.{allBelow-at}
+use Rattle.records.proofs.Sets.{has-insert, has-delete, no-room-same}
 use Rattle.machine.proofs.Machine.{State, Desk, idle, looking, tabling, filing, marking, raising, Call, Result}
 use Rattle.machine.proofs.Machine.{at-desk, with-store, with-filed, with-tab}
 use Rattle.machine.proofs.Did
@@ -29,74 +27,24 @@ use Rattle.demands.specs.Corollaries.{tableAt, undoes, isOpposed, isUnop
 use Rattle.demands.proofs.Runs.{did-at}
 use Rattle.demands.proofs.Third.{table-is}
 
--- ---- Records of a table
-or-swap : (a b c : Bool) → (a || (b || c)) ≡ (b || (a || c))
-or-swap true true c = refl
-or-swap true false c = refl
-or-swap false b c = refl
-
-has-put : (r s : Record) (t : Table) → has r (putIn s t) ≡ (same s r || has r t)
-unfolding has putIn
-has-put r s [] = refl
-has-put r s (u ∷ t) = byTest (before s u)
-    (λ e. rw e refl)
-    (λ e. rw e (ap (λ b. same u r || b) (has-put r s t) ∙ or-swap (same u r) (same s r) (has r t)))
-
--- a record that the test tells apart from r is another
-not-same : (p : Record → Bool) (s r : Record) (b : Bool) → p s ≡ b → p r ≡ not b → same s r ≡ false
-not-same p s r b e f = byTest (same s r) (λ i. apart b (sym e ∙ ap p (same-eq s r i) ∙ f)) (λ i. i)
-  where
-    apart : {A : Type 0} (b : Bool) → b ≡ not b → A
-    apart true e = absurd (true≢false e)
-    apart false e = absurd (false≢true e)
-
-pub has-keep : (p : Record → Bool) (r : Record) (t : Table) → p r ≡ true → has r (keep p t) ≡ has r t
-unfolding has keep
-has-keep p r [] e = refl
-has-keep p r (s ∷ t) e = byTest (p s)
-    (λ i. rw i (ap (λ b. same s r || b) (has-keep p r t e)))
-    (λ i. rw (i, not-same p s r false i e) (has-keep p r t e))
-
-has-none : (p : Record → Bool) (r : Record) (t : Table) → p r ≡ false → has r (keep p t) ≡ false
-unfolding has keep
-has-none p r [] e = refl
-has-none p r (s ∷ t) e = byTest (p s)
-    (λ i. rw (i, not-same p s r true i e) (has-none p r t e))
-    (λ i. rw i (has-none p r t e))
-
-pub has-less : (p : Record → Bool) (r : Record) (t : Table) → has r t ≡ false → has r (keep p t) ≡ false
-unfolding has keep
-has-less p r [] e = refl
-has-less p r (s ∷ t) e =
-    let a = or-false-l (same s r) (has r t) e in
-    let b = has-less p r t (or-false-r (same s r) (has r t) e) in
-    byTest (p s) (λ i. rw (i, a) b) (λ i. rw i b)
-
 -- ---- What a write does to a record
-put-keeps : (r s : Record) (v : Bool) (t : Table) → (same s r || v) ≡ v → has r t ≡ v → has r (effect (insert s) t) ≡ v
-unfolding effect
-put-keeps r s v t e h = byTest (has s t || leb maxRecords (length t))
-    (λ i. rw i h)
-    (λ i. rw i (has-put r s t ∙ ap (λ b. same s r || b) h ∙ e))
+put-keeps : (r s : Record) (v : Bool) (t : Table) → (v || same s r) ≡ v → has r t ≡ v → has r (effect (insert s) t) ≡ v
+put-keeps r s v t e h = byTest (noRoom (insert s) t)
+    (λ n. ap (has r) (no-room-same s t n) ∙ h)
+    (λ n. has-insert r s t n ∙ rw h e)
 
 effect-keeps : (v : Bool) (r : Record) (w : Write) (t : Table) → undoes v r w ≡ false → has r t ≡ v → has r (effect w t) ≡ v
-unfolding undoes effect outside
-effect-keeps true r (insert s) t e h = put-keeps r s true t (or-true (same s r)) h
-effect-keeps true r (delete q) t e h = has-keep (outside q) r t (rw e refl) ∙ h
-effect-keeps false r (insert s) t e h = put-keeps r s false t (rw e refl) h
-effect-keeps false r (delete q) t e h = has-less (outside q) r t h
+unfolding undoes
+effect-keeps true r (insert s) t e h = put-keeps r s true t refl h
+effect-keeps true r (delete q) t e h = has-delete r q t ∙ rw (h, e)
+effect-keeps false r (insert s) t e h = put-keeps r s false t e h
+effect-keeps false r (delete q) t e h = has-delete r q t ∙ rw h
 
 pub inserted : (r : Record) (t : Table) → noRoom (insert r) t ≡ false → has r (effect (insert r) t) ≡ true
-unfolding noRoom isFull effect
-inserted r t e = byTest (has r t)
-    (λ i. rw i i)
-    (λ i. byTest (leb maxRecords (length t))
-    (λ j. clash (rw (i, j) refl) e)
-    (λ j. rw (i, j) (has-put r r t ∙ rw (same-refl r) refl)))
+inserted r t e = has-insert r r t e ∙ or-right (has r t) (same r r) (same-refl r)
 
 pub deleted : (q : Query) (r : Record) (t : Table) → lies q r ≡ true → has r (effect (delete q) t) ≡ false
-unfolding effect outside
-deleted q r t e = has-none (outside q) r t (rw e refl)
+deleted q r t e = has-delete r q t ∙ rw e (and-false (has r t))
 
 -- ---- Unopposed
 abbrev isMarking : Desk → Bool
@@ -138,7 +86,7 @@ calm-there : (v : Bool) (r : Record) (m : Mem) → isUnopposed v r m ≡ true �
 unfolding isUnopposed
 calm-there v r m e d w i l k =
     client-marks (columns m) (client m d) w i v r (sym (desk-at m d l) ∙ k)
-    (not-true (isOpposed (columns m) v r (client m d)) (allBelow-at 12 (λ d. not (isOpposed (columns m) v r (client m d))) e d l))
+    (not-true (isOpposed (columns m) v r (client m d)) (below-at 12 (λ d. not (isOpposed (columns m) v r (client m d))) d e l))
 
 -- ---- A call, and a history
 did-keeps : (s : State) (v : Bool) (r : Record) {c : Call} {a : Result} {t : State} → Did s c a t → Calm v r s → has r (s .tab) ≡ v → has r (t .tab) ≡ v

@@ -10,12 +10,12 @@ use native.Mathlib.Omega.{arith}
 use lib.Dec.{eqb}
 use borrow.Author.Tests.{eqb-true, eqb-false, leb-true, not-true}
 use lib.ListN.{length}
+use Rattle.laws.proofs.Lists.{below-at}
 use Rattle.laws.proofs.Tests.{byTest, clash}
 use Rattle.query.specs.Query.{Query}
 use Rattle.rules.specs.Sizes.{maxList}
 use Rattle.rules.specs.Table.{Write, listOf, effect}
 use Rattle.rules.specs.History as rules
-use Rattle.machine.proofs.Base.{allBelow-at}
 use Rattle.machine.proofs.Sharing.{effect-list}
 use Rattle.machine.proofs.Keys.{Val, short, touches}
 use Rattle.machine.proofs.Machine.{Call, begin-read, begin-write, step, abandon, out-answer, out-node, renew}
@@ -40,7 +40,7 @@ use Rattle.demands.proofs.Third.{table-is}
 not-open : (s : State) (q : Query) (d : ℕ) (w : Write) (i : ℕ) → quiet s (asking q) ≡ true → d < 12 → s .desks d ≡ marking w i → touches (asking q) w ≡ false
 unfolding quiet opens
 not-open s q d w i e l k =
-    let z = not-true (opens (s .desks d) (asking q)) (allBelow-at 12 (λ d. not (opens (s .desks d) (asking q))) e d l) in
+    let z = not-true (opens (s .desks d) (asking q)) (below-at 12 (λ d. not (opens (s .desks d) (asking q))) d e l) in
     rw k at z
 
 wrote-list : (s : State) (q : Query) (w : Write) → touches (asking q) w ≡ false → listOf q (effect w (s .tab)) ≡ listOf q (s .tab)

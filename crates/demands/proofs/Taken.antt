@@ -7,11 +7,11 @@ use Prim.Native.Nat.{ℕ, _+_, _*_}
 use native.Mathlib.Omega.{arith}
 use lib.Dec.{eqb, ltb}
 use borrow.Author.Tests.{eqb-true, eq-eqb, ne-eqb, ltb-true, le-ltb}
-use lib.ListN.{length, getD, take, drop}
-use lib.Seq.{take-at}
+use lib.ListN.{length, getD, take}
 use Rattle.lists.specs.Lists.{written}
 use Rattle.laws.proofs.Lists.{and-right}
 use Rattle.laws.proofs.Tests.{byTest}
+use Rattle.laws.proofs.Written.{written-read}
 use Rattle.query.specs.Query.{Query, readCount}
 use Rattle.rules.specs.declared.Outcome.the-variants.{Answered}
 use Rattle.rules.specs.Answers.{Entry, lengthIn, listIn, fetchPlace}
@@ -21,12 +21,12 @@ use Rattle.rules.specs.Outcome.{Stepped}
 use Rattle.rules.specs.Refusals.{columns, client, stepCode}
 use Rattle.rules.specs.Steps.{answered, fetchDid, fileDid, readDid, progress}
 use Rattle.rules.specs.Calls.{stepDid}
+use Rattle.rules.proofs.Clients.{list-room}
 use Rattle.machine.proofs.Base.{in-at}
 use Rattle.machine.proofs.Keys.{Val}
 use Rattle.machine.proofs.Machine as machine
 use Rattle.machine.proofs.Book.{isRefused}
 use Rattle.bridge.proofs.View.{resultIn, resultOf, valueIn, Fits}
-use Rattle.bridge.proofs.Clients.{few-numbers}
 use Rattle.bridge.proofs.Memories.{wide-answers, wide-in}
 use Rattle.bridge.proofs.Steps.{length-list}
 use Rattle.demands.specs.Demand2.{Reads}
@@ -71,10 +71,6 @@ unfolding fileDid answered resultOf resultIn isRefused
 file-accepted k m tray d e = refl
 
 -- ---- What a fetch that hits returns
-tray-read : (tray l : List ℕ) (n : ℕ) → length l ≡ n → take n (written tray 0 l) ≡ l
-unfolding written
-tray-read tray l n h = take-at l (drop (0 + length l) tray) n h
-
 value-of : {v u : Val} {a b : Bool} → machine.answered v a ≡ machine.answered u b → v ≡ u
 value-of e = cc
 
@@ -92,7 +88,7 @@ told-list : (k : ℕ) (tray : List ℕ) (x e : Entry) → length (listIn k x) �
 unfolding valueIn
 told-list k tray x e l a =
     let v = value-of a in
-    (ap (λ (z : Val). z .count) v, sym (tray-read tray (listIn k x) (lengthIn x * k) l) ∙ ap (λ (z : Val). z .numbers) v)
+    (ap (λ (z : Val). z .count) v, sym (written-read tray (listIn k x) (lengthIn x * k) l) ∙ ap (λ (z : Val). z .numbers) v)
 
 pub fetch-gave : (m : Mem) (tray : List ℕ) (d i : ℕ) (e : Entry) → Fits m
     → resultOf (columns m) (fetchDid m tray d i) ≡ machine.answered (valueIn (columns m) e) true → Gave (columns m) tray e (fetchDid m tray d i)
@@ -103,7 +99,7 @@ fetch-gave m tray d i e f a = byTest (not (sawMark (client m d)) && ltb i (lengt
     let h = ltb-true i (length es) (and-right (not (sawMark (client m d))) _ t) in
     let j = in-at [] es i h in
     let w = wide-in 152 (wide-answers (m .answers) (f .answers-long) (f .answers)) j in
-    let l = length-list (columns m) x w (few-numbers (columns m) (lengthIn x) (f .few) (f .kept x j .short)) in
+    let l = length-list (columns m) x w (list-room (lengthIn x) (columns m) (f .kept x j .short) (f .few)) in
     let z = told-list (columns m) tray x e l (rw t at a) in
     rw t (record { out = ap (λ n. Answered n true) (z .0); tray = ap (written tray 0) (z .1) }))
     (λ t. not-went (rw t at a))

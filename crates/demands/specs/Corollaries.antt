@@ -12,14 +12,14 @@ use Rattle.query.specs.Words.{queryOf, recordOf}
 use Rattle.rules.specs.declared.Outcome.{Outcome}
 use Rattle.rules.specs.declared.Outcome.the-variants.{Refused, Accepted, Answered, Long, Ended, Full}
 use Rattle.rules.specs.Sizes.{maxRecords, maxList}
-use Rattle.rules.specs.Table.{Table, Write, insert, delete, listOf, has, effect, changes, noRoom}
+use Rattle.rules.specs.Table.{Table, Write, insert, delete, listOf, has, effect, changes, noRoom, Ascending}
 use Rattle.rules.specs.Client.{Client, kind, isIdle, writeAt, reads}
 use Rattle.rules.specs.Memory.{Mem, recordsIn}
 use Rattle.rules.specs.Refusals.{columns, client}
 use Rattle.rules.specs.History.{Call, beginRead, beginInsert, beginDelete, step}
 use Rattle.demands.specs.Whole.{History, memAt, plainAt, callAt, replyAt, UnderWay}
 use Rattle.demands.specs.Demand3.{IsList}
-use Rattle.demands.specs.Demand2.{Ascending, isQuiet}
+use Rattle.demands.specs.Demand2.{isQuiet}
 
 -- call n answers the read of `a` that call b began at desk d
 pub record Answers (h : History) (d : ℕ) (a : List ℕ) (b n count : ℕ) (cached : Bool) : Type 0 where

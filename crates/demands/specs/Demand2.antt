@@ -1,17 +1,17 @@
 -- Demand 2, about the definitions that the contracts cite. Leans on Whole. Definitions only. Assumes nothing.
 use mathlib.Core.Path.{_≡_}
 use mathlib.Core.Bool.{Bool, true, false, not, _&&_, _||_}
-use mathlib.Core.List.{List, [], _∷_}
+use mathlib.Core.List.{List, []}
 use mathlib.Core.Logic.{_⊎_}
 use Prim.Native.Nat.{ℕ, suc, _+_, _≤_, _<_}
 use lib.Dec.{eqb}
 use lib.ListN.{length, getD}
-use Rattle.lists.specs.Lists.{before, allBelow, written}
+use Rattle.lists.specs.Lists.{allBelow, written}
 use Rattle.query.specs.Query.{Query, readNode, readCount}
 use Rattle.query.specs.Graph.{meets}
 use Rattle.query.specs.Words.{labelWords, keyWords}
 use Rattle.rules.specs.declared.Outcome.the-variants.{Answered}
-use Rattle.rules.specs.Table.{Table, target}
+use Rattle.rules.specs.Table.{target}
 use Rattle.rules.specs.Nodes.{isPresent}
 use Rattle.rules.specs.Answers.{Entry, keyIn, lengthIn, listIn}
 use Rattle.rules.specs.Client.{Client, kind, steps, isIdle, queryAt, writeAt, reads}
@@ -19,12 +19,6 @@ use Rattle.rules.specs.Memory.{Mem, storeIn, answersIn}
 use Rattle.rules.specs.Refusals.{client, columns, stepCode}
 use Rattle.rules.specs.History.{beginRead, step}
 use Rattle.demands.specs.Whole.{History, memAt, callAt, replyAt, UnderWay}
-
--- "ascending by first column, then second, and so on; no record twice"
-abbrev pub Ascending : Table → Type 0
-Ascending [] = Unit
-Ascending (r ∷ []) = Unit
-Ascending (r ∷ s ∷ t) = (before r s ≡ true) × Ascending (s ∷ t)
 
 -- ---- The last sentence
 -- "A write is open from its begin until its desk is idle.": a write that meets q is open at a desk

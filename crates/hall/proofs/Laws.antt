@@ -1,18 +1,18 @@
 -- Laws of the clearing and of the opening, on plain lists and memories. Leans on the rules. Assumes nothing.
-use mathlib.Core.Path.{_≡_, refl, sym, _∙_}
-use mathlib.Core.Bool.{Bool, true, false, cond, _||_, true≢false}
+use mathlib.Core.Path.{_≡_, sym, _∙_}
+use mathlib.Core.Bool.{true, false}
 use mathlib.Core.List.{List, _++_}
-use Prim.Native.Nat.{ℕ, suc, _≤_, _<_}
-use native.Mathlib.Omega.{arith}
+use Prim.Native.Nat.{ℕ, _≤_, _<_}
 use lib.Dec.{ltb, eqb}
 use lib.ListN.{length, drop, set, replicate}
-use borrow.Author.Tests.{ltb-false, lt-ltb, le-ltb, le-leb, lt-leb, eq-eqb, ne-eqb}
+use borrow.Author.Tests.{lt-ltb, le-ltb, le-leb, lt-leb, eq-eqb, ne-eqb}
 use Rattle.rules.specs.Sizes.{tableLeast, nodesLeast, answersLeast, desksLeast}
 use Rattle.rules.specs.Memory.{Mem, mem, cleared, opened}
 use Rattle.rules.specs.Outcome.{did}
 use Rattle.rules.specs.declared.Outcome.the-variants.{Refused, Accepted}
 use Rattle.rules.specs.Refusals.{isShort, badColumns, openCode}
 use Rattle.rules.specs.Calls.{unless, openDid}
+use Rattle.rules.proofs.Passed.{Long, open-told}
 use Rattle.hall.specs.Hall.{isLong, whereLong, tableCleared, nodesCleared, answersCleared, desksCleared}
 
 -- a memory that is too short is told so and stays
@@ -51,25 +51,6 @@ module _ (m : Mem) where
   unfolding isShort
   short-desks a b c = rw (le-ltb _ _ a, le-ltb _ _ b, le-ltb _ _ c)
 
--- what a passed length check tells
-pub record Long (m : Mem) : Type 0 where
-  pub table : tableLeast ≤ length (m .table)
-  pub nodes : nodesLeast ≤ length (m .nodes)
-  pub answers : answersLeast ≤ length (m .answers)
-  pub desks : desksLeast ≤ length (m .desks)
-
-or-false : (a b : Bool) → a || b ≡ false → (a ≡ false) × (b ≡ false)
-or-false false b e = (refl, e)
-or-false true b e = absurd (true≢false e)
-
-pub long : (m : Mem) → isShort m ≡ false → Long m
-unfolding isShort
-long m e =
-    let a = or-false _ _ e in
-    let b = or-false _ _ (a .1) in
-    let c = or-false _ _ (b .1) in
-    record { table = ltb-false _ _ (a .0); nodes = ltb-false _ _ (b .0); answers = ltb-false _ _ (c .0); desks = ltb-false _ _ (c .1) }
-
 -- the number at each way out of the opening's check
 module _ (m : Mem) (k : ℕ) where
   pub code-short : true ≡ isShort m → 1 ≡ openCode m k
@@ -88,16 +69,6 @@ module _ (m : Mem) (k : ℕ) where
   unfolding openCode badColumns
   code-fine a b c = rw (← a, ne-eqb _ _ b, le-ltb _ _ c)
 
--- a refusal that was passed over: its test failed
-passed : (b : Bool) (n m : ℕ) → cond b (suc n) m ≡ 0 → b ≡ false
-passed true n m e = absurd (omega arith)
-passed false n m e = refl
-
--- an opening that no number refuses finds the memories long enough
-pub accepted : (m : Mem) (k : ℕ) → openCode m k ≡ 0 → Long m
-unfolding openCode
-accepted m k e = long m (passed (isShort m) 0 _ e)
-
 -- where a memory is long enough its clearing is done
 pub is-done : (n : ℕ) (s t : List ℕ) → n ≤ length s → whereLong n s t ≡ t
 unfolding isLong whereLong
@@ -115,7 +86,7 @@ module _ (m : Mem) (k n : ℕ) (e : n ≡ openCode m k) where
   unfolding openDid unless opened tableCleared nodesCleared answersCleared desksCleared
   opens t o a d h p q r s =
       let z : eqb (openCode m k) 0 ≡ true = eq-eqb _ _ (sym e ∙ h) in
-      let l : Long m = accepted m k (sym e ∙ h) in
+      let l : Long m = open-told m k (sym e ∙ h) .0 in
       let p′ : t ≡ cleared tableLeast (m .table) = p ∙ is-done _ _ _ (l .table) in
       let q′ : o ≡ set (cleared nodesLeast (m .nodes)) 0 1 = q ∙ is-done _ _ _ (l .nodes) in
       let r′ : a ≡ cleared answersLeast (m .answers) = r ∙ is-done _ _ _ (l .answers) in

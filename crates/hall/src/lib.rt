@@ -9,10 +9,8 @@ ghost use Rattle.rules.specs.Refusals.{isShort, openCode};
 ghost use Rattle.rules.specs.Calls.{openDid};
 ghost use Rattle.hall.specs.Hall.{limitsOf, isLong, tableCleared, nodesCleared, answersCleared, desksCleared};
 
-// A hall, by the number of columns chosen at its opening. Its sizes are the same for every hall.
-pub struct Hall {
-    pub columns: u32,
-}
+// The name that the sizes and the functions of every hall stand under. A hall itself lies in the lent memories, its number of columns too.
+pub struct Hall;
 
 // The sizes, in one value.
 pub struct Limits {

@@ -1,23 +1,18 @@
 -- Small facts: sums over the desks, functions changed at one number, membership in lists. Leans on lists and laws. Assumes nothing.
 use mathlib.Core.Path.{_≡_, refl, sym}
 use mathlib.Core.Logic.{_⊎_, inl, inr}
-use mathlib.Core.Bool.{Bool, true, cond}
+use mathlib.Core.Bool.{cond}
 use mathlib.Core.List.{List, [], _∷_, _++_}
 use Prim.Native.Nat.{ℕ, zero, suc, _+_, _≤_, _<_}
 use native.Mathlib.Omega.{arith}
 use lib.Dec.{eqb}
 use borrow.Author.Tests.{eqb-true, eqb-false, eq-eqb}
 use lib.ListN.{length, getD, take, drop}
-use Rattle.laws.proofs.Lists.{below-at}
 use Rattle.laws.proofs.Tests.{byTest}
-use Rattle.lists.specs.Lists.{allBelow}
 
 -- a label as a node keeps it: five numbers
 abbrev pub Code : Type 0
 Code = List ℕ
-
-pub allBelow-at : (n : ℕ) (f : ℕ → Bool) → allBelow n f ≡ true → (j : ℕ) → j < n → f j ≡ true
-allBelow-at n f e j l = below-at n f j e l
 
 -- ---- Sums over the numbers below n
 unfoldable pub sumBelow : ℕ → (ℕ → ℕ) → ℕ

@@ -9,10 +9,10 @@ use native.Mathlib.Omega.{arith}
 use lib.Dec.{eqb, leb, ltb}
 use borrow.Author.Tests.{eqb-true, eqb-false, eq-eqb, ne-eqb, leb-true, le-leb, ltb-true, ltb-false}
 use lib.ListN.{length, getD}
-use Rattle.laws.proofs.Lists.{and-left, and-right}
+use Rattle.laws.proofs.Lists.{and-left, and-right, below-at}
 use Rattle.laws.proofs.Tests.{byTest, clash}
 use Rattle.revisions.proofs.Effect.{eff, mrk}
-use Rattle.machine.proofs.Base.{allBelow-at, upd, upd-same, upd-other, In}
+use Rattle.machine.proofs.Base.{upd, upd-same, upd-other, In}
 use Rattle.machine.proofs.Keys.{Key, Val, valueOf, short, nodesOf, sameKey, sameKey-eq, sameKey-refl}
 use Rattle.machine.proofs.Machine.{State, Desk, idle, looking, tabling, filing, marking, raising, Ans, node}
 use Rattle.machine.proofs.Machine.{at-desk, with-filed, filed-in, holds-for}
@@ -145,7 +145,7 @@ fetched : (s : State) (B : Book) (d : ℕ) (q : Key) (ns : List ℕ) (a : Ans) �
 unfolding holds-for
 fetched s B d q ns a u e l i f =
     let k : a .query ≡ q = sameKey-eq (a .query) q (and-left (sameKey (a .query) q) _ f) in
-    let b = allBelow-at (length (nodesOf q)) (λ j. leb (getD ns j 0) (getD (a .revs) j 0)) (and-right (sameKey (a .query) q) _ f) in
+    let b = and-right (sameKey (a .query) q) _ f in
     let i′ : In (record { query = q; revs = a .revs; list = a .list }) (s .filed) = rw k at i in
     let at = on-file i′ refl in
     let w = u .was q (a .revs) (a .list) (B .filings q) at in (
@@ -157,7 +157,7 @@ fetched s B d q ns a u e l i f =
           | inr y ↦ elim y [
             | inl y ↦ absurd (false≢true y)
             | inr y ↦ elim (y .2) [
-              | inl x ↦ let le = leb-true (getD ns (y .0) 0) (getD (a .revs) (y .0) 0) (b (y .0) (y .1)) in absurd (omega arith)
+              | inl x ↦ let le = leb-true (getD ns (y .0) 0) (getD (a .revs) (y .0) 0) (below-at (length (nodesOf q)) (λ j. leb (getD ns j 0) (getD (a .revs) j 0)) (y .0) b (y .1)) in absurd (omega arith)
               | inr x ↦ absurd (omega (arith, y .1, x .0))
             ]
           ]

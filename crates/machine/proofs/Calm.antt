@@ -9,12 +9,12 @@ use native.Mathlib.Omega.{arith}
 use lib.Dec.{eqb, ltb}
 use borrow.Author.Tests.{ltb-true, ltb-false, not-true}
 use lib.ListN.{length, getD, take, drop}
-use Rattle.laws.proofs.Lists.{and-left, and-right}
+use Rattle.laws.proofs.Lists.{and-left, and-right, below-at}
 use Rattle.laws.proofs.Tests.{byTest, clash}
 use Rattle.lists.specs.Lists.{allBelow}
 use Rattle.rules.specs.Table.{Write}
 use Rattle.revisions.proofs.Effect.{eff, mrk, has, tally}
-use Rattle.machine.proofs.Base.{Code, allBelow-at, sumBelow-none, In, in-take, in-drop, in-at, in-none}
+use Rattle.machine.proofs.Base.{Code, sumBelow-none, In, in-take, in-drop, in-at, in-none}
 use Rattle.machine.proofs.Keys.{Key, Val, nodesOf, marksOf, touches, no-key, sameKey, shared-touches}
 use Rattle.machine.proofs.Machine.{State, Desk, idle, looking, tabling, filing, marking, raising, Ans, node, opened}
 use Rattle.machine.proofs.Machine.{Call, begin-read, begin-write, step, abandon, out-answer, out-node, renew}
@@ -149,7 +149,7 @@ quiet-held : (s : State) (q : Key) → quiet s q ≡ true → (j : ℕ) → j < 
     → tally (node q j) (holds (s .desks d)) ≡ 0
 unfolding quiet node
 quiet-held s q e j l d k =
-    not-held q (getD (nodesOf q) j []) (s .desks d) (in-at [] (nodesOf q) j l) (allBelow-at 12 (λ d. not (opens (s .desks d) q)) e d k)
+    not-held q (getD (nodesOf q) j []) (s .desks d) (in-at [] (nodesOf q) j l) (below-at 12 (λ d. not (opens (s .desks d) q)) d e k)
 
 pub unmarked : (s : State) (q : Key) → Tidy s → quiet s q ≡ true → (j : ℕ) → j < length (nodesOf q) → mrk (s .store) (node q j) ≡ 0
 unfolding held-of
@@ -181,7 +181,7 @@ still-moves s t q ns n d e k l z j b =
     let a = z j b in
     let u : has (t .store .nodes) (node q j) ≡ true =
     or-not (has (s .store .nodes) (node q j)) _
-    (allBelow-at (length (nodesOf q)) (λ j. not (has (s .store .nodes) (node q j)) || has (t .store .nodes) (node q j)) (and-right (quiet t q) _ k) j (omega arith)) (a .0) in
+    (below-at (length (nodesOf q)) (λ j. not (has (s .store .nodes) (node q j)) || has (t .store .nodes) (node q j)) j (and-right (quiet t q) _ k) (omega arith)) (a .0) in
     (u, a .1 ∙ sym (d (node q j) (a .0) u (unowed s q e j (omega arith))))
 
 -- a desk that stays as it is

@@ -102,7 +102,8 @@ op-was s B b q l i n u (inr e) =
     let x = P .after in let y = P .upto in
     (i, omega arith, P .upto, alone-was q l (B .tabs i) (P .gives ∙ ap (alone (reads q)) (sym (P .moved))))
 
-step-op : (B : Book) (d : ℕ) (x : Act) (n b t : ℕ) (a : Result) (T : Table) → B .jobs d ≡ job x n b t → isRefused a ≡ false
+-- what a step enters in the books
+pub step-op : (B : Book) (d : ℕ) (x : Act) (n b t : ℕ) (a : Result) (T : Table) → B .jobs d ≡ job x n b t → isRefused a ≡ false
     → next-book B (step d) a T .ops b ≡ placed x b (tabled-at x (suc n) (suc (B .now)) t) (filing-of-act x (B .filings)) (suc (B .now)) a
 unfolding next-book accepted-book step-book turn
 step-op B d x n b t a T e r =

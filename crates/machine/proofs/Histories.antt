@@ -55,7 +55,7 @@ pub record WasList (l : List Entry) (d : ℕ) (v : Val) (f : Bool) : Type 0 wher
   pub upto : moment ≤ suc (length l)
   pub was : v ≡ valueOf key (plainTable (take moment (l ++ (entry (step d) (answered v f) ∷ []))))
 
-after-append : (l : List Entry) (h : Hist) (e : Entry) → after h (l ++ (e ∷ [])) ≡ next (after h l) (e .call) (e .result)
+pub after-append : (l : List Entry) (h : Hist) (e : Entry) → after h (l ++ (e ∷ [])) ≡ next (after h l) (e .call) (e .result)
 unfolding after
 after-append [] h e = refl
 after-append (c ∷ l) h e = after-append l (next h (c .call) (c .result)) e

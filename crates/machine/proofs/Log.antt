@@ -163,7 +163,7 @@ goesOn-append d (c ∷ l) e g k =
     let a = and-left (not (ends d (c .call) (c .result))) _ g in
     rw a (goesOn-append d l e (and-right (not (ends d (c .call) (c .result))) _ g) k)
 
-steps-append : (d : ℕ) (l : List Entry) (e : Entry) → stepsOf d (l ++ (e ∷ [])) ≡ stepsOf d l + stepped d (e .call) (e .result)
+pub steps-append : (d : ℕ) (l : List Entry) (e : Entry) → stepsOf d (l ++ (e ∷ [])) ≡ stepsOf d l + stepped d (e .call) (e .result)
 unfolding stepsOf
 steps-append d [] e = omega arith
 steps-append d (c ∷ l) e = let a = steps-append d l e in omega arith

@@ -3,7 +3,7 @@
 -- Leans on Marks. Assumes nothing.
 use mathlib.Core.Path.{_≡_, refl, sym, ap, _∙_, subst}
 use mathlib.Core.Logic.{_⊎_, inl, inr}
-use mathlib.Core.Bool.{Bool, true, false, _||_, or-true}
+use mathlib.Core.Bool.{Bool, true, false, _||_}
 use mathlib.Core.List.{List, [], _∷_, _++_}
 use Prim.Native.Nat.{ℕ, suc, _≤_, _<_}
 use native.Mathlib.Omega.{arith}
@@ -11,7 +11,7 @@ use lib.Dec.{eqb, ltb}
 use borrow.Author.Tests.{eqb-true, eqb-false, lt-ltb}
 use lib.ListN.{length, getD, length-append, List·getD-append}
 use lib.Seq.{getD-append-seam}
-use Rattle.laws.proofs.Tests.{byTest, clash}
+use Rattle.laws.proofs.Tests.{byTest, clash, or-left, or-right}
 use Rattle.rules.specs.Table.{Write, effect}
 use Rattle.rules.specs.Nodes.{Store}
 use Rattle.revisions.proofs.Effect.{eff, mrk, tally, Grew}
@@ -227,12 +227,6 @@ grown-old ns c j l = List·getD-append ns (c ∷ []) 0 j l
 pub grown-new : (ns : List ℕ) (c : ℕ) → getD (grown ns c) (length ns) 0 ≡ c
 unfolding grown
 grown-new ns c = getD-append-seam ns c [] 0
-
-or-left : (a b : Bool) → a ≡ true → (a || b) ≡ true
-or-left a b e = rw e refl
-
-or-right : (a b : Bool) → b ≡ true → (a || b) ≡ true
-or-right a b e = rw e (or-true a)
 
 -- behind before the look, behind after it: what was to be looked at has been seen marked, or noted above
 pub look-behind : (s : State) (q : Key) (ns : List ℕ) (saw : Bool) (r : List ℕ) → ((p : Code) → Owed s p → 0 < mrk (s .store) p)

@@ -11,10 +11,10 @@ use borrow.Author.Tests.{eq-eqb}
 use lib.ListN.{length}
 use Rattle.laws.proofs.Tests.{byTest, clash}
 use Rattle.lists.specs.Lists.{before, listed, keep}
-use Rattle.query.specs.Query.{Query, Record, admits, lies, naming, Meet, readNode, writeNode, readCount, writeCount, readNodes, writeNodes}
+use Rattle.query.specs.Query.{Query, Record, admits, lies, naming, readNode, writeNode, readCount, writeCount, readNodes, writeNodes}
 use Rattle.query.specs.Graph.{meets, Shares}
 use Rattle.query.specs.Words.{labelWords}
-use Rattle.query.proofs.Meet.{meets-is, lemma-2}
+use Rattle.query.proofs.Meet.{meets-is, meet-meets, lemma-2}
 use Rattle.query.proofs.Words.{label-words-told}
 use Rattle.rules.specs.Sizes.{maxRecords}
 use Rattle.rules.specs.Table.{Table, Write, insert, delete, target, listOf, has, putIn, outside, effect}
@@ -62,10 +62,6 @@ meet-codes q w e =
     )
 
 -- ---- A write whose query does not meet the read's leaves the list alone
-lies-meets : (q w : Query) (r : Record) → lies q r ≡ true → lies w r ≡ true → meets q w ≡ true
-unfolding Meet
-lies-meets q w r e f = meets-is q w .1 (r, e, f)
-
 lies-naming : (r : Record) → lies (naming r) r ≡ true
 unfolding lies naming admits
 lies-naming [] = refl
@@ -82,12 +78,12 @@ list-without : (q w : Query) → meets q w ≡ false → (t : Table) → listOf 
 unfolding listOf keep outside
 list-without q w e [] = refl
 list-without q w e (r ∷ t) = byTest (lies w r)
-    (λ i. byTest (lies q r) (λ j. clash (lies-meets q w r j i) e) (λ j. rw (i, j) (list-without q w e t)))
+    (λ i. byTest (lies q r) (λ j. clash (meet-meets q w r j i) e) (λ j. rw (i, j) (list-without q w e t)))
     (λ i. rw i (ap (λ l. cond (lies q r) (r ∷ l) l) (list-without q w e t)))
 
 pub effect-list : (w : Write) (q : Query) (t : Table) → (listOf q (effect w t) ≡ listOf q t) ⊎ (meets q (target w) ≡ true)
 unfolding effect target
 effect-list (insert r) q t = byTest (lies q r)
-    (λ i. inr (lies-meets q (naming r) r i (lies-naming r)))
+    (λ i. inr (meet-meets q (naming r) r i (lies-naming r)))
     (λ i. inl (byTest (has r t || leb maxRecords (length t)) (λ j. rw j refl) (λ j. rw j (list-put q r i t))))
 effect-list (delete w) q t = byTest (meets q w) (λ i. inr i) (λ i. inl (list-without q w i t))

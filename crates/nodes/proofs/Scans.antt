@@ -1,7 +1,7 @@
 -- Laws of the loops over the nodes: a label compared with the five numbers of a node, and the search for the first node that passes a test.
 -- Leans on the rules' definitions and on the laws of lists and searches. Assumes nothing.
 use mathlib.Core.Path.{_≡_, refl, sym, ap, _∙_}
-use mathlib.Core.Bool.{Bool, true, false, _||_}
+use mathlib.Core.Bool.{Bool, true, false, or-true}
 use mathlib.Core.List.{List, []}
 use Prim.Native.Nat.{ℕ, _+_, _*_, _≤_, _<_}
 use native.Mathlib.Omega.{arith}
@@ -71,10 +71,6 @@ module _ (s : List ℕ) (i : ℕ) (h : i < getD s 1 0) where
 -- ---- the search for the first node that passes a test q: before place i none does
 unfoldable pub Past : (Node → Bool) → List ℕ → ℕ → Type 0
 Past q s i = place q (storeIn s .nodes) ≡ i + place q (drop i (storeIn s .nodes))
-
-or-true : (b : Bool) → b || true ≡ true
-or-true true = refl
-or-true false = refl
 
 module _ (q : Node → Bool) (s : List ℕ) where
   pub scan-start : Past q s 0

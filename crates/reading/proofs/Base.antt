@@ -10,7 +10,7 @@ use Rattle.query.specs.declared.Column.{Column}
 use Rattle.query.specs.Query.{Query, named, readNode, readCount}
 use Rattle.query.specs.Words.{labelWords}
 use Rattle.columns.specs.Columns.{four}
-use Rattle.columns.proofs.Nodes.{count-most}
+use Rattle.query.proofs.Nodes.{read-count-most}
 use Rattle.rules.specs.Table.{listOf}
 use Rattle.rules.specs.Nodes.{ensured}
 use Rattle.rules.specs.Answers.{lengthIn, fetchPlace}
@@ -32,7 +32,7 @@ module _ (desks : List ℕ) (d k : ℕ) (r : Reads desks d k) where
   sound-read = sound-client k (clientIn desks d) (r .most) (r .sound) (r .busy)
 
   pub few-looks : looks desks d k ≤ 16
-  few-looks = let l = length-query k (clientIn desks d) in let m = r .most in count-most (queryAt k (clientIn desks d)) (omega arith)
+  few-looks = let l = length-query k (clientIn desks d) in let m = r .most in read-count-most (queryAt k (clientIn desks d)) (omega arith)
 
   pub few-steps : made desks d < looks desks d k + 3
   few-steps =

@@ -2,17 +2,17 @@
 -- Assumes nothing.
 use mathlib.Core.Path.{_≡_, refl, sym, ap, _∙_}
 use mathlib.Core.Bool.{Bool, true, false, cond, not}
-use mathlib.Core.List.{List, append-assoc}
+use mathlib.Core.List.{List}
 use Prim.Native.Nat.{ℕ, _+_, _*_, _-_, _≤_, _<_}
 use native.Mathlib.Nat.{add-zero}
 use native.Mathlib.Omega.{arith}
 use lib.Dec.{ltb, leb}
 use lib.ListN.{length, getD, take, drop, length-drop, length-take}
-use lib.Seq.{take-all, take-at, length-take-le, drop-drop}
+use lib.Seq.{take-all, take-at, length-take-le}
 use borrow.Author.Tests.{lt-ltb, le-ltb, leb-false}
 use borrow.Rule.Slice.PartMut.{putMid}
 use Rattle.lists.specs.Lists.{written, flat}
-use Rattle.laws.proofs.Written.{length-written, getD-before, drop-of-written, written-self}
+use Rattle.laws.proofs.Written.{mid-written, length-written, getD-before, drop-of-written, written-self}
 use Rattle.laws.proofs.Rows.{length-flat, wide-take}
 use Rattle.query.specs.declared.Column.{Column}
 use Rattle.query.specs.Query.{Record}
@@ -24,9 +24,9 @@ use Rattle.rules.specs.Memory.{mem, clientIn, withClient, recordsIn}
 use Rattle.rules.specs.Outcome.{didWith}
 use Rattle.rules.specs.Refusals.{columns, client}
 use Rattle.rules.specs.Steps.{nowAt, answered, tableDid, readDid}
+use Rattle.rules.proofs.Clients.{list-room}
 use Rattle.clients.specs.Clients.{listSet}
 use Rattle.clients.proofs.Memory.{length-client, with-self, with-words, client-same, with-twice, written-inside}
-use Rattle.clients.proofs.Reading.{list-room}
 use Rattle.clients.proofs.Changes.{length-idle, list-written}
 use Rattle.table.specs.Table as table
 use Rattle.table.specs.Table.{gathered}
@@ -35,10 +35,6 @@ use Rattle.reading.specs.Reading.{Reads, looks, made}
 use Rattle.reading.proofs.Base.{fit-desks, read-columns, table-is}
 
 -- a part that was lent and came back with v from its start on
-mid-written : (s : List ℕ) (i n : ℕ) (v : List ℕ) → length v ≡ n → putMid i n s v ≡ written s i v
-unfolding written
-mid-written s i n v e = rw (e, drop-drop n i s, append-assoc)
-
 part-written : (s : List ℕ) (at n : ℕ) (v t : List ℕ) → t ≡ written (take (at + n - at) (drop at s)) 0 v → length v ≤ n → at + n ≤ length s
     → putMid at (at + n - at) s t ≡ written s at v
 part-written s at n v t e h l =

@@ -23,7 +23,7 @@ use Rattle.rules.specs.Refusals.{columns, beginCode, evictAnswerCode, evictNode
 use Rattle.rules.specs.Steps.{nowAt, storeBack}
 use Rattle.rules.specs.Calls.{unless, beginDid, evictAnswerDid, evictNodeDid, renewDid}
 use Rattle.clients.specs.Clients.{begunWith}
-use Rattle.checks.proofs.Sound.{Begins}
+use Rattle.rules.proofs.Passed.{Begins}
 
 -- ---- The key of a query as it arrives
 length-asked : (a : List ℕ) → length (queryOf a) ≡ length a / 2

@@ -6,14 +6,12 @@ use mathlib.Core.List.{List, [], _∷_, _++_}
 use Prim.Native.Nat.{ℕ, zero, suc, _≤_, _<_, max}
 use native.Mathlib.Omega.{arith}
 use lib.Dec.{ltb, leb·suc-suc}
-use lib.ListN.{length, getD, set, length-append, length-set, length-map, length-replicate}
+use lib.ListN.{length, getD, set, length-append, length-set}
 use lib.Seq.{take-set-le, take-at, getD-at, getD-append-add, getD-set-same, getD-set-other}
 use borrow.Author.Tests.{ltb-true, lt-ltb, eqb-true, eqb-false}
 use Rattle.laws.proofs.Lists.{same-refl, same-eq}
 use Rattle.laws.proofs.Tests.{or-false-l, or-false-r, clash, byTest, cond-same, cond-twice, cond-swap}
-use Rattle.lists.specs.Lists.{same, place, without, padded}
-use Rattle.query.specs.Query.{Label}
-use Rattle.query.specs.Words.{labelWords}
+use Rattle.lists.specs.Lists.{same, place, without}
 use Rattle.rules.specs.Nodes.{Words, Node, labelIn, pending, revision, withPending, withRevision, hasLabel, nodePlace, isFree, oldestFree}
 use Rattle.revisions.proofs.Base.{same-off, same-apart}
 use Rattle.revisions.proofs.Effect.{has, cnt, mks, NoDup}
@@ -319,8 +317,3 @@ module _ (n : Node) (x : ℕ) where
   pub revision-wide : Wide n → Wide (withRevision n x)
   unfolding withRevision
   revision-wide w = length-set n 6 x ∙ w
-
--- ---- A label of up to four columns has five numbers
-pub words-five : (p : Label) → length p ≤ 4 → length (labelWords p) ≡ 5
-unfolding labelWords padded
-words-five p h = simp (length-append, length-replicate, length-map) (omega arith)

@@ -1,1 +1,3 @@
+pub mod Passed
+pub mod Clients
 pub mod Cases

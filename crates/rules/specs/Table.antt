@@ -1,6 +1,7 @@
 -- Document 01, "One desk, step by step": what the table step lists, adds and removes (source document 002, definition 5).
 -- Leans on Query. Definitions only. Assumes nothing.
-use mathlib.Core.Bool.{Bool, false, cond, not, _&&_, _||_}
+use mathlib.Core.Path.{_≡_}
+use mathlib.Core.Bool.{Bool, true, false, cond, not, _&&_, _||_}
 use mathlib.Core.List.{List, [], _∷_}
 use lib.Dec.{eqb, leb}
 use lib.ListN.{length}
@@ -56,3 +57,18 @@ noRoom (delete q) t = false
 -- "whether the table changed": a write changes the records exactly if it changes their number
 unfoldable pub changes : Write → Table → Bool
 changes w t = not (eqb (length (effect w t)) (length t))
+
+-- ---- "ascending by first column, then second, and so on; no record twice"
+-- r is before the first of t
+unfoldable pub Follows : Record → Table → Type 0
+Follows r [] = Unit {0}
+Follows r (s ∷ t) = before r s ≡ true
+
+-- each record is before the next
+unfoldable pub Ascending : Table → Type 0
+Ascending [] = Unit {0}
+Ascending (r ∷ t) = Follows r t × Ascending t
+
+unfoldable pub Distinct : Table → Type 0
+Distinct [] = Unit {0}
+Distinct (r ∷ t) = (has r t ≡ false) × Distinct t

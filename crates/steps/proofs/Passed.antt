@@ -11,7 +11,8 @@ use Rattle.rules.specs.Outcome.{did, didWith}
 use Rattle.rules.specs.Refusals.{columns, client, stepCode, abandonCode}
 use Rattle.rules.specs.Steps.{nowAt, readDid, progress}
 use Rattle.rules.specs.Calls.{unless, stepDid, abandoned, abandonDid}
-use Rattle.checks.proofs.Sound.{Sound, Busy, step-told, abandon-told, steps-before, nodes-fit, client-fit}
+use Rattle.rules.proofs.Passed.{Busy, step-told, abandon-told, steps-before}
+use Rattle.checks.proofs.Sound.{nodes-fit, client-fit}
 use Rattle.clients.specs.Clients as clients
 use Rattle.nodes.specs.Nodes as nodes
 use Rattle.table.specs.Table as table

@@ -16,8 +16,9 @@ use Rattle.laws.proofs.Rows.{slot-next, slot-left, flat-snoc, length-flat, wide
 use Rattle.query.specs.Query.{Query, Record, lies}
 use Rattle.rules.specs.Table.{Table, outside, delete, effect}
 use Rattle.rules.specs.Memory.{recordsIn, withRecords}
+use Rattle.records.proofs.Writes.{effect-delete}
 use Rattle.table.specs.Table.{Fit, gone}
-use Rattle.table.proofs.Tables.{gone-is, effect-delete}
+use Rattle.table.proofs.Tables.{gone-is}
 use Rattle.table.proofs.Memory.{length-records, wide-records}
 
 -- a record that stands where it is to stand

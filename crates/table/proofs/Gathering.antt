@@ -3,14 +3,15 @@
 use mathlib.Core.Path.{_≡_, refl, sym, ap, _∙_}
 use mathlib.Core.Bool.{Bool, true, false}
 use mathlib.Core.List.{List, [], _∷_, _++_}
-use Prim.Native.Nat.{ℕ, zero, suc, _+_, _*_, _-_, _≤_, _<_}
-use native.Mathlib.Nat.{zero-mul, zero-add, sub-zero, zero-sub, suc-sub-suc}
+use Prim.Native.Nat.{ℕ, suc, _+_, _*_, _-_, _≤_, _<_}
+use native.Mathlib.Nat.{zero-mul, zero-add}
 use native.Mathlib.Omega.{arith}
 use lib.ListN.{length, getD, take, drop, replicate, length-append, take-append-drop}
 use lib.Seq.{take-all, take-at, drop-cons}
 use Rattle.lists.specs.Lists.{written, padded, flat, keep}
 use Rattle.laws.proofs.Lists.{keep-next, skip-next, keep-end, keep-append, keep-yes}
 use Rattle.laws.proofs.Written.{written-nil, written-front, written-over, take-of-written, length-written}
+use Rattle.laws.proofs.Entries.{drop-zeros}
 use Rattle.laws.proofs.Rows.{slot, slot-next, flat-snoc, length-flat, Wide, wide-keep, wide-take}
 use Rattle.query.specs.Query.{Record}
 use Rattle.rules.specs.Sizes.{maxList}
@@ -119,11 +120,6 @@ gather-all p t k n out₀ out i at j to a h g =
     (c ∙ sym (gathered-few (keep p t) (omega arith)), rw (d, ← x) (a .out-is))
 
 -- ---- a list gathered over zeros, for the caller that keeps it
-drop-zeros : (k m : ℕ) → drop k (replicate {A = ℕ} m 0) ≡ replicate (m - k) 0
-drop-zeros zero m = rw sub-zero
-drop-zeros (suc k) zero = rw zero-sub
-drop-zeros (suc k) (suc m) = rw suc-sub-suc (drop-zeros k m)
-
 pub written-zeros : (n : ℕ) (v : List ℕ) → written (replicate n 0) 0 v ≡ padded n v
 unfolding written padded
 written-zeros n v = rw (zero-add, drop-zeros (length v) n)

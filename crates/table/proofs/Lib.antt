@@ -3,4 +3,3 @@ pub mod Memory
 pub mod Gathering
 pub mod Seeking
 pub mod Deleting
-pub mod Sets

@@ -1,16 +1,13 @@
 -- Laws of a table memory that is fit: where its records lie, what a scan of them reads, and that other records written back keep it fit.
--- Leans on the definitions of rules and on the laws of Entries and Rows. Assumes nothing.
-use mathlib.Core.Path.{_≡_, refl, sym, _∙_}
-use mathlib.Core.Bool.{Bool, true, false, _||_}
+-- Leans on the definitions of rules, on the laws of Entries and Rows and on those of records. Assumes nothing.
+use mathlib.Core.Path.{_≡_, sym, _∙_}
+use mathlib.Core.Bool.{Bool, false}
 use mathlib.Core.List.{List, [], _∷_, _++_}
 use Prim.Native.Nat.{ℕ, _+_, _*_, _-_, _≤_, _<_}
 use native.Mathlib.Nat.{mul-le-mul-left, mul-le-mul-right}
 use native.Mathlib.Omega.{arith}
-use lib.Dec.{eqb, ltb}
 use lib.ListN.{length, getD, take, drop, set, length-drop}
 use lib.Seq.{length-take-le}
-use borrow.Author.Tests.{eqb-false, ltb-false}
-use Rattle.laws.proofs.Lists.{true-false}
 use Rattle.laws.specs.Moves.{inserted}
 use Rattle.laws.proofs.Rows.{slot, Wide, wide-keep}
 use Rattle.laws.proofs.Entries.{length-entries, entry-at, wide-entries, with-insert, with-self, length-with, count-with, entries-with}
@@ -19,33 +16,16 @@ use Rattle.query.specs.declared.Column.{Column}
 use Rattle.rules.specs.Sizes.{maxRecords, tableLeast}
 use Rattle.rules.specs.Table.{Table, listOf, Write, effect}
 use Rattle.rules.specs.Memory.{Mem, recordsIn, withRecords}
-use Rattle.rules.specs.Refusals.{columns, badColumns, isShort, isUnsound}
-use Rattle.table.specs.Table.{Fit, OfWidth}
-use Rattle.table.proofs.Tables.{effect-wide, effect-few}
+use Rattle.rules.specs.Refusals.{columns, isShort, isUnsound}
+use Rattle.rules.proofs.Passed.{sound}
+use Rattle.records.proofs.Writes.{OfWidth, effect-wide, effect-few}
+use Rattle.table.specs.Table.{Fit}
 
 -- ---- a table memory that passed the refusals is fit
-or-no : (a b : Bool) → a || b ≡ false → (a ≡ false) × (b ≡ false)
-or-no true b e = absurd (true-false true refl e)
-or-no false b e = (refl, e)
-
-fit-columns : (k : ℕ) → badColumns k ≡ false → (1 ≤ k) × (k ≤ 4)
-unfolding badColumns
-fit-columns k e =
-    let a = or-no (eqb k 0) (ltb 4 k) e in
-    let n : k ≡ 0 → ⊥ = eqb-false k 0 (a .0) in
-    (omega arith, ltb-false 4 k (a .1))
-
 pub fit-passed : (m : Mem) → isShort m ≡ false → isUnsound m ≡ false → Fit (columns m) (m .table)
-unfolding isShort isUnsound
 fit-passed m h g =
-    let a = or-no _ _ h in
-    let b = or-no _ _ g in
-    let d = or-no _ _ (b .1) in
-    record {
-      columns = fit-columns (columns m) (b .0);
-      long = ltb-false (length (m .table)) tableLeast (a .0);
-      few = ltb-false maxRecords (getD (m .table) 0 0) (d .0);
-    }
+    let s = sound m h g in
+    record { columns = (s .least, s .most); long = s .long .table; few = s .records }
 
 -- ---- places, for omega
 pub ends : (k n : ℕ) → k ≤ 4 → n ≤ maxRecords → 8 + n * k ≤ tableLeast

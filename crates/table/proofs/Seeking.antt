@@ -13,12 +13,14 @@ use lib.Seq.{take-all, take-suc, length-take-le}
 use borrow.Author.Tests.{eqb-true, eqb-false}
 use Rattle.lists.specs.Lists.{before, place}
 use Rattle.laws.specs.Moves.{inserted}
+use Rattle.laws.proofs.Tests.{byTest}
 use Rattle.laws.proofs.Search.{place-le, place-here, place-later}
 use Rattle.laws.proofs.Rows.{slot-next}
 use Rattle.query.specs.Query.{Record}
 use Rattle.rules.specs.Sizes.{maxRecords}
 use Rattle.rules.specs.Table.{Table, has, insert, effect}
 use Rattle.rules.specs.Memory.{recordsIn, withRecords}
+use Rattle.records.proofs.Writes.{insert-places, effect-there, effect-full, effect-put}
 use Rattle.words.specs.declared.Order.the-variants.{Before, Same, After}
 use Rattle.words.specs.Words.{orderOf, isSame, isAfter}
 use Rattle.words.proofs.Orders.{same-is, above-is, to-same}
@@ -26,7 +28,7 @@ use Rattle.table.specs.declared.Inserted.the-variants.{Added, Present, F
 use Rattle.table.specs.declared.Spot.{Spot}
 use Rattle.table.specs.declared.Spot.the-variants.{There, At}
 use Rattle.table.specs.Table.{Fit, spotOf, insertedAs}
-use Rattle.table.proofs.Tables.{by-test, has-snoc, has-at, place-front, place-behind, is-there, goes-before, spot-there, spot-before, effect-there, effect-full, effect-put, insert-places, as-present, as-full, as-added}
+use Rattle.table.proofs.Tables.{has-snoc, has-at, place-front, place-behind, is-there, goes-before, spot-there, spot-before, as-present, as-full, as-added}
 use Rattle.table.proofs.Memory.{length-records, with-records, with-inserted}
 
 -- ---- one record more: p fails, or passes, at x
@@ -40,7 +42,7 @@ module _ {A : Type 0} (p : A → Bool) (l : List A) (x : A) where
 
   pub place-greater : p x ≡ true → place p (l ++ (x ∷ [])) ≡ place p l
   place-greater e =
-      by-test _ (eqb (place p l) (length l))
+      byTest (eqb (place p l) (length l))
       (λ z. let h : place p l ≡ length l = eqb-true _ _ z in place-behind p l (x ∷ []) h ∙ ap (λ (m : ℕ). length l + m) (place-here p x [] e) ∙ add-zero (length l) ∙ sym h)
       (λ z. place-stays (eqb-false _ _ z))
 

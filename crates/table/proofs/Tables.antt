@@ -1,5 +1,5 @@
--- Laws of a table as a list of records: what is in it, where a record goes in, what a write leaves, and how that is reported.
--- Leans on the definitions of lists and rules, and on the laws of lists. Assumes nothing.
+-- Laws of a table as a list of records: what is in it, where a search of it ends, and how what a write leaves is reported.
+-- Leans on the definitions of lists and rules, and on the laws of lists and records. Assumes nothing.
 use mathlib.Core.Path.{_≡_, refl, sym, ap, _∙_}
 use mathlib.Core.Bool.{Bool, true, false, cond, not, _&&_, _||_, or-true, or-assoc}
 use mathlib.Core.List.{List, [], _∷_, _++_}
@@ -7,23 +7,20 @@ use Prim.Native.Nat.{ℕ, zero, suc, _+_, _-_, _≤_, _<_}
 use native.Mathlib.Nat.{zero-add, suc-add, le-of-suc-le-suc, not-suc-le-zero}
 use native.Mathlib.Omega.{arith}
 use lib.Dec.{eqb, ltb, leb}
-use lib.ListN.{length, getD, take, drop, length-append, length-take, length-drop}
+use lib.ListN.{length, getD}
 use borrow.Author.Tests.{eq-eqb, ne-eqb, eqb-true, eqb-false, le-leb, lt-leb, leb-true, leb-false, lt-ltb}
 use Rattle.lists.specs.Lists.{same, before, keep, place}
+use Rattle.laws.proofs.Tests.{byTest}
 use Rattle.laws.proofs.Lists.{keep-le}
-use Rattle.laws.proofs.Search.{place-le, place-here, place-later}
-use Rattle.laws.proofs.Rows.{Wide, wide-insert, wide-keep}
-use Rattle.query.specs.Query.{Query, Record, naming}
+use Rattle.laws.proofs.Search.{place-here, place-later}
+use Rattle.query.specs.Query.{Query, Record}
 use Rattle.rules.specs.Sizes.{maxRecords, maxList}
-use Rattle.rules.specs.Table.{Table, has, putIn, Write, insert, delete, target, isFull, outside, effect, noRoom, changes}
+use Rattle.rules.specs.Table.{Table, listOf, has, insert, delete, isFull, outside, effect, noRoom, changes}
+use Rattle.records.proofs.Writes.{length-put, effect-there, effect-full, effect-put}
+use Rattle.records.proofs.Sets.{two-parts}
 use Rattle.table.specs.declared.Inserted.the-variants.{Added, Present, Full}
 use Rattle.table.specs.declared.Spot.the-variants.{There, At}
-use Rattle.table.specs.Table.{OfWidth, gathered, spotOf, insertedAs, isAdded, hadNoRoom, gone}
-
--- ---- tests
-pub by-test : (P : Type 0) (b : Bool) → (b ≡ true → P) → (b ≡ false → P) → P
-by-test P true f g = f refl
-by-test P false f g = g refl
+use Rattle.table.specs.Table.{gathered, spotOf, insertedAs, isAdded, hadNoRoom, gone}
 
 -- ---- what is in a table
 pub has-append : (r : Record) (a b : Table) → has r (a ++ b) ≡ has r a || has r b
@@ -62,70 +59,6 @@ module _ {A : Type 0} (p : A → Bool) where
       go false e r =
           let q : place p (x ∷ a) ≡ suc (place p a) = place-later p x a e in
           place-later p x (a ++ b) e ∙ ap suc (r (omega arith)) ∙ sym (suc-add (length a) (place p b))
-
--- "a record goes in before the first greater one"
-pub insert-places : (r : Record) (t : Table) → putIn r t ≡ take (place (before r) t) t ++ (r ∷ drop (place (before r) t) t)
-unfolding putIn place
-insert-places r [] = refl
-insert-places r (s ∷ t) = go (before r s) (insert-places r t)
-  where
-    go : (c : Bool) → putIn r t ≡ take (place (before r) t) t ++ (r ∷ drop (place (before r) t) t)
-        → cond c (r ∷ s ∷ t) (s ∷ putIn r t) ≡ take (cond c 0 (suc (place (before r) t))) (s ∷ t) ++ (r ∷ drop (cond c 0 (suc (place (before r) t))) (s ∷ t))
-    go true e = refl
-    go false e = ap (λ (l : Table). s ∷ l) e
-
-pub length-put : (r : Record) (t : Table) → length (putIn r t) ≡ suc (length t)
-length-put r t =
-    let h : place (before r) t ≤ length t = place-le (before r) t in
-    rw (insert-places r t) (simp (length-append, length-take, length-drop) (omega arith))
-
-pub wide-put : (k : ℕ) (r : Record) (t : Table) → length r ≡ k → Wide k t → Wide k (putIn r t)
-wide-put k r t h w = rw (insert-places r t) (wide-insert k (place (before r) t) t r w h)
-
--- ---- what a write leaves
-module _ (r : Record) (t : Table) where
-  pub effect-there : has r t ≡ true → effect (insert r) t ≡ t
-  unfolding effect
-  effect-there e = rw e
-
-  pub effect-full : maxRecords ≤ length t → effect (insert r) t ≡ t
-  unfolding effect
-  effect-full h = rw (le-leb maxRecords (length t) h, or-true (has r t))
-
-  pub effect-put : has r t ≡ false → length t < maxRecords → effect (insert r) t ≡ putIn r t
-  unfolding effect
-  effect-put e h = rw (e, lt-leb maxRecords (length t) h)
-
-  -- an insert leaves the table, or puts the record in
-  pub effect-cases : (P : Table → Type 0) → P t → (has r t ≡ false → length t < maxRecords → P (putIn r t)) → P (effect (insert r) t)
-  effect-cases P x f =
-      by-test (P (effect (insert r) t)) (has r t) (λ e. rw (effect-there e) x)
-      (λ e. by-test (P (effect (insert r) t)) (leb maxRecords (length t)) (λ g. rw (effect-full (leb-true maxRecords (length t) g)) x)
-      (λ g. let h : length t < maxRecords = leb-false maxRecords (length t) g in rw (effect-put e h) (f e h)))
-
-pub effect-delete : (q : Query) (t : Table) → effect (delete q) t ≡ keep (outside q) t
-unfolding effect
-effect-delete q t = refl
-
--- its records keep their width, and there are at most 2,048
-pub effect-wide : (k : ℕ) (w : Write) (t : Table) → OfWidth k w → Wide k t → Wide k (effect w t)
-effect-wide k (insert r) t h w = effect-cases r t (Wide k) w (λ e g. wide-put k r t h w)
-effect-wide k (delete q) t h w = rw (effect-delete q t) (wide-keep k (outside q) t w)
-
-length-naming : (r : Record) → length (naming r) ≡ length r
-unfolding naming
-length-naming [] = refl
-length-naming (x ∷ r) = ap suc (length-naming r)
-
--- a write's query has as many columns
-pub of-width : (k : ℕ) (w : Write) → length (target w) ≡ k → OfWidth k w
-unfolding target
-of-width k (insert r) h = sym (length-naming r) ∙ h
-of-width k (delete q) h = tt
-
-pub effect-few : (w : Write) (t : Table) → length t ≤ maxRecords → length (effect w t) ≤ maxRecords
-effect-few (insert r) t h = effect-cases r t (λ (u : Table). length u ≤ maxRecords) h (λ e g. rw (length-put r t) g)
-effect-few (delete q) t h = let g = keep-le (outside q) t in rw (effect-delete q t) (omega arith)
 
 -- ---- what is reported
 pub spot-there : (r : Record) (t : Table) → spotOf r t ≡ There → has r t ≡ true
@@ -169,9 +102,9 @@ module _ (r : Record) (t : Table) where
   pub added-changes : changes (insert r) t ≡ isAdded (insertedAs r t)
   unfolding changes
   added-changes =
-      by-test _ (has r t)
+      byTest (has r t)
       (λ e. rw (effect-there r t e, as-present e, eq-eqb (length t) (length t) refl))
-      (λ e. by-test _ (leb maxRecords (length t))
+      (λ e. byTest (leb maxRecords (length t))
       (λ g. let h : maxRecords ≤ length t = leb-true maxRecords (length t) g in
       rw (effect-full r t h, as-full e h, eq-eqb (length t) (length t) refl))
       (λ g. let h : length t < maxRecords = leb-false maxRecords (length t) g in
@@ -193,12 +126,17 @@ module _ (q : Query) (t : Table) where
   unfolding gone effect
   gone-is = refl
 
+  -- as many records go as lie in the query's subspace
+  pub gone-listed : gone q t ≡ length (listOf q t)
+  unfolding listOf
+  gone-listed = gone-is ∙ (let e = two-parts q t in omega arith)
+
   -- a delete changed the table exactly if some record went
   pub gone-changes : changes (delete q) t ≡ not (eqb (gone q t) 0)
   unfolding changes gone effect
   gone-changes =
       let h : length (keep (outside q) t) ≤ length t = keep-le (outside q) t in
-      by-test _ (eqb (length (keep (outside q) t)) (length t))
+      byTest (eqb (length (keep (outside q) t)) (length t))
       (λ e. let d : length (keep (outside q) t) ≡ length t = eqb-true _ _ e in
       rw (e, eq-eqb (length t - length (keep (outside q) t)) 0 (omega arith)))
       (λ e. let d : length (keep (outside q) t) ≡ length t → ⊥ = eqb-false _ _ e in
@@ -220,7 +158,7 @@ module _ (l : List Record) where
 
   pub gathered-long : ltb maxList (gathered l) ≡ ltb maxList (length l)
   gathered-long =
-      by-test _ (leb (length l) maxList)
+      byTest (leb (length l) maxList)
       (λ e. ap (ltb maxList) (gathered-few (leb-true (length l) maxList e)))
       (λ e. let h : maxList < length l = leb-false (length l) maxList e in
       ap (ltb maxList) (gathered-many h) ∙ sym (lt-ltb maxList (length l) h))

@@ -1,15 +1,14 @@
 -- What the functions over the table memory ask of it, and what they report. What is listed and what a write leaves are the rules'
 -- definitions. Leans on rules and lists. Definitions only. Assumes nothing.
-use mathlib.Core.Path.{_≡_}
 use mathlib.Core.Bool.{Bool, true, false, cond}
-use mathlib.Core.List.{List, [], _∷_}
+use mathlib.Core.List.{List}
 use Prim.Native.Nat.{ℕ, _-_, _≤_, suc}
 use lib.Dec.{leb}
 use lib.ListN.{length, getD}
 use Rattle.lists.specs.Lists.{before, place}
 use Rattle.query.specs.Query.{Query, Record}
 use Rattle.rules.specs.Sizes.{maxRecords, maxList, tableLeast}
-use Rattle.rules.specs.Table.{Table, Write, insert, delete, has, effect}
+use Rattle.rules.specs.Table.{Table, delete, has, effect}
 use Rattle.table.specs.declared.Inserted.{Inserted}
 use Rattle.table.specs.declared.Inserted.the-variants.{Added, Present, Full}
 use Rattle.table.specs.declared.Spot.{Spot}
@@ -20,11 +19,6 @@ pub record Fit (k : ℕ) (s : List ℕ) : Type 0 where
   pub columns : (1 ≤ k) × (k ≤ 4)
   pub long : tableLeast ≤ length s
   pub few : getD s 0 0 ≤ maxRecords
-
--- a write of k columns: an insert's record has k numbers
-abbrev pub OfWidth : ℕ → Write → Type 0
-OfWidth k (insert r) = length r ≡ k
-OfWidth k (delete q) = Unit {0}
 
 -- how many records a list has, or one more than the most that a read lists
 unfoldable pub gathered : List Record → ℕ
@@ -52,18 +46,3 @@ hadNoRoom Full = true
 -- how many records a delete takes out
 unfoldable pub gone : Query → Table → ℕ
 gone q t = length t - length (effect (delete q) t)
-
--- ---- "ascending by first column, then second, and so on; no record twice"
--- r is before the first of t
-unfoldable pub Follows : Record → Table → Type 0
-Follows r [] = Unit {0}
-Follows r (s ∷ t) = before r s ≡ true
-
--- each record is before the next
-unfoldable pub Ascending : Table → Type 0
-Ascending [] = Unit {0}
-Ascending (r ∷ t) = Follows r t × Ascending t
-
-unfoldable pub Distinct : Table → Type 0
-Distinct [] = Unit {0}
-Distinct (r ∷ t) = (has r t ≡ false) × Distinct t

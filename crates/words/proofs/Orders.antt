@@ -1,7 +1,7 @@
 -- Laws of the comparisons: a turn of each loop and its end, and what `orderOf` tells of `same` and `before`. Leans on the library's
 -- lists and tests. Assumes nothing.
 use mathlib.Core.Path.{_≡_, refl, sym, ap, _∙_}
-use mathlib.Core.Bool.{Bool, true, false, _&&_, true≢false}
+use mathlib.Core.Bool.{Bool, true, false, true≢false, and-false}
 use mathlib.Core.List.{List, [], _∷_}
 use mathlib.Core.Logic.{_⊎_, inl, inr, ⊎-elim}
 use Prim.Native.Nat.{ℕ, suc, _+_, _-_, _≤_, _<_}
@@ -16,10 +16,6 @@ use Rattle.words.specs.declared.Order.{Order}
 use Rattle.words.specs.declared.Order.the-variants.{Before, Same, After}
 use Rattle.words.specs.Words.{orderOf, isBefore, isSame, isAfter}
 use Rattle.lists.specs.Lists.{before}
-
-and-false : (p : Bool) → p && false ≡ false
-and-false true = refl
-and-false false = refl
 
 -- ---- the loops
 -- both lists stand at i

@@ -1,9 +1,9 @@
 -- `checks::abandon_code` meets its contract: the lengths, what is found at the client, and its table step. Assumes nothing.
 use mathlib.Core.Path.{sym, _∙_}
 use native.Mathlib.Omega.{arith}
-use Rattle.hall.proofs.Laws.{long}
 use Rattle.checks.proofs.Codes.{abandon-short, abandon-found, abandon-committed, abandon-fine}
-use Rattle.checks.proofs.Sound.{busy-told, columns-range, client-fit}
+use Rattle.rules.proofs.Passed.{long, busy-told}
+use Rattle.checks.proofs.Sound.{columns-range, client-fit}
 use borrow.Author.Needs.{needs}
 use Rattle.checks.proofs.abandon_code.Statement.{statement}
 use Rattle.checks.proofs.abandon_code.Tie as tie

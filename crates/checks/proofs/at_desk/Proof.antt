@@ -1,10 +1,9 @@
 -- `checks::at_desk` meets its contract: one law for each way out. Assumes nothing.
 use mathlib.Core.Path.{sym, _∙_}
 use native.Mathlib.Omega.{arith}
-use Rattle.hall.proofs.Laws.{long}
 use Rattle.checks.proofs.Codes.{desk-unsound, desk-none, desk-bad, desk-idle, desk-busy}
-use Rattle.checks.proofs.Sound.{sound, columns-range, client-fit}
-use borrow.Author.Needs.{needs}
+use Rattle.rules.proofs.Passed.{long, sound}
+use Rattle.checks.proofs.Sound.{columns-range, client-fit}
 use Rattle.checks.proofs.at_desk.Statement.{statement}
 use Rattle.checks.proofs.at_desk.Tie as tie
 

@@ -1,9 +1,9 @@
 -- `checks::begin_code` meets its contract: one law for each way out. Assumes nothing.
 use mathlib.Core.Path.{sym, _∙_}
 use native.Mathlib.Omega.{arith}
-use Rattle.hall.proofs.Laws.{long}
 use Rattle.checks.proofs.Codes.{begin-short, begin-query, begin-busy, begin-other, begin-read, begin-worn, begin-write}
-use Rattle.checks.proofs.Sound.{idle-told, nodes-fit}
+use Rattle.rules.proofs.Passed.{long, idle-told}
+use Rattle.checks.proofs.Sound.{nodes-fit}
 use borrow.Author.Needs.{needs}
 use Rattle.checks.proofs.begin_code.Statement.{statement}
 use Rattle.checks.proofs.begin_code.Tie as tie

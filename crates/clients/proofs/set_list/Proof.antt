@@ -1,7 +1,7 @@
 -- `clients::set_list` meets its contract: a step counted, the length stored, and what is behind the list cleared. Assumes nothing.
 use Prim.Native.Nat.{_*_, _≤_}
 use native.Mathlib.Omega.{arith}
-use Rattle.clients.proofs.Reading.{list-room}
+use Rattle.rules.proofs.Clients.{list-room}
 use Rattle.clients.proofs.Changes.{list-left}
 use borrow.Author.Needs.{needs}
 use Rattle.clients.proofs.set_list.Statement.{statement}

@@ -1,7 +1,7 @@
 -- `reading::table_step` meets its contract: too long, kept for the file step, or given at once. Assumes nothing.
 use native.Mathlib.Omega.{arith}
 use lib.ListN.{length-take}
-use Rattle.clients.proofs.Reading.{list-room}
+use Rattle.rules.proofs.Clients.{list-room}
 use Rattle.reading.proofs.Base.{made-small}
 use Rattle.reading.proofs.Listing.{steps-kept, table-long, table-held, table-given}
 use borrow.Author.Needs.{needs}

@@ -1,7 +1,8 @@
 -- `requests::begin` meets its contract: a refusal, or the client with its kind and its key. Assumes nothing.
 use mathlib.Core.Path.{sym, _∙_}
 use Rattle.rules.specs.Calls.{beginDid}
-use Rattle.checks.proofs.Sound.{client-fit, begin-told}
+use Rattle.rules.proofs.Passed.{begin-told}
+use Rattle.checks.proofs.Sound.{client-fit}
 use Rattle.requests.proofs.Laws.{asked-short, refused, begins}
 use borrow.Author.Needs.{needs}
 use Rattle.requests.proofs.begin.Statement.{statement}

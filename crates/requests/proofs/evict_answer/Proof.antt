@@ -1,7 +1,8 @@
 -- `requests::evict_answer` meets its contract: a refusal, or the filed answer at the place taken out. Assumes nothing.
 use mathlib.Core.Path.{sym, _∙_}
 use Rattle.rules.specs.Calls.{evictAnswerDid}
-use Rattle.checks.proofs.Sound.{answers-fit, evict-answer-told}
+use Rattle.rules.proofs.Passed.{evict-answer-told}
+use Rattle.checks.proofs.Sound.{answers-fit}
 use Rattle.requests.proofs.Laws.{refused, answer-goes}
 use borrow.Author.Needs.{needs}
 use Rattle.requests.proofs.evict_answer.Statement.{statement}

@@ -1,7 +1,8 @@
 -- `requests::evict_node` meets its contract: a refusal, or the node at the place taken out. Assumes nothing.
 use mathlib.Core.Path.{sym, _∙_}
 use Rattle.rules.specs.Calls.{evictNodeDid}
-use Rattle.checks.proofs.Sound.{nodes-fit, evict-node-told}
+use Rattle.rules.proofs.Passed.{evict-node-told}
+use Rattle.checks.proofs.Sound.{nodes-fit}
 use Rattle.requests.proofs.Laws.{refused, node-goes}
 use borrow.Author.Needs.{needs}
 use Rattle.requests.proofs.evict_node.Statement.{statement}

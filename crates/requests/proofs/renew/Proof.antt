@@ -1,7 +1,8 @@
 -- `requests::renew` meets its contract: a refusal, or no nodes and no answers. Assumes nothing.
 use mathlib.Core.Path.{sym, _∙_}
 use Rattle.rules.specs.Calls.{renewDid}
-use Rattle.checks.proofs.Sound.{nodes-fit, answers-fit, renew-told}
+use Rattle.rules.proofs.Passed.{renew-told}
+use Rattle.checks.proofs.Sound.{nodes-fit, answers-fit}
 use Rattle.requests.proofs.Laws.{refused, renews}
 use borrow.Author.Needs.{needs}
 use Rattle.requests.proofs.renew.Statement.{statement}
