@@ -1,0 +1,52 @@
+-- `model::records::list` is safe and ends. The loop keeps the array's length. Assumes nothing.
+use Prim.Native.Nat.{_≤_, _-_}
+use mathlib.Core.Path.{_≡_}
+use lib.ListN.{length}
+use borrow.Author.Needs.{needs}
+use Rattle.model.proofs.records.list.Statement.{statement}
+use Rattle.model.proofs.records.list.Tie as tie
+
+abbrev Inv-loop : tie.InvT-loop
+Inv-loop m₀ d to n found₀ i₀ m found i = (i ≤ n) × (length m ≡ length m₀)
+
+abbrev μ-loop : tie.MeasureT-loop
+μ-loop m₀ d to n found₀ i₀ m found i = n - i
+
+records-in-requires : tie.Need-records-in-requires Inv-loop μ-loop
+records-in-requires c κs = search needs
+
+loop-holds : tie.Need-loop-holds Inv-loop μ-loop
+loop-holds c = search needs
+
+find-requires : tie.Need-find-requires Inv-loop μ-loop
+find-requires c κs = search needs
+
+add-i : tie.Need-add-i Inv-loop μ-loop
+add-i c = search needs
+
+loop-less : tie.Need-loop-less Inv-loop μ-loop
+loop-less c = search needs
+
+loop-again : tie.Need-loop-again Inv-loop μ-loop
+loop-again c = search needs
+
+same-length : tie.Need-same-length Inv-loop μ-loop
+same-length c = search needs
+
+returns : tie.Need-returns Inv-loop μ-loop
+returns c = search needs
+
+pub list-spec : {M : Type 1} → statement M
+list-spec =
+    tie.close
+    (tie.spec
+    Inv-loop
+    μ-loop
+    records-in-requires
+    loop-holds
+    find-requires
+    add-i
+    loop-less
+    loop-again
+    same-length
+    returns)
