@@ -1,0 +1,38 @@
+-- `exports::mondzafeky_begin_insert` meets its contract. Assumes nothing.
+use Rattle.exports.proofs.Laws.{sends}
+use borrow.Author.Needs.{needs}
+use Rattle.exports.proofs.mondzafeky_begin_insert.Statement.{statement}
+use Rattle.exports.proofs.mondzafeky_begin_insert.Tie as tie
+
+begin-insert-requires : tie.Need-begin-insert-requires
+begin-insert-requires c κs = search needs
+
+reply-of-requires : tie.Need-reply-of-requires
+reply-of-requires c κs = search needs
+
+same-length : tie.Need-same-length
+same-length c = search needs
+
+same-length-2 : tie.Need-same-length-2
+same-length-2 c = search needs
+
+same-length-3 : tie.Need-same-length-3
+same-length-3 c = search needs
+
+same-length-4 : tie.Need-same-length-4
+same-length-4 c = search needs
+
+returns : tie.Need-returns
+returns c = sends _ _ _ _ (c .reply-of .ensures) (c .before .before .before .before .before .before .before .before .before .begin-insert .ensures)
+
+pub mondzafeky-begin-insert-spec : {M : Type 1} → statement M
+mondzafeky-begin-insert-spec =
+    tie.close
+    (tie.spec
+    begin-insert-requires
+    reply-of-requires
+    same-length
+    same-length-2
+    same-length-3
+    same-length-4
+    returns)

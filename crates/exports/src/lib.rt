@@ -1,0 +1,192 @@
+// The calls for programs in C and Rust: each of the nine public calls over plain slices and numbers, under a name of its own. Nothing is decided
+// here: an export makes one call of the library and turns its outcome into three numbers. Leans on hall, requests and steps; specs/Reply.antt
+// says what is sent back.
+use rules::Outcome;
+ghost use mathlib.Core.Path.{_≡_};
+ghost use Rattle.rules.specs.Memory.{mem};
+ghost use Rattle.rules.specs.Calls.{openDid, beginDid, stepDid, abandonDid, evictAnswerDid, evictNodeDid, renewDid};
+ghost use Rattle.exports.specs.Reply.{replied, replyOf, sent, sentBy, sentWith, sentByStep};
+
+// What a caller in another language gets. Its memories hold the rest.
+#[repr(C)]
+pub struct Reply {
+    // 0 accepted, 1 to 11 refused, 12 long, 13 full.
+    pub number: u32,
+    // How many records lie in the tray.
+    pub count: u32,
+    // 0 nothing ended, or the number says it; 1 answered from file, 2 from the table; 3 a write ended and changed the table, 4 it did not.
+    pub ending: u32,
+}
+
+// A reply of three numbers.
+fn three(number: u32, count: u32, ending: u32) -> Reply
+    ensures { λ r. ⌜ r ≡ replied number count ending ⌝ }
+{
+    Reply {
+        number: number,
+        count: count,
+        ending: ending,
+    }
+}
+
+// The three numbers of an outcome.
+fn reply_of(out: Outcome) -> Reply
+    ensures { λ r. ⌜ r ≡ replyOf out ⌝ }
+{
+    match out {
+        Outcome::Refused(n) => three(n, 0, 0),
+        Outcome::Accepted => three(0, 0, 0),
+        Outcome::Answered { count, cached } => {
+            if cached {
+                return three(0, count, 1);
+            }
+            three(0, count, 2)
+        }
+        Outcome::Long => three(12, 0, 0),
+        Outcome::Ended { changed } => {
+            if changed {
+                return three(0, 0, 3);
+            }
+            three(0, 0, 4)
+        }
+        Outcome::Full => three(13, 0, 0),
+    }
+}
+
+// Opens a hall of k columns: no records, no nodes, no answers, every desk idle.
+#[no_mangle]
+pub extern "C" fn mondzafeky_open(
+    table: &mut [u32],
+    nodes: &mut [u32],
+    answers: &mut [u32],
+    desks: &mut [u32],
+    k: u32,
+) -> Reply
+    ensures { λ r. ⌜ sent r (mem (now (table .exit)) (now (nodes .exit)) (now (answers .exit)) (now (desks .exit))) ≡ sentBy (openDid (mem (now (table .entry)) (now (nodes .entry)) (now (answers .entry)) (now (desks .entry))) k) ⌝ }
+{
+    let out = hall::Hall::open(table, nodes, answers, desks, k);
+    reply_of(out)
+}
+
+// Begins a read.
+#[no_mangle]
+pub extern "C" fn mondzafeky_begin_read(
+    table: &mut [u32],
+    nodes: &mut [u32],
+    answers: &mut [u32],
+    desks: &mut [u32],
+    desk: u32,
+    query: &[u32],
+) -> Reply
+    ensures { λ r. ⌜ sent r (mem (now (table .exit)) (now (nodes .exit)) (now (answers .exit)) (now (desks .exit))) ≡ sentBy (beginDid (mem (now (table .entry)) (now (nodes .entry)) (now (answers .entry)) (now (desks .entry))) 1 desk (now (query .entry))) ⌝ }
+{
+    let out = requests::begin_read(table, nodes, answers, desks, desk, query);
+    reply_of(out)
+}
+
+// Begins an insert of a record.
+#[no_mangle]
+pub extern "C" fn mondzafeky_begin_insert(
+    table: &mut [u32],
+    nodes: &mut [u32],
+    answers: &mut [u32],
+    desks: &mut [u32],
+    desk: u32,
+    query: &[u32],
+) -> Reply
+    ensures { λ r. ⌜ sent r (mem (now (table .exit)) (now (nodes .exit)) (now (answers .exit)) (now (desks .exit))) ≡ sentBy (beginDid (mem (now (table .entry)) (now (nodes .entry)) (now (answers .entry)) (now (desks .entry))) 2 desk (now (query .entry))) ⌝ }
+{
+    let out = requests::begin_insert(table, nodes, answers, desks, desk, query);
+    reply_of(out)
+}
+
+// Begins a delete of every record in the query's subspace.
+#[no_mangle]
+pub extern "C" fn mondzafeky_begin_delete(
+    table: &mut [u32],
+    nodes: &mut [u32],
+    answers: &mut [u32],
+    desks: &mut [u32],
+    desk: u32,
+    query: &[u32],
+) -> Reply
+    ensures { λ r. ⌜ sent r (mem (now (table .exit)) (now (nodes .exit)) (now (answers .exit)) (now (desks .exit))) ≡ sentBy (beginDid (mem (now (table .entry)) (now (nodes .entry)) (now (answers .entry)) (now (desks .entry))) 3 desk (now (query .entry))) ⌝ }
+{
+    let out = requests::begin_delete(table, nodes, answers, desks, desk, query);
+    reply_of(out)
+}
+
+// One step of what is under way at the desk.
+#[no_mangle]
+pub extern "C" fn mondzafeky_step(
+    table: &mut [u32],
+    nodes: &mut [u32],
+    answers: &mut [u32],
+    desks: &mut [u32],
+    tray: &mut [u32],
+    desk: u32,
+) -> Reply
+    ensures { λ r. ⌜ sentWith r (mem (now (table .exit)) (now (nodes .exit)) (now (answers .exit)) (now (desks .exit))) (now (tray .exit)) ≡ sentByStep (stepDid (mem (now (table .entry)) (now (nodes .entry)) (now (answers .entry)) (now (desks .entry))) (now (tray .entry)) desk) ⌝ }
+{
+    let out = steps::step(table, nodes, answers, desks, tray, desk);
+    reply_of(out)
+}
+
+// Gives up a read, or a write that has not reached the table.
+#[no_mangle]
+pub extern "C" fn mondzafeky_abandon(
+    table: &mut [u32],
+    nodes: &mut [u32],
+    answers: &mut [u32],
+    desks: &mut [u32],
+    desk: u32,
+) -> Reply
+    ensures { λ r. ⌜ sent r (mem (now (table .exit)) (now (nodes .exit)) (now (answers .exit)) (now (desks .exit))) ≡ sentBy (abandonDid (mem (now (table .entry)) (now (nodes .entry)) (now (answers .entry)) (now (desks .entry))) desk) ⌝ }
+{
+    let out = steps::abandon(table, nodes, answers, desks, desk);
+    reply_of(out)
+}
+
+// Puts out the filed answer at a place, 0 the oldest.
+#[no_mangle]
+pub extern "C" fn mondzafeky_evict_answer(
+    table: &mut [u32],
+    nodes: &mut [u32],
+    answers: &mut [u32],
+    desks: &mut [u32],
+    place: u32,
+) -> Reply
+    ensures { λ r. ⌜ sent r (mem (now (table .exit)) (now (nodes .exit)) (now (answers .exit)) (now (desks .exit))) ≡ sentBy (evictAnswerDid (mem (now (table .entry)) (now (nodes .entry)) (now (answers .entry)) (now (desks .entry))) place) ⌝ }
+{
+    let out = requests::evict_answer(table, nodes, answers, desks, place);
+    reply_of(out)
+}
+
+// Puts out the node at a place, which has no pending write.
+#[no_mangle]
+pub extern "C" fn mondzafeky_evict_node(
+    table: &mut [u32],
+    nodes: &mut [u32],
+    answers: &mut [u32],
+    desks: &mut [u32],
+    place: u32,
+) -> Reply
+    ensures { λ r. ⌜ sent r (mem (now (table .exit)) (now (nodes .exit)) (now (answers .exit)) (now (desks .exit))) ≡ sentBy (evictNodeDid (mem (now (table .entry)) (now (nodes .entry)) (now (answers .entry)) (now (desks .entry))) place) ⌝ }
+{
+    let out = requests::evict_node(table, nodes, answers, desks, place);
+    reply_of(out)
+}
+
+// With every desk idle: empties answers and nodes; the table stays.
+#[no_mangle]
+pub extern "C" fn mondzafeky_renew(
+    table: &mut [u32],
+    nodes: &mut [u32],
+    answers: &mut [u32],
+    desks: &mut [u32],
+) -> Reply
+    ensures { λ r. ⌜ sent r (mem (now (table .exit)) (now (nodes .exit)) (now (answers .exit)) (now (desks .exit))) ≡ sentBy (renewDid (mem (now (table .entry)) (now (nodes .entry)) (now (answers .entry)) (now (desks .entry)))) ⌝ }
+{
+    let out = requests::renew(table, nodes, answers, desks);
+    reply_of(out)
+}

@@ -1,0 +1,34 @@
+-- `mixings::stretch` is safe and ends. Measure: the calls that are left. Assumes nothing.
+use Prim.Native.Nat.{_-_, _≤_}
+use lib.ListN.{length}
+use mathlib.Core.Path.{_≡_}
+use borrow.Author.Needs.{needs}
+use Rattle.mixings.proofs.stretch.Statement.{statement}
+use Rattle.mixings.proofs.stretch.Tie as tie
+
+abbrev Inv-loop : tie.InvT-loop
+Inv-loop w₀ m₀ s₀ round k i₀ w m s i = (i ≤ 256) × ((length w ≡ length w₀) × ((length m ≡ length m₀) × (length s ≡ length s₀)))
+
+abbrev μ-loop : tie.MeasureT-loop
+μ-loop w₀ m₀ s₀ round k i₀ w m s i = 256 - i
+
+pub stretch-spec : {M : Type 1} → statement M
+stretch-spec =
+    tie.close
+    (tie.spec
+    Inv-loop
+    μ-loop
+    (λ c. search needs)
+    (λ c κs. search needs)
+    (λ c κs. search needs)
+    (λ c. search needs)
+    (λ c. search needs)
+    (λ c. search needs)
+    (λ c. search needs)
+    (λ c. search needs)
+    (λ c. search needs)
+    (λ c. search needs)
+    (λ c. search needs)
+    (λ c. search needs)
+    (λ c. search needs)
+    (λ c. search needs))

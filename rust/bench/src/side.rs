@@ -1,0 +1,176 @@
+//! The two sides that are timed, the library and its twin, and what they are made to do. Leans on mondzafeky, the twin and hall.
+
+use crate::hall::Hall;
+
+/// A query as a begin is given it: a mark and a value for each column.
+#[derive(Clone, Copy, PartialEq, Eq, Debug)]
+pub struct Asked {
+    words: [u32; 8],
+    len: usize,
+}
+
+impl Asked {
+    /// One column for each value; none is a star.
+    pub fn new(columns: &[Option<u32>]) -> Asked {
+        let mut asked = Asked { words: [0; 8], len: 2 * columns.len() };
+        for (column, pair) in columns.iter().zip(asked.words.chunks_mut(2)) {
+            pair.copy_from_slice(&column.map_or([0, 0], |value| [1, value]));
+        }
+        asked
+    }
+
+    pub fn words(&self) -> &[u32] {
+        &self.words[..self.len]
+    }
+
+    /// The named values and the stars, as they came.
+    pub fn columns(&self) -> impl Iterator<Item = Option<u32>> + '_ {
+        self.words().chunks(2).map(|pair| (pair[0] == 1).then_some(pair[1]))
+    }
+}
+
+#[derive(Clone, Copy, PartialEq, Eq, Debug)]
+pub enum Kind {
+    Read,
+    Insert,
+    Delete,
+}
+
+/// What is timed: one call, or a whole read or write from its begin to its end.
+#[derive(Clone, Copy, Debug)]
+pub enum Act {
+    /// no call: what the timing itself costs
+    Nothing,
+    Open(u32),
+    Begin(Kind, u32, Asked),
+    Step(u32),
+    Abandon(u32),
+    EvictAnswer(u32),
+    EvictNode(u32),
+    Renew,
+    Whole(Kind, u32, Asked),
+}
+
+/// The paper's number, how many records were answered, and what ended.
+#[derive(Clone, Copy, PartialEq, Eq, Debug)]
+pub struct Reply {
+    pub number: u32,
+    pub count: u32,
+    pub ending: u32,
+}
+
+pub const ACCEPTED: Reply = Reply { number: 0, count: 0, ending: 0 };
+
+pub trait Side {
+    fn open(h: &mut Hall, k: u32) -> Reply;
+    fn begin(h: &mut Hall, kind: Kind, desk: u32, query: &[u32]) -> Reply;
+    fn step(h: &mut Hall, desk: u32) -> Reply;
+    fn abandon(h: &mut Hall, desk: u32) -> Reply;
+    fn evict_answer(h: &mut Hall, place: u32) -> Reply;
+    fn evict_node(h: &mut Hall, place: u32) -> Reply;
+    fn renew(h: &mut Hall) -> Reply;
+}
+
+pub struct Library;
+pub struct Twin;
+
+/// Both sides offer the same calls on types of their own.
+macro_rules! side {
+    ($side:ident, $memories:ty) => {
+        impl Side for $side {
+            #[inline(always)]
+            fn open(h: &mut Hall, k: u32) -> Reply {
+                side!(h, $memories, m, m.open(k))
+            }
+            #[inline(always)]
+            fn begin(h: &mut Hall, kind: Kind, desk: u32, query: &[u32]) -> Reply {
+                match kind {
+                    Kind::Read => side!(h, $memories, m, m.begin_read(desk, query)),
+                    Kind::Insert => side!(h, $memories, m, m.begin_insert(desk, query)),
+                    Kind::Delete => side!(h, $memories, m, m.begin_delete(desk, query)),
+                }
+            }
+            #[inline(always)]
+            fn step(h: &mut Hall, desk: u32) -> Reply {
+                let tray = &mut h.tray;
+                let r = <$memories>::step(
+                    &mut Lend { table: &mut h.table, nodes: &mut h.nodes, answers: &mut h.answers, desks: &mut h.desks }.into(),
+                    tray,
+                    desk,
+                );
+                Reply { number: r.number, count: r.count, ending: r.ending }
+            }
+            #[inline(always)]
+            fn abandon(h: &mut Hall, desk: u32) -> Reply {
+                side!(h, $memories, m, m.abandon(desk))
+            }
+            #[inline(always)]
+            fn evict_answer(h: &mut Hall, place: u32) -> Reply {
+                side!(h, $memories, m, m.evict_answer(place))
+            }
+            #[inline(always)]
+            fn evict_node(h: &mut Hall, place: u32) -> Reply {
+                side!(h, $memories, m, m.evict_node(place))
+            }
+            #[inline(always)]
+            fn renew(h: &mut Hall) -> Reply {
+                side!(h, $memories, m, m.renew())
+            }
+        }
+    };
+    ($h:ident, $memories:ty, $m:ident, $call:expr) => {{
+        let mut $m: $memories = Lend { table: &mut $h.table, nodes: &mut $h.nodes, answers: &mut $h.answers, desks: &mut $h.desks }.into();
+        let r = $call;
+        Reply { number: r.number, count: r.count, ending: r.ending }
+    }};
+}
+
+/// The four memories, to be turned into a side's own type.
+struct Lend<'a> {
+    table: &'a mut [u32],
+    nodes: &'a mut [u32],
+    answers: &'a mut [u32],
+    desks: &'a mut [u32],
+}
+
+impl<'a> From<Lend<'a>> for mondzafeky::Memories<'a> {
+    #[inline(always)]
+    fn from(m: Lend<'a>) -> Self {
+        mondzafeky::Memories { table: m.table, nodes: m.nodes, answers: m.answers, desks: m.desks }
+    }
+}
+
+impl<'a> From<Lend<'a>> for twin::Memories<'a> {
+    #[inline(always)]
+    fn from(m: Lend<'a>) -> Self {
+        twin::Memories { table: m.table, nodes: m.nodes, answers: m.answers, desks: m.desks }
+    }
+}
+
+side!(Library, mondzafeky::Memories<'_>);
+side!(Twin, twin::Memories<'_>);
+
+/// Makes the call. Never inlined, so that both sides are entered alike.
+#[inline(never)]
+pub fn perform<S: Side>(h: &mut Hall, act: &Act) -> Reply {
+    match act {
+        Act::Nothing => ACCEPTED,
+        Act::Open(k) => S::open(h, *k),
+        Act::Begin(kind, desk, asked) => S::begin(h, *kind, *desk, asked.words()),
+        Act::Step(desk) => S::step(h, *desk),
+        Act::Abandon(desk) => S::abandon(h, *desk),
+        Act::EvictAnswer(place) => S::evict_answer(h, *place),
+        Act::EvictNode(place) => S::evict_node(h, *place),
+        Act::Renew => S::renew(h),
+        Act::Whole(kind, desk, asked) => whole::<S>(h, *kind, *desk, asked),
+    }
+}
+
+/// A read or write from its begin to the step that ends it; the last reply.
+fn whole<S: Side>(h: &mut Hall, kind: Kind, desk: u32, asked: &Asked) -> Reply {
+    let mut reply = S::begin(h, kind, desk, asked.words());
+    while reply == ACCEPTED {
+        reply = S::step(h, desk);
+    }
+    reply
+}

@@ -1,0 +1,140 @@
+//! A call with its arguments, so that it can be recorded, replayed and read. Leans on side and hall.
+
+use crate::hall::{Hall, MEMORY_NAMES};
+use crate::side::{Reply, Side};
+use std::fmt;
+
+/// A query as a begin is given it: up to 12 numbers, sound or not.
+#[derive(Clone, Copy, PartialEq, Eq, Debug)]
+pub struct Asked {
+    words: [u32; 12],
+    len: u8,
+}
+
+impl Asked {
+    pub fn new(words: &[u32]) -> Asked {
+        let mut asked = Asked { words: [0; 12], len: words.len() as u8 };
+        asked.words[..words.len()].copy_from_slice(words);
+        asked
+    }
+
+    pub fn words(&self) -> &[u32] {
+        &self.words[..self.len as usize]
+    }
+}
+
+#[derive(Clone, Copy, PartialEq, Eq, Debug)]
+pub enum Call {
+    Open {
+        k: u32,
+    },
+    BeginRead {
+        desk: u32,
+        asked: Asked,
+    },
+    BeginInsert {
+        desk: u32,
+        asked: Asked,
+    },
+    BeginDelete {
+        desk: u32,
+        asked: Asked,
+    },
+    /// the tray is another each time: its length, and the number that its contents are made from
+    Step {
+        desk: u32,
+        tray: u32,
+        fill: u32,
+    },
+    Abandon {
+        desk: u32,
+    },
+    EvictAnswer {
+        place: u32,
+    },
+    EvictNode {
+        place: u32,
+    },
+    Renew,
+    /// no call: somebody else writes one number into a memory
+    Damage {
+        memory: u8,
+        place: u32,
+        value: u32,
+    },
+}
+
+pub const KIND_NAMES: [&str; 9] = ["open", "begin_read", "begin_insert", "begin_delete", "step", "abandon", "evict_answer", "evict_node", "renew"];
+
+impl Call {
+    /// Its place in `KIND_NAMES`; none for damage.
+    pub fn kind(&self) -> Option<usize> {
+        match self {
+            Call::Open { .. } => Some(0),
+            Call::BeginRead { .. } => Some(1),
+            Call::BeginInsert { .. } => Some(2),
+            Call::BeginDelete { .. } => Some(3),
+            Call::Step { .. } => Some(4),
+            Call::Abandon { .. } => Some(5),
+            Call::EvictAnswer { .. } => Some(6),
+            Call::EvictNode { .. } => Some(7),
+            Call::Renew => Some(8),
+            Call::Damage { .. } => None,
+        }
+    }
+
+    /// Makes the call on one side's memories.
+    pub fn make(&self, side: &dyn Side, hall: &mut Hall) -> Reply {
+        if let Call::Step { tray, fill, .. } = self {
+            hall.memories[4] = (0..*tray).map(|i| fill.wrapping_add(i.wrapping_mul(0x9E37_79B1))).collect();
+        }
+        let (m, tray) = hall.lend();
+        match self {
+            Call::Open { k } => side.open(m, *k),
+            Call::BeginRead { desk, asked } => side.begin_read(m, *desk, asked.words()),
+            Call::BeginInsert { desk, asked } => side.begin_insert(m, *desk, asked.words()),
+            Call::BeginDelete { desk, asked } => side.begin_delete(m, *desk, asked.words()),
+            Call::Step { desk, .. } => side.step(m, tray, *desk),
+            Call::Abandon { desk } => side.abandon(m, *desk),
+            Call::EvictAnswer { place } => side.evict_answer(m, *place),
+            Call::EvictNode { place } => side.evict_node(m, *place),
+            Call::Renew => side.renew(m),
+            Call::Damage { memory, place, value } => {
+                hall.memories[*memory as usize][*place as usize] = *value;
+                Reply { number: 0, count: 0, ending: 0 }
+            }
+        }
+    }
+}
+
+impl fmt::Display for Asked {
+    /// As document 01 writes a query, or the bare numbers where it is none.
+    fn fmt(&self, f: &mut fmt::Formatter) -> fmt::Result {
+        let words = self.words();
+        let sound = words.len().is_multiple_of(2) && words.chunks(2).all(|c| c[0] == 1 || c == [0, 0]);
+        if !sound {
+            return write!(f, "{words:?}");
+        }
+        let columns: Vec<String> = words.chunks(2).map(|c| if c[0] == 0 { "*".into() } else { c[1].to_string() }).collect();
+        write!(f, "({})", columns.join(","))
+    }
+}
+
+impl fmt::Display for Call {
+    fn fmt(&self, f: &mut fmt::Formatter) -> fmt::Result {
+        let name = self.kind().map_or("damage", |kind| KIND_NAMES[kind]);
+        match self {
+            Call::Open { k } => write!(f, "{name} k {k}"),
+            Call::BeginRead { desk, asked } | Call::BeginInsert { desk, asked } | Call::BeginDelete { desk, asked } => {
+                write!(f, "{name} desk {desk} {asked}")
+            }
+            Call::Step { desk, tray, .. } if *tray < 128 => write!(f, "{name} desk {desk}, tray of {tray}"),
+            Call::Step { desk, .. } | Call::Abandon { desk } => write!(f, "{name} desk {desk}"),
+            Call::EvictAnswer { place } | Call::EvictNode { place } => write!(f, "{name} place {place}"),
+            Call::Renew => write!(f, "{name}"),
+            Call::Damage { memory, place, value } => {
+                write!(f, "{name} {}[{place}] := {value}", MEMORY_NAMES[*memory as usize])
+            }
+        }
+    }
+}

@@ -1,0 +1,291 @@
+//! Draws the calls of a mixing: twelve desks, begins, steps, evictions, abandonings, renewals, and calls that are turned down.
+//! It looks at the memories to choose what is worth trying; what it chose is recorded with its arguments. Leans on call and hall.
+
+use crate::call::{Asked, Call};
+use crate::hall::Hall;
+use crate::rng::Rng;
+use twin::layout::*;
+
+/// What a mixing is like.
+pub struct Mixing {
+    pub k: u32,
+    /// values are below this; 0: any number
+    values: u32,
+    /// of 16 columns so many name a value
+    named: u32,
+    /// weights of read, insert, delete
+    kinds: [u32; 3],
+    /// writes keep the table near this many records; 0: they do not care
+    band: u32,
+    /// of 1,000 calls
+    evictions: u32,
+    abandonings: u32,
+    odd: u32,
+    /// a desk that runs on alone for so many calls
+    burst: (u32, u32),
+    /// calls until every desk is led to its end; then calls in which that is tried
+    before_drain: u32,
+    draining: u32,
+}
+
+impl Mixing {
+    fn new(k: u32, values: u32, named: u32, kinds: [u32; 3]) -> Mixing {
+        let before_drain = 500;
+        Mixing { k, values, named, kinds, band: 0, evictions: 20, abandonings: 15, odd: 30, burst: (0, 0), before_drain, draining: 0 }
+    }
+
+    /// Few values: reads and writes meet all the time.
+    pub fn tight(rng: &mut Rng) -> Mixing {
+        let k = 1 + rng.below(4);
+        let values = 1 + rng.below(3);
+        let named = 4 + rng.below(12);
+        let kinds = rng.pick(&[[6, 3, 1], [12, 2, 1], [40, 2, 1]]);
+        let mut mixing = Mixing::new(k, values, named, kinds);
+        mixing.evictions = rng.pick(&[0, 10, 60, 200]);
+        mixing.abandonings = rng.pick(&[0, 10, 40]);
+        mixing
+    }
+
+    /// About 32 records, and reads of them all.
+    pub fn short_lists(rng: &mut Rng) -> Mixing {
+        let mut mixing = Mixing::new(1 + rng.below(4), 60, 1, [4, 6, 1]);
+        mixing.band = 33;
+        mixing
+    }
+
+    /// Many different reads: 64 answers and 1,024 nodes are soon there.
+    pub fn wide(rng: &mut Rng) -> Mixing {
+        let mut mixing = Mixing::new(1 + rng.below(4), rng.pick(&[0, 12, 200]), 13, [10, 1, 1]);
+        mixing.before_drain = 4000;
+        mixing.evictions = 3;
+        mixing
+    }
+
+    /// Fills the table to 2,048 records and stays there.
+    pub fn filling(rng: &mut Rng) -> Mixing {
+        let mut mixing = Mixing::new(1 + rng.below(2), 0, 14, [1, 12, 1]);
+        mixing.band = 2048;
+        mixing.before_drain = 30_000;
+        mixing
+    }
+
+    /// Twelve writers on the same nodes.
+    pub fn writers(rng: &mut Rng) -> Mixing {
+        let mut mixing = Mixing::new(1 + rng.below(4), 2, 12, [1, 5, 4]);
+        mixing.abandonings = 5;
+        mixing
+    }
+
+    /// For memories that are there already.
+    pub fn in_hall(rng: &mut Rng, hall: &Hall) -> Mixing {
+        let mut mixing = Mixing::new(hall.columns().clamp(1, 4), rng.pick(&[2, 4, 70]), 2 + rng.below(14), [4, 4, 1]);
+        mixing.band = rng.pick(&[0, 33, 2048]);
+        mixing
+    }
+
+    pub fn next(&mut self, rng: &mut Rng, hall: &Hall) -> Call {
+        if rng.chance(self.odd, 1000) {
+            return odd_call(rng, hall, self.k);
+        }
+        if self.draining > 0 {
+            return self.drain(rng, hall);
+        }
+        self.before_drain -= 1;
+        if self.before_drain == 0 {
+            self.draining = 400;
+        }
+        let roll = rng.below(1000);
+        if roll < self.evictions {
+            return eviction(rng, hall);
+        }
+        if roll < self.evictions + self.abandonings {
+            return Call::Abandon { desk: rng.below(12) };
+        }
+        let desk = self.desk(rng);
+        if hall.kind_at(desk) == IDLE {
+            self.begin(rng, hall, desk)
+        } else {
+            step(rng, desk)
+        }
+    }
+
+    fn desk(&mut self, rng: &mut Rng) -> u32 {
+        if self.burst.1 > 0 {
+            self.burst.1 -= 1;
+        } else {
+            self.burst = (rng.below(12), 0);
+            if rng.chance(1, 16) {
+                self.burst.1 = rng.below(40);
+            }
+        }
+        self.burst.0
+    }
+
+    /// Leads busy desks on; when none is left, renews or not, and goes on mixing.
+    fn drain(&mut self, rng: &mut Rng, hall: &Hall) -> Call {
+        let first = rng.below(12);
+        let busy = (0..12).map(|i| (first + i) % 12).find(|desk| hall.kind_at(*desk) != IDLE);
+        self.draining -= 1;
+        match busy {
+            Some(desk) if self.draining > 0 => step(rng, desk),
+            _ => {
+                self.draining = 0;
+                self.before_drain = 200 + rng.below(2000);
+                if rng.chance(2, 3) {
+                    Call::Renew
+                } else {
+                    eviction(rng, hall)
+                }
+            }
+        }
+    }
+
+    fn begin(&mut self, rng: &mut Rng, hall: &Hall, desk: u32) -> Call {
+        let [reads, inserts, deletes] = self.kinds;
+        let roll = rng.below(reads + inserts + deletes);
+        if roll < reads {
+            return Call::BeginRead { desk, asked: self.query(rng, hall, false) };
+        }
+        let count = hall.get(0, COUNT);
+        let inserting = if self.band > 0 { count < self.band || rng.chance(1, 2) } else { roll < reads + inserts };
+        if inserting {
+            return Call::BeginInsert { desk, asked: self.query(rng, hall, true) };
+        }
+        if self.band > 0 {
+            return Call::BeginDelete { desk, asked: record_in(rng, hall, self.k) };
+        }
+        Call::BeginDelete { desk, asked: self.query(rng, hall, false) }
+    }
+
+    /// A query that a begin accepts; some of them take up a record that is in the table.
+    fn query(&self, rng: &mut Rng, hall: &Hall, whole: bool) -> Asked {
+        let from_table = rng.chance(1, 6);
+        let mut words = [0; 8];
+        if from_table {
+            words[..2 * self.k as usize].copy_from_slice(record_in(rng, hall, self.k).words());
+        }
+        for column in words[..2 * self.k as usize].chunks_mut(2) {
+            let value = if from_table { column[1] } else { self.value(rng) };
+            let named = whole || rng.chance(self.named, 16);
+            column.copy_from_slice(&if named { [1, value] } else { [0, 0] });
+        }
+        Asked::new(&words[..2 * self.k as usize])
+    }
+
+    fn value(&self, rng: &mut Rng) -> u32 {
+        if self.values == 0 || rng.chance(1, 256) {
+            rng.any()
+        } else {
+            rng.below(self.values)
+        }
+    }
+}
+
+/// A step, mostly with a tray of the least length.
+pub fn step(rng: &mut Rng, desk: u32) -> Call {
+    let tray = 128 + if rng.chance(1, 8) { rng.below(9) } else { 0 };
+    Call::Step { desk, tray, fill: rng.any() }
+}
+
+/// A record of the table as a query that names every column; zeros where there is none.
+fn record_in(rng: &mut Rng, hall: &Hall, k: u32) -> Asked {
+    let place = HEAD + (rng.below(hall.get(0, COUNT).min(RECORDS as u32)) * k) as usize;
+    let mut words = [0; 8];
+    for (c, column) in words.chunks_mut(2).enumerate() {
+        column.copy_from_slice(&[1, hall.get(0, place + c)]);
+    }
+    Asked::new(&words[..2 * k as usize])
+}
+
+/// A place: of an entry mostly, sometimes just past the last.
+fn place(rng: &mut Rng, count: u32) -> u32 {
+    match rng.below(8) {
+        0 => count,
+        1 => count.saturating_sub(1),
+        2 => 0,
+        _ => rng.below(count),
+    }
+}
+
+fn eviction(rng: &mut Rng, hall: &Hall) -> Call {
+    if rng.chance(1, 3) {
+        Call::EvictAnswer { place: place(rng, hall.get(2, COUNT)) }
+    } else {
+        Call::EvictNode { place: place(rng, hall.get(1, NODE_COUNT)) }
+    }
+}
+
+fn odd_desk(rng: &mut Rng) -> u32 {
+    match rng.below(4) {
+        0 => rng.below(12),
+        1 => 11,
+        2 => 12,
+        _ => rng.pick(&[13, 24, u32::MAX, 1 << 31]),
+    }
+}
+
+/// A query that may have any flaw: columns too many or too few, half a column, a mark above 1, a star with a value.
+fn odd_query(rng: &mut Rng, k: u32) -> Asked {
+    let len = match rng.below(8) {
+        0 => 2 * k + 1,
+        1 => 2 * k - 1,
+        2 => 2 * k + 2,
+        3 => 2 * k - 2,
+        _ => 2 * k,
+    };
+    let mut words = [0; 12];
+    for column in words.chunks_mut(2) {
+        let mark = rng.pick(&[0, 1, 1, 1, 1, 1, 2, u32::MAX]);
+        column.copy_from_slice(&[mark, if mark == 0 && rng.chance(1, 2) { 0 } else { rng.below(3) }]);
+    }
+    Asked::new(&words[..len as usize])
+}
+
+/// A call that is turned down more often than not.
+pub fn odd_call(rng: &mut Rng, hall: &Hall, k: u32) -> Call {
+    let (desk, asked) = (odd_desk(rng), odd_query(rng, k));
+    match rng.below(10) {
+        0 => Call::Open { k: rng.pick(&[0, 5, 6, u32::MAX]) },
+        1 => Call::BeginRead { desk, asked },
+        2 => Call::BeginInsert { desk, asked },
+        3 => Call::BeginDelete { desk, asked },
+        4 => Call::Step { desk: rng.below(12), tray: rng.pick(&[0, 1, 127]), fill: rng.any() },
+        5 => step(rng, desk),
+        6 => Call::Abandon { desk },
+        7 => Call::EvictAnswer { place: rng.pick(&[hall.get(2, COUNT), 64, u32::MAX]) },
+        8 => Call::EvictNode { place: rng.pick(&[hall.get(1, NODE_COUNT), 1024, u32::MAX]) },
+        _ => Call::Renew,
+    }
+}
+
+/// Any call, for memories of any contents: the query fits the k in memory if a query can.
+pub fn any_call(rng: &mut Rng, hall: &Hall) -> Call {
+    let columns = hall.columns();
+    let k = if columns <= 6 && rng.chance(7, 8) { columns } else { 1 + rng.below(4) };
+    if rng.chance(1, 12) {
+        return odd_call(rng, hall, k.clamp(1, 5));
+    }
+    let (desk, values) = (rng.below(13), rng.pick(&[1, 3, 6]));
+    match rng.below(24) {
+        0 => Call::Open { k: rng.below(6) },
+        1..4 => Call::BeginRead { desk, asked: plain_query(rng, k, values, 10) },
+        4..7 => Call::BeginInsert { desk, asked: plain_query(rng, k, values, 16) },
+        7..9 => Call::BeginDelete { desk, asked: plain_query(rng, k, values, 10) },
+        9 => Call::EvictAnswer { place: place(rng, hall.get(2, COUNT)) },
+        10 => Call::EvictNode { place: place(rng, hall.get(1, NODE_COUNT)) },
+        11 => Call::Renew,
+        12..15 => Call::Abandon { desk },
+        _ => step(rng, desk),
+    }
+}
+
+/// A query of k columns, of 16 of which so many are named.
+pub fn plain_query(rng: &mut Rng, k: u32, values: u32, named: u32) -> Asked {
+    let mut words = [0; 12];
+    for column in words.chunks_mut(2) {
+        if rng.chance(named, 16) {
+            column.copy_from_slice(&[1, rng.below(values)]);
+        }
+    }
+    Asked::new(&words[..2 * k as usize])
+}

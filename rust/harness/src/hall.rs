@@ -1,0 +1,134 @@
+//! A hall: the four memories and the tray, each of its own length, and what a place in them is called. Leans on the twin's layout.
+
+use crate::side::Lent;
+use twin::layout::*;
+
+pub const LEAST: [usize; 4] = [TABLE_LEAST, NODES_LEAST, ANSWERS_LEAST, DESKS_LEAST];
+pub const MEMORY_NAMES: [&str; 5] = ["table", "nodes", "answers", "desks", "tray"];
+
+/// The memories in their order: table, nodes, answers, desks, tray.
+#[derive(Clone, PartialEq)]
+pub struct Hall {
+    pub memories: [Vec<u32>; 5],
+}
+
+impl Hall {
+    /// All 0; the tray is made anew for each step.
+    pub fn zeros(lengths: [usize; 4]) -> Hall {
+        let [table, nodes, answers, desks] = lengths.map(|n| vec![0; n]);
+        Hall { memories: [table, nodes, answers, desks, Vec::new()] }
+    }
+
+    pub fn lend(&mut self) -> (Lent<'_>, &mut [u32]) {
+        let [table, nodes, answers, desks, tray] = &mut self.memories;
+        (Lent { table, nodes, answers, desks }, tray)
+    }
+
+    pub fn table(&self) -> &[u32] {
+        &self.memories[0]
+    }
+
+    pub fn nodes(&self) -> &[u32] {
+        &self.memories[1]
+    }
+
+    pub fn answers(&self) -> &[u32] {
+        &self.memories[2]
+    }
+
+    pub fn desks(&self) -> &[u32] {
+        &self.memories[3]
+    }
+
+    pub fn tray(&self) -> &[u32] {
+        &self.memories[4]
+    }
+
+    /// A number, or 0 where the memory is too short.
+    pub fn get(&self, memory: usize, place: usize) -> u32 {
+        self.memories[memory].get(place).copied().unwrap_or(0)
+    }
+
+    pub fn columns(&self) -> u32 {
+        self.get(3, COLUMNS)
+    }
+
+    pub fn kind_at(&self, desk: u32) -> u32 {
+        self.desk_number(desk, DESK_KIND)
+    }
+
+    pub fn desk_number(&self, desk: u32, at: usize) -> u32 {
+        self.get(3, HEAD + desk as usize * DESK_WIDTH + at)
+    }
+
+    /// How many numbers all memories have.
+    pub fn size(&self) -> usize {
+        self.memories.iter().map(Vec::len).sum()
+    }
+
+    /// The first place at which two halls differ.
+    pub fn first_difference(&self, other: &Hall) -> Option<(usize, usize)> {
+        (0..5).find_map(|m| {
+            let (left, right) = (&self.memories[m], &other.memories[m]);
+            if left == right {
+                return None;
+            }
+            let place = left.iter().zip(right).position(|(x, y)| x != y);
+            Some((m, place.unwrap_or(left.len().min(right.len()))))
+        })
+    }
+}
+
+/// What stands at a place of a memory, in the words of docs/LAYOUT.md.
+pub fn describe(memory: usize, place: usize, k: u32) -> String {
+    let least = if memory < 4 { LEAST[memory] } else { TRAY_LEAST };
+    if place >= least {
+        return "past the least length".to_string();
+    }
+    let at = place.wrapping_sub(HEAD);
+    match (memory, place) {
+        (4, _) => format!("number {place}"),
+        (0, COUNT) => "how many records".to_string(),
+        (1, FLOOR) => "the floor".to_string(),
+        (1, NODE_COUNT) => "how many nodes".to_string(),
+        (2, COUNT) => "how many answers".to_string(),
+        (3, COLUMNS) => "k".to_string(),
+        (_, 0..HEAD) => "spare".to_string(),
+        (0, _) => format!("record {}, column {}", at / k.max(1) as usize, at % k.max(1) as usize),
+        (1, _) => format!("node {}, {}", at / NODE_WIDTH, in_node(at % NODE_WIDTH)),
+        (2, _) => format!("answer {}, {}", at / ENTRY_WIDTH, in_entry(at % ENTRY_WIDTH)),
+        _ => format!("desk {}, {}", at / DESK_WIDTH, in_desk(at % DESK_WIDTH)),
+    }
+}
+
+fn in_node(at: usize) -> String {
+    match at {
+        0 => "tags".to_string(),
+        1..=4 => format!("value of column {}", at - 1),
+        NODE_MARKS => "marks".to_string(),
+        NODE_COUNTER => "counter".to_string(),
+        _ => "kept number".to_string(),
+    }
+}
+
+fn in_entry(at: usize) -> String {
+    match at {
+        0 => "marks of the query".to_string(),
+        1..=4 => format!("value of column {}", at - 1),
+        5 | 6 => "kept number of the key".to_string(),
+        ENTRY_LENGTH => "list length".to_string(),
+        ENTRY_REVISIONS..ENTRY_LIST => format!("revision {}", at - ENTRY_REVISIONS),
+        _ => format!("list, number {}", at - ENTRY_LIST),
+    }
+}
+
+fn in_desk(at: usize) -> String {
+    match at {
+        DESK_KIND => "kind".to_string(),
+        DESK_STEPS => "steps".to_string(),
+        DESK_SAW => "saw a mark".to_string(),
+        DESK_CHANGED => "changed".to_string(),
+        DESK_FULL => "full".to_string(),
+        _ => in_entry(at - DESK_ENTRY),
+    }
+}

@@ -1,0 +1,92 @@
+//! Which mixings a run's histories are drawn from, how long they are, and histories of one side alone under the checker.
+//! Leans on draw, check and shrink.
+
+use crate::call::Call;
+use crate::check::{Checker, Complaint};
+use crate::draw::Mixing;
+use crate::hall::Hall;
+use crate::rng::Rng;
+use crate::shrink::Script;
+use crate::side::Side;
+use crate::start;
+
+/// The mixing of a run's history number `n`, and how many calls it gets. Filling a table takes some 15,000 calls, so a short run
+/// does without; the length of the others goes with the run's.
+pub fn mixing(rng: &mut Rng, n: u64, total: u64) -> (Mixing, u64) {
+    let most = (total / 20).clamp(50, 3000) as u32;
+    let length = (most / 4 + rng.below(most)) as u64;
+    match n % 12 {
+        3 if total >= 200_000 => (Mixing::filling(rng), 25_000),
+        2 | 7 => (Mixing::short_lists(rng), length),
+        1 | 6 | 10 => (Mixing::wide(rng), length),
+        5 => (Mixing::writers(rng), length),
+        _ => (Mixing::tight(rng), length),
+    }
+}
+
+/// What the checker found in one side's histories.
+#[derive(Default)]
+pub struct Findings {
+    pub histories: u64,
+    pub calls: u64,
+    pub answers: u64,
+    pub stale: u64,
+    /// the table memory, a step limit, an ending of nothing: each ends its history
+    pub others: u64,
+    /// the first complaint, with the history up to it
+    pub first: Option<(Script, Complaint)>,
+}
+
+/// Runs one side alone through histories from fresh openings, and checks each call.
+pub fn check_alone(side: &dyn Side, seed: u64, total: u64) -> Findings {
+    let mut rng = Rng::new(seed);
+    let mut findings = Findings::default();
+    while findings.calls < total {
+        findings.histories += 1;
+        let number = findings.histories;
+        let (mixing, length) = mixing(&mut rng, number, total);
+        one_history(side, &mut rng, mixing, length.min(total - findings.calls), &mut findings);
+    }
+    findings
+}
+
+fn one_history(side: &dyn Side, rng: &mut Rng, mut mixing: Mixing, length: u64, findings: &mut Findings) {
+    let mut script = Script { start: start::noise(rng), calls: vec![Call::Open { k: mixing.k }] };
+    let mut hall = script.start.clone();
+    let mut checker = Checker::opened(mixing.k);
+    script.calls[0].make(side, &mut hall);
+    for _ in 0..length {
+        let call = mixing.next(rng, &hall);
+        script.calls.push(call);
+        let reply = call.make(side, &mut hall);
+        let complaint = checker.after(&call, reply, &hall);
+        findings.calls += 1;
+        if let Some(complaint) = complaint {
+            findings.first.get_or_insert_with(|| (script.clone(), complaint));
+            if !matches!(complaint, Complaint::Stale { .. }) {
+                findings.others += 1;
+                break;
+            }
+            findings.stale += 1;
+        }
+    }
+    findings.answers += checker.answers;
+}
+
+/// The first complaint about a script that opens its hall: after which call, and which.
+pub fn complaint_in(side: &dyn Side, script: &Script) -> Option<(usize, Complaint)> {
+    let mut hall: Hall = script.start.clone();
+    let mut checker = None;
+    for (i, call) in script.calls.iter().enumerate() {
+        let reply = call.make(side, &mut hall);
+        match call {
+            Call::Open { k } if reply.number == 0 => checker = Some(Checker::opened(*k)),
+            Call::Damage { .. } => checker = None,
+            _ => {}
+        }
+        if let Some(complaint) = checker.as_mut().and_then(|c| c.after(call, reply, &hall)) {
+            return Some((i, complaint));
+        }
+    }
+    None
+}

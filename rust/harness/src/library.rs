@@ -1,0 +1,44 @@
+//! The library as one side of a comparison, through the safe crate over its exported interface. Leans on side and mondzafeky.
+
+use crate::side::{Lent, Reply, Side};
+use mondzafeky::Memories;
+
+pub struct Library;
+
+fn over(m: Lent<'_>) -> Memories<'_> {
+    Memories { table: m.table, nodes: m.nodes, answers: m.answers, desks: m.desks }
+}
+
+fn plain(reply: mondzafeky::Reply) -> Reply {
+    Reply { number: reply.number, count: reply.count, ending: reply.ending }
+}
+
+impl Side for Library {
+    fn open(&self, m: Lent, k: u32) -> Reply {
+        plain(over(m).open(k))
+    }
+    fn begin_read(&self, m: Lent, desk: u32, query: &[u32]) -> Reply {
+        plain(over(m).begin_read(desk, query))
+    }
+    fn begin_insert(&self, m: Lent, desk: u32, query: &[u32]) -> Reply {
+        plain(over(m).begin_insert(desk, query))
+    }
+    fn begin_delete(&self, m: Lent, desk: u32, query: &[u32]) -> Reply {
+        plain(over(m).begin_delete(desk, query))
+    }
+    fn step(&self, m: Lent, tray: &mut [u32], desk: u32) -> Reply {
+        plain(over(m).step(tray, desk))
+    }
+    fn abandon(&self, m: Lent, desk: u32) -> Reply {
+        plain(over(m).abandon(desk))
+    }
+    fn evict_answer(&self, m: Lent, place: u32) -> Reply {
+        plain(over(m).evict_answer(place))
+    }
+    fn evict_node(&self, m: Lent, place: u32) -> Reply {
+        plain(over(m).evict_node(place))
+    }
+    fn renew(&self, m: Lent) -> Reply {
+        plain(over(m).renew())
+    }
+}

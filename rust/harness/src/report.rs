@@ -1,0 +1,140 @@
+//! What a run prints: counts, limits met, and a failure with the shortened script that leads to it. Leans on run and shrink.
+
+use crate::call::{Call, KIND_NAMES};
+use crate::hall::{describe, Hall, MEMORY_NAMES};
+use crate::histories::complaint_in;
+use crate::run::{difference_in, Difference, Failure, Tally, SORTS};
+use crate::seen::LIMITS;
+use crate::shrink::{shorten, Script};
+use crate::side::{Reply, Side};
+use std::time::Duration;
+
+const SHORTENING: Duration = Duration::from_secs(20);
+
+/// 1234567 as 1,234,567.
+pub fn grouped(number: u64) -> String {
+    let digits = number.to_string();
+    let mut text = String::new();
+    for (i, digit) in digits.chars().enumerate() {
+        if i > 0 && (digits.len() - i).is_multiple_of(3) {
+            text.push(',');
+        }
+        text.push(digit);
+    }
+    text
+}
+
+pub fn print_tally(tally: &Tally) {
+    println!("calls by sort of script:");
+    for (i, (name, _)) in SORTS.iter().enumerate() {
+        let [calls, accepted, scripts] = [tally.calls_of_sort[i], tally.accepted_of_sort[i], tally.scripts[i]].map(grouped);
+        println!("  {name:<28}{calls:>12} in {scripts} scripts, {accepted} accepted");
+    }
+    println!("calls by number returned:");
+    println!("  {:<14}{}", "", (0..14).map(|n| format!("{n:>8}")).collect::<String>());
+    for (name, row) in KIND_NAMES.iter().zip(&tally.outcomes) {
+        println!("  {name:<14}{}", row.iter().map(|count| format!("{count:>8}")).collect::<String>());
+    }
+    let [none, filed, table, changed, unchanged] = tally.endings.map(grouped);
+    println!("endings: {filed} answered from file, {table} answered from the table, {changed} writes changed the table, {unchanged} did not,");
+    println!("  {none} calls with none of these; {} numbers damaged", grouped(tally.damages));
+    println!("limits met (times):");
+    for (name, times) in LIMITS.iter().zip(tally.limits) {
+        println!("  {name:<52}{:>9}{}", grouped(times), if times == 0 { "  not met in this run" } else { "" });
+    }
+    println!("  ways of lengths 0, least-1, least, least+1: {} of 256", tally.ways.iter().filter(|way| **way).count());
+}
+
+fn reply_text(reply: Reply) -> String {
+    match (reply.number, reply.ending) {
+        (0, 0) if reply.count == 0 => "0".to_string(),
+        (0, 1) => format!("0, {} records from file", reply.count),
+        (0, 2) => format!("0, {} records from the table", reply.count),
+        (0, 3) if reply.count == 0 => "0, table changed".to_string(),
+        (0, 4) if reply.count == 0 => "0, table unchanged".to_string(),
+        (number, 0) if reply.count == 0 => number.to_string(),
+        _ => format!("{reply:?}"),
+    }
+}
+
+/// Lengths, and every number that is not 0.
+fn print_start(start: &Hall) {
+    let lengths: Vec<String> = (0..4).map(|m| format!("{} {}", MEMORY_NAMES[m], start.memories[m].len())).collect();
+    let zeros = (0..4).all(|m| start.memories[m].iter().all(|number| *number == 0));
+    println!("  memories: {}; all 0{}", lengths.join(", "), if zeros { "" } else { " but" });
+    let mut printed = 0;
+    for (memory, name) in MEMORY_NAMES.iter().enumerate().take(4) {
+        for (place, value) in start.memories[memory].iter().enumerate().filter(|(_, value)| **value != 0) {
+            printed += 1;
+            if printed <= 60 {
+                println!("    {name}[{place}] = {value}  ({})", describe(memory, place, start.columns()));
+            }
+        }
+    }
+    if printed > 60 {
+        println!("    and {} more", printed - 60);
+    }
+}
+
+fn print_calls(calls: &[Call], replies: impl Fn(usize) -> String) {
+    for (i, call) in calls.iter().enumerate() {
+        println!("  {:>4}  {:<44} -> {}", i + 1, call.to_string(), replies(i));
+    }
+}
+
+/// Shortens and prints what a run stopped at. The names are those of the two sides.
+pub fn print_failure(failure: Failure, sides: [&dyn Side; 2], names: [&str; 2]) {
+    let (sort, made) = (SORTS[failure.sort].0, failure.script.calls.len());
+    match failure.complaint {
+        Some(complaint) => print_complaint(sides[0], failure.script, &complaint.to_string()),
+        None => {
+            let shorter = shorten(failure.script, SHORTENING, &|s| difference_in(sides[0], sides[1], s).is_some());
+            println!("DIFFERENCE, in a script of the sort: {sort}; shortened from {made} calls to {}:", shorter.calls.len());
+            match difference_in(sides[0], sides[1], &shorter) {
+                Some(difference) => print_difference(&shorter, &difference, names),
+                None => println!("  the difference does not come back when the calls are made again"),
+            }
+        }
+    }
+}
+
+fn print_difference(script: &Script, difference: &Difference, [left, right]: [&str; 2]) {
+    print_start(&script.start);
+    print_calls(&script.calls[..difference.replies.len()], |i| {
+        let (one, two) = difference.replies[i];
+        if one == two {
+            reply_text(one)
+        } else {
+            format!("{left}: {}; {right}: {}", reply_text(one), reply_text(two))
+        }
+    });
+    let mut rest = 0;
+    for (memory, name) in MEMORY_NAMES.iter().enumerate() {
+        let (one, two) = (&difference.left.memories[memory], &difference.right.memories[memory]);
+        for place in (0..one.len()).filter(|place| one[*place] != two[*place]) {
+            rest += 1;
+            if rest <= 8 {
+                let what = describe(memory, place, difference.left.columns());
+                println!("  {name}[{place}] ({what}): {left} {}, {right} {}", one[place], two[place]);
+            }
+        }
+    }
+    if rest > 8 {
+        println!("  and {} more numbers", rest - 8);
+    }
+}
+
+/// Shortens and prints a history about which the checker complains.
+pub fn print_complaint(side: &dyn Side, script: Script, complaint: &str) {
+    let made = script.calls.len();
+    let shorter = shorten(script, SHORTENING, &|s| complaint_in(side, s).is_some());
+    println!("THE CHECKER COMPLAINS: {complaint}; shortened from {made} calls to {}:", shorter.calls.len());
+    print_start(&shorter.start);
+    let mut hall = shorter.start.clone();
+    let replies: Vec<String> = shorter.calls.iter().map(|call| reply_text(call.make(side, &mut hall))).collect();
+    print_calls(&shorter.calls, |i| replies[i].clone());
+    match complaint_in(side, &shorter) {
+        Some((_, complaint)) => println!("  {complaint}"),
+        None => println!("  the complaint does not come back when the calls are made again"),
+    }
+}

@@ -1,0 +1,141 @@
+//! Which limits of document 01 a run has met, on which side. It looks at one hall before and after a call; the other is the same.
+//! Leans on call, hall and the twin's layout and queries.
+
+use crate::call::Call;
+use crate::hall::{Hall, LEAST};
+use crate::side::Reply;
+use twin::layout::*;
+use twin::query::Query;
+use twin::PLAIN;
+
+pub const LIMITS: [&str; 23] = [
+    "a list of 32 records is taken",
+    "33 records: 12",
+    "an insert at 2,047 records goes in",
+    "an insert at 2,048 of one that is there",
+    "an insert at 2,048 of a new one: full",
+    "filed with 63 kept",
+    "filed with 64 kept, the oldest goes",
+    "a node added with 1,023 there",
+    "a node added with 1,024 there, one is put out",
+    "1,024 nodes, none unmarked: 3",
+    "marks go from 11 to 12",
+    "marks at 12: 3",
+    "a write begins at highest counter 4,294,967,103",
+    "a write at highest counter 4,294,967,104: 10",
+    "a counter is raised to its largest",
+    "a counter at its largest: 3",
+    "desk 11 accepted",
+    "desk 12: 4",
+    "open with k 1",
+    "open with k 4",
+    "open with k 0: 2",
+    "open with k 5: 2",
+    "a tray of 127: 1",
+];
+
+/// What is known before a call.
+#[derive(Clone, Copy)]
+pub enum Before {
+    Nothing,
+    WriteBegin { highest: u32 },
+    Look { missing: bool, nodes: u32 },
+    ReadTable { matches: usize },
+    File { kept: u32 },
+    Mark { marks: Option<u32>, nodes: u32 },
+    Insert { records: u32 },
+    Raise { counter: Option<u32> },
+}
+
+pub fn before(call: &Call, hall: &Hall) -> Before {
+    let whole = (0..4).all(|m| hall.memories[m].len() >= LEAST[m]) && (1..=4).contains(&hall.columns());
+    let counts = hall.get(0, COUNT) <= 2048 && hall.get(1, NODE_COUNT) <= 1024;
+    if !whole || !counts {
+        return Before::Nothing;
+    }
+    match call {
+        Call::BeginInsert { .. } | Call::BeginDelete { .. } => {
+            let counters = twin::nodes::all(hall.nodes()).iter().map(|node| node[NODE_COUNTER]);
+            Before::WriteBegin { highest: counters.fold(hall.nodes()[FLOOR], u32::max) }
+        }
+        Call::Step { desk, .. } if *desk < 12 => before_step(*desk, hall),
+        _ => Before::Nothing,
+    }
+}
+
+fn before_step(desk: u32, hall: &Hall) -> Before {
+    let own = &hall.desks()[HEAD + desk as usize * DESK_WIDTH..][..DESK_WIDTH];
+    let Some(query) = Query::kept(hall.columns() as usize, own[DESK_ENTRY..].first_chunk().unwrap()) else {
+        return Before::Nothing;
+    };
+    let (kind, steps, nodes) = (own[DESK_KIND], own[DESK_STEPS], hall.nodes()[NODE_COUNT]);
+    let node = |label| twin::nodes::find(hall.nodes(), &label).map(|place| twin::nodes::all(hall.nodes())[place]);
+    let (looks, marks) = (query.looks(), query.marks());
+    match kind {
+        READ if steps < looks => Before::Look { missing: node(query.read_label(steps)).is_none(), nodes },
+        READ if steps == looks + 1 => Before::ReadTable { matches: matches(hall, &query) },
+        READ if steps == looks + 2 => Before::File { kept: hall.answers()[COUNT] },
+        INSERT | DELETE if steps < marks => Before::Mark { marks: node(query.write_label::<PLAIN>(steps)).map(|n| n[NODE_MARKS]), nodes },
+        INSERT if steps == marks => Before::Insert { records: hall.table()[COUNT] },
+        INSERT | DELETE if steps > marks && steps <= 2 * marks => {
+            let node = node(query.write_label::<PLAIN>(steps - marks - 1));
+            Before::Raise { counter: node.filter(|n| n[NODE_MARKS] > 0).map(|n| n[NODE_COUNTER]) }
+        }
+        _ => Before::Nothing,
+    }
+}
+
+fn matches(hall: &Hall, query: &Query) -> usize {
+    let count = hall.table()[COUNT] as usize;
+    let records = hall.table()[HEAD..].chunks(query.k).take(count);
+    records.filter(|r| (0..query.k).all(|c| !query.names(c) || r[c] == query.values[c])).count()
+}
+
+/// Which limit the call has met, as a place in `LIMITS`.
+pub fn limit_met(call: &Call, before: Before, reply: Reply, hall: &Hall) -> Option<usize> {
+    let accepted = reply.number == 0;
+    match (before, reply.number) {
+        (Before::ReadTable { matches: 32 }, 0) => Some(0),
+        (Before::ReadTable { matches: 33 }, 12) => Some(1),
+        (Before::Insert { records: 2047 }, 0) if hall.table()[COUNT] == 2048 => Some(2),
+        (Before::Insert { records: 2048 }, 0) => Some(if desk_of(call, hall, DESK_FULL) == 1 { 4 } else { 3 }),
+        (Before::File { kept: 63 }, 0) if hall.answers()[COUNT] == 64 => Some(5),
+        (Before::File { kept: 64 }, 0) => Some(6),
+        (Before::Look { missing: true, nodes } | Before::Mark { marks: None, nodes }, number) => match (nodes, number) {
+            (1023, 0) => Some(7),
+            (1024, 0) => Some(8),
+            (1024, 3) => Some(9),
+            _ => None,
+        },
+        (Before::Mark { marks: Some(11), .. }, 0) => Some(10),
+        (Before::Mark { marks: Some(12), .. }, 3) => Some(11),
+        (Before::WriteBegin { highest: WORN }, 0) => Some(12),
+        (Before::WriteBegin { highest }, 10) if highest == WORN + 1 => Some(13),
+        (Before::Raise { counter: Some(counter) }, 0) if counter == u32::MAX - 1 => Some(14),
+        (Before::Raise { counter: Some(u32::MAX) }, 3) => Some(15),
+        _ => by_argument(call, accepted, reply.number),
+    }
+}
+
+fn desk_of(call: &Call, hall: &Hall, at: usize) -> u32 {
+    match call {
+        Call::Step { desk, .. } => hall.desk_number(*desk, at),
+        _ => 0,
+    }
+}
+
+fn by_argument(call: &Call, accepted: bool, number: u32) -> Option<usize> {
+    match call {
+        Call::Step { tray: 127, .. } if number == 1 => Some(22),
+        Call::Step { desk, .. } | Call::BeginRead { desk, .. } | Call::Abandon { desk } => match (desk, number) {
+            (11, 0) => Some(16),
+            (12, 4) => Some(17),
+            _ => None,
+        },
+        Call::Open { k: 1 } if accepted => Some(18),
+        Call::Open { k: 4 } if accepted => Some(19),
+        Call::Open { k: 0 } if number == 2 => Some(20),
+        Call::Open { k: 5 } if number == 2 => Some(21),
+        _ => None,
+    }
+}

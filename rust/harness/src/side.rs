@@ -1,0 +1,91 @@
+//! One side of a comparison: the nine calls, one method each. The twin with each fault is one. Leans on the twin.
+
+use twin::{Fault, Memories};
+
+pub use twin::Reply;
+
+/// The four memories as they are lent to a call.
+pub struct Lent<'a> {
+    pub table: &'a mut [u32],
+    pub nodes: &'a mut [u32],
+    pub answers: &'a mut [u32],
+    pub desks: &'a mut [u32],
+}
+
+pub trait Side {
+    fn open(&self, m: Lent, k: u32) -> Reply;
+    fn begin_read(&self, m: Lent, desk: u32, query: &[u32]) -> Reply;
+    fn begin_insert(&self, m: Lent, desk: u32, query: &[u32]) -> Reply;
+    fn begin_delete(&self, m: Lent, desk: u32, query: &[u32]) -> Reply;
+    fn step(&self, m: Lent, tray: &mut [u32], desk: u32) -> Reply;
+    fn abandon(&self, m: Lent, desk: u32) -> Reply;
+    fn evict_answer(&self, m: Lent, place: u32) -> Reply;
+    fn evict_node(&self, m: Lent, place: u32) -> Reply;
+    fn renew(&self, m: Lent) -> Reply;
+}
+
+/// The twin, with a fault or none.
+pub struct Twin<const FAULT: u8>;
+
+impl<const FAULT: u8> Twin<FAULT> {
+    fn over(m: Lent<'_>) -> Memories<'_, FAULT> {
+        Memories { table: m.table, nodes: m.nodes, answers: m.answers, desks: m.desks }
+    }
+}
+
+impl<const FAULT: u8> Side for Twin<FAULT> {
+    fn open(&self, m: Lent, k: u32) -> Reply {
+        Self::over(m).open(k)
+    }
+    fn begin_read(&self, m: Lent, desk: u32, query: &[u32]) -> Reply {
+        Self::over(m).begin_read(desk, query)
+    }
+    fn begin_insert(&self, m: Lent, desk: u32, query: &[u32]) -> Reply {
+        Self::over(m).begin_insert(desk, query)
+    }
+    fn begin_delete(&self, m: Lent, desk: u32, query: &[u32]) -> Reply {
+        Self::over(m).begin_delete(desk, query)
+    }
+    fn step(&self, m: Lent, tray: &mut [u32], desk: u32) -> Reply {
+        Self::over(m).step(tray, desk)
+    }
+    fn abandon(&self, m: Lent, desk: u32) -> Reply {
+        Self::over(m).abandon(desk)
+    }
+    fn evict_answer(&self, m: Lent, place: u32) -> Reply {
+        Self::over(m).evict_answer(place)
+    }
+    fn evict_node(&self, m: Lent, place: u32) -> Reply {
+        Self::over(m).evict_node(place)
+    }
+    fn renew(&self, m: Lent) -> Reply {
+        Self::over(m).renew()
+    }
+}
+
+/// The faults by name; the first five are those of document 01.
+pub const FAULTS: [(&str, Fault); 6] = [
+    ("early-raise", Fault::EarlyRaise),
+    ("back-at-one", Fault::BackAtOne),
+    ("one-bit", Fault::OneBit),
+    ("late-look", Fault::LateLook),
+    ("stacked", Fault::Stacked),
+    ("no-marks", Fault::NoMarks),
+];
+
+pub fn fault_named(name: &str) -> Option<Fault> {
+    FAULTS.iter().find(|(n, _)| *n == name).map(|(_, fault)| *fault)
+}
+
+/// The twin with a fault that is known only when the program runs.
+pub fn twin_with(fault: Fault) -> &'static dyn Side {
+    match fault {
+        Fault::None => &Twin::<{ Fault::None as u8 }>,
+        Fault::EarlyRaise => &Twin::<{ Fault::EarlyRaise as u8 }>,
+        Fault::BackAtOne => &Twin::<{ Fault::BackAtOne as u8 }>,
+        Fault::OneBit => &Twin::<{ Fault::OneBit as u8 }>,
+        Fault::LateLook => &Twin::<{ Fault::LateLook as u8 }>,
+        Fault::Stacked => &Twin::<{ Fault::Stacked as u8 }>,
+        Fault::NoMarks => &Twin::<{ Fault::NoMarks as u8 }>,
+    }
+}

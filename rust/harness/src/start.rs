@@ -1,0 +1,311 @@
+//! The memories that calls start from: noise of three sorts, halls near every limit, and what damage does to a hall.
+//! Leans on hall and the twin's layout and queries.
+
+use crate::call::Call;
+use crate::draw::plain_query;
+use crate::hall::{Hall, LEAST};
+use crate::rng::Rng;
+use twin::layout::*;
+use twin::query::{Label, Query};
+use twin::PLAIN;
+
+/// Numbers at which something changes.
+const EDGES: [u32; 24] = [0, 1, 2, 3, 4, 5, 11, 12, 13, 31, 32, 33, 63, 64, 65, 1023, 1024, 1025, 2047, 2048, 2049, WORN, WORN + 1, u32::MAX];
+
+/// Each memory a little longer than its least length, so that writing past it would show.
+fn long_lengths(rng: &mut Rng) -> [usize; 4] {
+    LEAST.map(|least| least + rng.below(9) as usize)
+}
+
+/// Noise: any numbers, small ones, or a mix with the edges.
+pub fn noise(rng: &mut Rng) -> Hall {
+    let mut hall = Hall::zeros(long_lengths(rng));
+    for memory in &mut hall.memories {
+        let style = rng.below(3);
+        for number in memory.iter_mut() {
+            *number = speckle(rng, style);
+        }
+    }
+    hall
+}
+
+fn speckle(rng: &mut Rng, style: u32) -> u32 {
+    match style {
+        0 => rng.any(),
+        1 => rng.below(5),
+        _ if rng.chance(1, 3) => rng.any(),
+        _ => rng.pick(&EDGES),
+    }
+}
+
+fn count_below(rng: &mut Rng, most: usize) -> u32 {
+    match rng.below(5) {
+        0 => most as u32,
+        1 => most as u32 - 1,
+        2 => rng.below(4),
+        _ => rng.below(most as u32 + 1),
+    }
+}
+
+/// Noise in which k, the entry counts and (but for a few) the filed lists' lengths are in range.
+pub fn sound_headers(rng: &mut Rng) -> Hall {
+    let mut hall = noise(rng);
+    hall.memories[3][COLUMNS] = 1 + rng.below(4);
+    hall.memories[0][COUNT] = count_below(rng, RECORDS);
+    hall.memories[1][NODE_COUNT] = count_below(rng, NODES);
+    hall.memories[2][COUNT] = count_below(rng, ANSWERS);
+    for place in 0..ANSWERS {
+        hall.memories[2][HEAD + place * ENTRY_WIDTH + ENTRY_LENGTH] = rng.below(33);
+    }
+    if rng.chance(1, 40) {
+        hall.memories[2][HEAD + rng.below(64) as usize * ENTRY_WIDTH + ENTRY_LENGTH] = 33;
+    }
+    hall
+}
+
+/// Noise with sound headers in which every desk is idle, but for one number of one desk in some.
+pub fn idle_desks(rng: &mut Rng) -> Hall {
+    let mut hall = sound_headers(rng);
+    hall.memories[3][HEAD..HEAD + DESKS * DESK_WIDTH].fill(0);
+    if rng.chance(1, 3) {
+        hall.memories[3][HEAD + rng.below((DESKS * DESK_WIDTH) as u32) as usize] = 1 + rng.below(3);
+    }
+    hall
+}
+
+/// Noise with sound headers in which each desk is idle or in the midst of a read or a write, with what it needs around it.
+pub fn plausible_desks(rng: &mut Rng) -> Hall {
+    let mut hall = sound_headers(rng);
+    for desk in 0..12 {
+        if rng.chance(2, 3) {
+            seat(rng, &mut hall, desk);
+        } else {
+            hall.memories[3][HEAD + desk * DESK_WIDTH..][..DESK_WIDTH].fill(0);
+        }
+    }
+    hall
+}
+
+/// A desk in the midst of a read or a write. Its other numbers stay as they are.
+fn seat(rng: &mut Rng, hall: &mut Hall, desk: usize) {
+    let k = hall.columns();
+    let kind = 1 + rng.below(3);
+    let asked = plain_query(rng, k, 3, if kind == INSERT { 16 } else { 10 });
+    let query = Query::arrived(k as usize, asked.words());
+    let last = if kind == READ { query.looks() + 3 } else { 2 * query.marks() + 1 };
+    let steps = if rng.chance(1, 3) { last - 1 - rng.below(last.min(3)) } else { rng.below(last) };
+    let place = HEAD + desk * DESK_WIDTH;
+    let own = &mut hall.memories[3][place..place + DESK_WIDTH];
+    own[DESK_KIND] = kind;
+    own[DESK_STEPS] = steps;
+    for flag in [DESK_SAW, DESK_CHANGED, DESK_FULL] {
+        own[flag] = rng.pick(&[0, 0, 0, 1, 2]);
+    }
+    own[DESK_ENTRY..DESK_ENTRY + KEY_WIDTH].copy_from_slice(&query.key());
+    own[DESK_ENTRY + ENTRY_LENGTH] = rng.below(33);
+    if rng.chance(1, 8) {
+        spoil(rng, &mut hall.memories[3][place..place + DESK_WIDTH], last);
+    } else if kind == READ {
+        seat_read(rng, hall, place, &query);
+    } else {
+        seat_write(rng, hall, &query, steps);
+    }
+}
+
+/// One number of a desk just out of range: kind, step, list length, or one of the key.
+fn spoil(rng: &mut Rng, own: &mut [u32], last: u32) {
+    let (place, value) = match rng.below(6) {
+        0 => (DESK_KIND, rng.pick(&[0, 4])),
+        1 => (DESK_STEPS, last),
+        2 => (DESK_ENTRY + ENTRY_LENGTH, 33),
+        3 => (DESK_ENTRY, own[DESK_ENTRY] ^ 1 << rng.below(6)),
+        4 => (DESK_ENTRY + 1 + rng.below(4) as usize, 1 + rng.below(3)),
+        _ => (DESK_ENTRY + 5 + rng.below(2) as usize, 1),
+    };
+    own[place] = value;
+}
+
+/// Some reads find answers filed under their key, one or several, with revisions near those noted.
+fn seat_read(rng: &mut Rng, hall: &mut Hall, place: usize, query: &Query) {
+    let count = hall.get(2, COUNT);
+    if count == 0 {
+        return;
+    }
+    let noted: Vec<u32> = hall.memories[3][place + DESK_ENTRY + ENTRY_REVISIONS..][..16].to_vec();
+    for _ in 0..rng.below(4) {
+        let entry = &mut hall.memories[2][HEAD + rng.below(count) as usize * ENTRY_WIDTH..][..ENTRY_WIDTH];
+        entry[..KEY_WIDTH].copy_from_slice(&query.key());
+        for (filed, noted) in entry[ENTRY_REVISIONS..ENTRY_LIST].iter_mut().zip(&noted) {
+            *filed = noted.saturating_add(rng.pick(&[0, 0, 0, 1]));
+        }
+        if rng.chance(1, 2) {
+            let filed = &mut entry[ENTRY_REVISIONS + rng.below(query.looks()) as usize];
+            *filed = filed.saturating_sub(1 + rng.below(2));
+        }
+    }
+}
+
+/// The nodes that a write has marked and not raised are there, marked.
+fn seat_write(rng: &mut Rng, hall: &mut Hall, query: &Query, steps: u32) {
+    let marks = query.marks();
+    let first = steps.saturating_sub(marks + 1);
+    for number in first..steps.min(marks).max(first + 1).min(marks) {
+        if rng.chance(15, 16) {
+            put_node(rng, hall, &query.write_label::<PLAIN>(number));
+        }
+    }
+}
+
+/// A node with this label gets one mark more; one is written over if it is missing.
+fn put_node(rng: &mut Rng, hall: &mut Hall, label: &Label) {
+    let count = hall.get(1, NODE_COUNT);
+    if count == 0 {
+        return;
+    }
+    let nodes = &mut hall.memories[1];
+    let found = twin::nodes::find(nodes, label);
+    let place = found.unwrap_or(rng.below(count) as usize);
+    let node = &mut nodes[HEAD + place * NODE_WIDTH..][..NODE_WIDTH];
+    if found.is_none() {
+        node[..LABEL_WIDTH].copy_from_slice(label);
+        node[NODE_MARKS] = 0;
+    }
+    node[NODE_MARKS] = node[NODE_MARKS].saturating_add(1);
+    if rng.chance(1, 12) {
+        // a second node with this label
+        let again = HEAD + rng.below(count) as usize * NODE_WIDTH;
+        nodes[again..again + LABEL_WIDTH].copy_from_slice(label);
+    }
+}
+
+/// A hall near its limits: records, nodes, answers, marks and counters on either side of a line.
+pub fn near_limits(rng: &mut Rng) -> Hall {
+    let mut hall = Hall::zeros(long_lengths(rng));
+    hall.memories[3][COLUMNS] = 1 + rng.below(4);
+    hall.memories[1][FLOOR] = 1;
+    fill_table(rng, &mut hall);
+    fill_nodes(rng, &mut hall);
+    fill_answers(rng, &mut hall);
+    if rng.chance(2, 3) {
+        for desk in 0..rng.below(12) as usize {
+            seat(rng, &mut hall, desk);
+        }
+    }
+    set_counters(rng, &mut hall);
+    if hall.get(1, NODE_COUNT) > 0 && rng.chance(1, 2) {
+        // every write comes to the node of all stars, or to one of its neighbours
+        let stars = Query::arrived(hall.columns() as usize, &[0; 8][..2 * hall.columns() as usize]).read_label(0);
+        put_node(rng, &mut hall, &stars);
+        let place = twin::nodes::find(hall.nodes(), &stars).unwrap();
+        hall.memories[1][HEAD + place * NODE_WIDTH + NODE_MARKS] = 9 + rng.below(5);
+    }
+    hall
+}
+
+/// Ascending records; a first column that is the same for 31 to 33 of them, or for all.
+fn fill_table(rng: &mut Rng, hall: &mut Hall) {
+    let k = hall.columns() as usize;
+    let count = rng.pick(&[0, 31, 32, 33, 2046, 2047, 2048]);
+    let group = rng.pick(&[31, 32, 33, 64, 4000]);
+    hall.memories[0][COUNT] = count;
+    for i in 0..count {
+        let record = &mut hall.memories[0][HEAD + i as usize * k..][..k];
+        if k == 1 {
+            record[0] = i;
+        } else {
+            record[0] = i / group;
+            record[k - 1] = i % group;
+        }
+    }
+}
+
+/// Nodes whose labels differ, unmarked, marked or both.
+fn fill_nodes(rng: &mut Rng, hall: &mut Hall) {
+    let count = rng.pick(&[0, 3, 40, 1008, 1022, 1023, 1024]);
+    let unmarked = rng.pick(&[0, 1, 8, 16]);
+    hall.memories[1][NODE_COUNT] = count;
+    for i in 0..count {
+        let node = &mut hall.memories[1][HEAD + i as usize * NODE_WIDTH..][..NODE_WIDTH];
+        node[0] = TAG_VALUE;
+        node[1] = 100_000 + i;
+        node[NODE_MARKS] = (rng.below(16) >= unmarked) as u32;
+        node[NODE_COUNTER] = 1 + rng.below(9);
+    }
+}
+
+/// Answers to different queries, with short lists.
+fn fill_answers(rng: &mut Rng, hall: &mut Hall) {
+    let count = rng.pick(&[0, 1, 62, 63, 64]);
+    hall.memories[2][COUNT] = count;
+    for i in 0..count {
+        let entry = &mut hall.memories[2][HEAD + i as usize * ENTRY_WIDTH..][..ENTRY_WIDTH];
+        entry[0] = 1;
+        entry[1] = i;
+        entry[ENTRY_LENGTH] = rng.pick(&[0, 1, 31, 32]);
+        entry[ENTRY_REVISIONS..ENTRY_LIST].fill(1 + rng.below(3));
+        entry[ENTRY_LIST..].fill(i);
+    }
+}
+
+/// The floor and some counters near 4,294,967,103 or near the largest number.
+fn set_counters(rng: &mut Rng, hall: &mut Hall) {
+    let near = rng.pick(&[1, 1, WORN - 1, u32::MAX - 3]);
+    if near == 1 {
+        return;
+    }
+    if rng.chance(1, 2) {
+        hall.memories[1][FLOOR] = near + rng.below(3);
+    }
+    for i in 0..hall.get(1, NODE_COUNT) as usize {
+        if rng.chance(1, 2) {
+            hall.memories[1][HEAD + i * NODE_WIDTH + NODE_COUNTER] = near + rng.below(if near == WORN - 1 { 2 } else { 4 });
+        }
+    }
+    if near == WORN - 1 && rng.chance(1, 2) && hall.get(1, NODE_COUNT) > 0 {
+        hall.memories[1][HEAD + NODE_COUNTER] = WORN + rng.below(2);
+    }
+}
+
+/// One number of a hall changed: in a header, in an entry that is in use, or anywhere.
+pub fn damage(rng: &mut Rng, hall: &Hall) -> Call {
+    let memory = rng.below(4) as usize;
+    let used = match memory {
+        0 => hall.get(0, COUNT).min(RECORDS as u32) * hall.columns().min(4),
+        1 => hall.get(1, NODE_COUNT).min(NODES as u32) * NODE_WIDTH as u32,
+        2 => hall.get(2, COUNT).min(ANSWERS as u32) * ENTRY_WIDTH as u32,
+        _ => (DESKS * DESK_WIDTH) as u32,
+    };
+    let place = match rng.below(10) {
+        0 => rng.below(HEAD as u32),
+        1 => rng.below(hall.memories[memory].len() as u32),
+        _ => HEAD as u32 + damaged_entry(rng, memory, used),
+    };
+    let old = hall.get(memory, place as usize);
+    let value = match rng.below(7) {
+        0 => old.wrapping_add(1),
+        1 => old.wrapping_sub(1),
+        2 => old ^ 1 << rng.below(32),
+        3 => rng.any(),
+        4 => rng.below(4),
+        _ => rng.pick(&EDGES),
+    };
+    Call::Damage { memory: memory as u8, place, value }
+}
+
+/// A place in use; of a desk mostly one of the numbers that are not its list.
+fn damaged_entry(rng: &mut Rng, memory: usize, used: u32) -> u32 {
+    if memory == 3 && rng.chance(3, 4) {
+        return rng.below(DESKS as u32) * DESK_WIDTH as u32 + rng.below((DESK_ENTRY + ENTRY_LIST) as u32);
+    }
+    rng.below(used)
+}
+
+/// One of the 256 ways to give the four memories lengths 0, least - 1, least, least + 1.
+pub fn lengths(way: usize) -> [usize; 4] {
+    let mut rest = way;
+    LEAST.map(|least| {
+        let length = [0, least - 1, least, least + 1][rest % 4];
+        rest /= 4;
+        length
+    })
+}

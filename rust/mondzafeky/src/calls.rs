@@ -1,0 +1,56 @@
+//! The exported calls of the proved library, as they are declared in c/mondzafeky.h, and one safe function for each. All of this crate's unsafe
+//! code is here.
+//!
+//! Why each call below is sound: the library asks nothing of lengths, contents or numbers (its contracts have no `requires`), and proves that it
+//! reads and writes only inside the slices that it is lent. What is left to the caller is what Rust's types say already: each pointer is not
+//! null, aligned, and valid for its length, as a slice's pointer is, and a memory that is written overlaps no other, as each comes from a `&mut`
+//! of its own. The pointer of a slice of length 0 points to nothing; nothing is read or written through it. No pointer is kept after the call.
+use crate::Memories;
+
+/// What a call answers.
+#[repr(C)]
+#[derive(Clone, Copy, Debug, PartialEq, Eq)]
+pub struct Reply {
+    /// 0 accepted, 1 to 11 refused, 12 long, 13 full: see [`crate::number`].
+    pub number: u32,
+    /// How many records were answered: `count` times k numbers lie in the tray from its start.
+    pub count: u32,
+    /// What has ended: see [`crate::ending`].
+    pub ending: u32,
+}
+
+/// Declares an exported call, and defines the safe function over it.
+macro_rules! call {
+    ($export:ident, $name:ident $(, mut $lent:ident)? $(, num $n:ident)? $(, read $query:ident)?) => {
+        extern "C" {
+            #[allow(clippy::too_many_arguments)]
+            fn $export(
+                table: *mut u32, table_len: usize, nodes: *mut u32, nodes_len: usize,
+                answers: *mut u32, answers_len: usize, desks: *mut u32, desks_len: usize,
+                $($lent: *mut u32, lent_len: usize,)? $($n: u32,)? $($query: *const u32, query_len: usize,)?
+            ) -> Reply;
+        }
+
+        pub(crate) fn $name(m: &mut Memories<'_> $(, $lent: &mut [u32])? $(, $n: u32)? $(, $query: &[u32])?) -> Reply {
+            // SAFETY: every pointer and length is that of a slice borrowed until the call returns, each mutable one by a `&mut` of its own, so they
+            // are valid and do not overlap; the export asks nothing else (see the head of this file).
+            unsafe {
+                $export(
+                    m.table.as_mut_ptr(), m.table.len(), m.nodes.as_mut_ptr(), m.nodes.len(),
+                    m.answers.as_mut_ptr(), m.answers.len(), m.desks.as_mut_ptr(), m.desks.len(),
+                    $($lent.as_mut_ptr(), $lent.len(),)? $($n,)? $($query.as_ptr(), $query.len(),)?
+                )
+            }
+        }
+    };
+}
+
+call!(mondzafeky_open, open, num k);
+call!(mondzafeky_begin_read, begin_read, num desk, read query);
+call!(mondzafeky_begin_insert, begin_insert, num desk, read query);
+call!(mondzafeky_begin_delete, begin_delete, num desk, read query);
+call!(mondzafeky_step, step, mut tray, num desk);
+call!(mondzafeky_abandon, abandon, num desk);
+call!(mondzafeky_evict_answer, evict_answer, num place);
+call!(mondzafeky_evict_node, evict_node, num place);
+call!(mondzafeky_renew, renew);

@@ -1,0 +1,159 @@
+//! Cached query answers that are never stale: safe calls over the proved library.
+//!
+//! One table of records of one to four columns, filed answers, and revision nodes that tell which answers still hold. Twelve desks each have at
+//! most one read or write under way and move it by single steps, mixed in every order. docs/CALLS.md has the calls, docs/LAYOUT.md what stands
+//! where in the memories.
+//!
+//! Every function takes memories of any length and contents and any arguments, and ends. What a call does to every number of every memory is
+//! proved in the library; this crate only hands the slices over. It allocates nothing.
+//!
+//! ```
+//! let (mut table, mut nodes) = ([0; mondzafeky::TABLE_LEAST], [0; mondzafeky::NODES_LEAST]);
+//! let (mut answers, mut desks) = ([0; mondzafeky::ANSWERS_LEAST], [0; mondzafeky::DESKS_LEAST]);
+//! let mut hall = mondzafeky::Memories { table: &mut table, nodes: &mut nodes, answers: &mut answers, desks: &mut desks };
+//! assert_eq!(hall.open(1).number, mondzafeky::number::ACCEPTED);
+//! assert_eq!(hall.begin_read(0, &[1, 5]).number, mondzafeky::number::ACCEPTED);
+//! let mut tray = [0; mondzafeky::TRAY_LEAST];
+//! let reply = hall.run(&mut tray, 0);
+//! assert_eq!((reply.count, reply.ending), (0, mondzafeky::ending::FROM_TABLE));
+//! ```
+#![deny(unsafe_op_in_unsafe_fn)]
+#![warn(missing_docs)]
+
+mod calls;
+
+pub use calls::Reply;
+
+/// The least length of the table memory, in 32-bit numbers, as of all that follow.
+pub const TABLE_LEAST: usize = 8_200;
+/// The least length of the nodes memory.
+pub const NODES_LEAST: usize = 8_200;
+/// The least length of the answers memory.
+pub const ANSWERS_LEAST: usize = 10_000;
+/// The least length of the desks memory.
+pub const DESKS_LEAST: usize = 2_000;
+/// The least length of a tray.
+pub const TRAY_LEAST: usize = 128;
+/// How many desks there are: 0 to 11.
+pub const DESKS: u32 = 12;
+/// The most records that a read lists.
+pub const LIST: u32 = 32;
+
+/// The numbers that a call returns in [`Reply::number`]. 1 to 11 are refusals: no memory is altered.
+pub mod number {
+    /// The call was accepted.
+    pub const ACCEPTED: u32 = 0;
+    /// A lent memory is below its least length.
+    pub const SHORT: u32 = 1;
+    /// k not 1 to 4 at opening; not a query of k columns; an insert with a star.
+    pub const COLUMNS: u32 = 2;
+    /// The memories hold what no call leaves there.
+    pub const UNSOUND: u32 = 3;
+    /// The desk is above 11.
+    pub const NO_DESK: u32 = 4;
+    /// A begin at a busy desk.
+    pub const TAKEN: u32 = 5;
+    /// A step or an abandoning at an idle desk.
+    pub const IDLE: u32 = 6;
+    /// An abandoning of a write after its table step.
+    pub const COMMITTED: u32 = 7;
+    /// No answer or node at that place.
+    pub const NO_ENTRY: u32 = 8;
+    /// A write is pending at that node.
+    pub const MARKED: u32 = 9;
+    /// A write begins while the floor or a counter is too high: renew.
+    pub const WORN: u32 = 10;
+    /// A renewal with a busy desk.
+    pub const OCCUPIED: u32 = 11;
+    /// The read has ended: more than 32 records match, and the tray is untouched.
+    pub const LONG: u32 = 12;
+    /// The insert has ended: the table held 2,048 records and not this one.
+    pub const FULL: u32 = 13;
+}
+
+/// What has ended, in [`Reply::ending`].
+pub mod ending {
+    /// Nothing has ended, or the number says what.
+    pub const NONE: u32 = 0;
+    /// A read was answered with a filed answer.
+    pub const FROM_FILE: u32 = 1;
+    /// A read was answered from the table.
+    pub const FROM_TABLE: u32 = 2;
+    /// A write has ended and changed the table.
+    pub const CHANGED: u32 = 3;
+    /// A write has ended and did not change the table.
+    pub const UNCHANGED: u32 = 4;
+}
+
+/// The four lent memories. Lend each call the same four, as the call before left them: that is what the promises about a history ask. A call on
+/// others is just as safe, and does what its definition says of their contents.
+#[derive(Debug)]
+pub struct Memories<'a> {
+    /// The records, ascending.
+    pub table: &'a mut [u32],
+    /// The floor and the revision nodes.
+    pub nodes: &'a mut [u32],
+    /// The filed answers.
+    pub answers: &'a mut [u32],
+    /// The number of columns, and what is under way at each desk.
+    pub desks: &'a mut [u32],
+}
+
+impl Memories<'_> {
+    /// Opens a hall of `k` columns, 1 to 4: no records, no nodes, no answers, every desk idle. Refusals: 1, 2.
+    pub fn open(&mut self, k: u32) -> Reply {
+        calls::open(self, k)
+    }
+
+    /// Begins a read. `query` has for each column a mark and a value: mark 1 names the value, mark 0 is a star and its value is 0. Refusals: 1 to 5.
+    pub fn begin_read(&mut self, desk: u32, query: &[u32]) -> Reply {
+        calls::begin_read(self, desk, query)
+    }
+
+    /// Begins an insert of the record that `query` names, a value in every column. Refusals: 1 to 5, 10.
+    pub fn begin_insert(&mut self, desk: u32, query: &[u32]) -> Reply {
+        calls::begin_insert(self, desk, query)
+    }
+
+    /// Begins a delete of every record that `query` matches. Refusals: 1 to 5, 10.
+    pub fn begin_delete(&mut self, desk: u32, query: &[u32]) -> Reply {
+        calls::begin_delete(self, desk, query)
+    }
+
+    /// One step of what is under way at the desk. An answer writes `count` records of k numbers each from the tray's start, and nothing else of
+    /// it. Refusals: 1 (the tray too), 3, 4, 6; ends a read with 12, an insert with 13.
+    pub fn step(&mut self, tray: &mut [u32], desk: u32) -> Reply {
+        calls::step(self, tray, desk)
+    }
+
+    /// Gives up a read, or a write before its table step. Refusals: 1, 3, 4, 6, 7.
+    pub fn abandon(&mut self, desk: u32) -> Reply {
+        calls::abandon(self, desk)
+    }
+
+    /// Puts out the filed answer at `place`, 0 the oldest. Refusals: 1, 3, 8.
+    pub fn evict_answer(&mut self, place: u32) -> Reply {
+        calls::evict_answer(self, place)
+    }
+
+    /// Puts out the node at `place`, 0 the oldest, if no write is pending there. Refusals: 1, 3, 8, 9.
+    pub fn evict_node(&mut self, place: u32) -> Reply {
+        calls::evict_node(self, place)
+    }
+
+    /// With every desk idle: empties answers and nodes; the table stays. Refusals: 1, 3, 11.
+    pub fn renew(&mut self) -> Reply {
+        calls::renew(self)
+    }
+
+    /// Steps a desk until its read or write has ended, or a step is refused: at most 33 steps on memories that a history of calls left. The last
+    /// step's reply.
+    pub fn run(&mut self, tray: &mut [u32], desk: u32) -> Reply {
+        loop {
+            let reply = self.step(tray, desk);
+            if reply.number != number::ACCEPTED || reply.ending != ending::NONE {
+                return reply;
+            }
+        }
+    }
+}

@@ -1,0 +1,49 @@
+//! The answers memory: fetch, file, put out (document 01, "One desk, step by step"). Leans on layout.
+//! The count in memory is known to be at most 64 and the memory to be long enough: refusals come first.
+
+use crate::layout::*;
+
+pub type Entry = [u32; ENTRY_WIDTH];
+
+pub fn all(answers: &[u32]) -> &[Entry] {
+    &answers[HEAD..ANSWERS_LEAST].as_chunks().0[..answers[COUNT] as usize]
+}
+
+fn has_key_of(entry: &Entry, own: &Entry) -> bool {
+    entry[..KEY_WIDTH] == own[..KEY_WIDTH]
+}
+
+/// The first answer filed for the same query whose revision at each of `looks` nodes is at least the one noted in `own`.
+pub fn fetch<'a>(answers: &'a [u32], own: &Entry, looks: usize) -> Option<&'a Entry> {
+    let revisions = ENTRY_REVISIONS..ENTRY_REVISIONS + looks;
+    let holds =
+        |entry: &&Entry| has_key_of(entry, own) && entry[revisions.clone()].iter().zip(&own[revisions.clone()]).all(|(filed, noted)| filed >= noted);
+    all(answers).iter().find(holds)
+}
+
+/// The answer at a place is removed and the rest close up.
+pub fn put_out(answers: &mut [u32], place: usize) {
+    let last = answers[COUNT] as usize - 1;
+    answers.copy_within(HEAD + (place + 1) * ENTRY_WIDTH..HEAD + (last + 1) * ENTRY_WIDTH, HEAD + place * ENTRY_WIDTH);
+    answers[HEAD + last * ENTRY_WIDTH..HEAD + (last + 1) * ENTRY_WIDTH].fill(0);
+    answers[COUNT] = last as u32;
+}
+
+/// The answer to the same query is taken out; failing that, if 64 are kept, the oldest is; this one goes last.
+pub fn file(answers: &mut [u32], own: &Entry) {
+    if let Some(place) = all(answers).iter().position(|entry| has_key_of(entry, own)) {
+        put_out(answers, place);
+    } else if answers[COUNT] as usize == ANSWERS {
+        put_out(answers, 0);
+    }
+    let place = HEAD + answers[COUNT] as usize * ENTRY_WIDTH;
+    answers[place..place + ENTRY_WIDTH].copy_from_slice(own);
+    answers[COUNT] += 1;
+}
+
+/// Empties the memory, as far as it is in use.
+pub fn renew(answers: &mut [u32]) {
+    let used = answers[COUNT] as usize * ENTRY_WIDTH;
+    answers[HEAD..HEAD + used].fill(0);
+    answers[COUNT] = 0;
+}

@@ -1,0 +1,183 @@
+//! The twin: the rules of document 01 on the memories of docs/LAYOUT.md, in plain Rust, unproved. It shares that page with the
+//! library and nothing else. Exact for any contents, lengths and arguments, so that the two can be compared number for number.
+//! A fault can be built in, to see that the comparing and the checking find it; the plain twin does not pay for that.
+
+pub mod answers;
+pub mod layout;
+pub mod nodes;
+pub mod query;
+mod refusals;
+mod steps;
+pub mod table;
+
+use layout::*;
+use query::Query;
+
+/// Document 01, "Faults a bench would show", and a sixth: looks that pay no heed to marks.
+#[derive(Clone, Copy, PartialEq, Eq, Debug)]
+#[repr(u8)]
+pub enum Fault {
+    None,
+    /// a write raises before its table step only, and marks nothing
+    EarlyRaise,
+    /// a node that is added has counter 1, not the floor
+    BackAtOne,
+    /// one bit for marks: the first of two writers to finish clears it
+    OneBit,
+    /// the revisions are noted afresh when filing
+    LateLook,
+    /// a write's changed value becomes a star and that star a ?
+    Stacked,
+    /// looks see no marks
+    NoMarks,
+}
+
+/// The number for a plain twin, to be given as `Memories<'_, PLAIN>` where it is not the default.
+pub const PLAIN: u8 = Fault::None as u8;
+
+/// What a call returns: the paper's number, how many records were answered, and what ended: 0 nothing (or the number says it),
+/// 1 answered from file, 2 answered from the table, 3 a write ended and changed the table, 4 a write ended and did not.
+#[derive(Clone, Copy, PartialEq, Eq, Debug)]
+pub struct Reply {
+    pub number: u32,
+    pub count: u32,
+    pub ending: u32,
+}
+
+impl Reply {
+    const ACCEPTED: Reply = Reply::refused(0);
+
+    /// 1 to 13, which have no count; 0 where nothing ended.
+    const fn refused(number: u32) -> Reply {
+        Reply { number, count: 0, ending: 0 }
+    }
+
+    fn answered(count: usize, from_file: bool) -> Reply {
+        Reply { number: 0, count: count as u32, ending: if from_file { 1 } else { 2 } }
+    }
+
+    fn ended(changed: bool) -> Reply {
+        Reply { number: 0, count: 0, ending: if changed { 3 } else { 4 } }
+    }
+}
+
+/// The four lent memories.
+pub struct Memories<'a, const FAULT: u8 = PLAIN> {
+    pub table: &'a mut [u32],
+    pub nodes: &'a mut [u32],
+    pub answers: &'a mut [u32],
+    pub desks: &'a mut [u32],
+}
+
+impl<const FAULT: u8> Memories<'_, FAULT> {
+    pub fn open(&mut self, k: u32) -> Reply {
+        if self.is_short() {
+            return Reply::refused(1);
+        }
+        if !(1..=4).contains(&k) {
+            return Reply::refused(2);
+        }
+        self.table[..TABLE_LEAST].fill(0);
+        self.nodes[..NODES_LEAST].fill(0);
+        self.answers[..ANSWERS_LEAST].fill(0);
+        self.desks[..DESKS_LEAST].fill(0);
+        self.nodes[FLOOR] = 1;
+        self.desks[COLUMNS] = k;
+        Reply::ACCEPTED
+    }
+
+    pub fn begin_read(&mut self, desk: u32, query: &[u32]) -> Reply {
+        self.begin(READ, desk, query)
+    }
+
+    pub fn begin_insert(&mut self, desk: u32, query: &[u32]) -> Reply {
+        self.begin(INSERT, desk, query)
+    }
+
+    pub fn begin_delete(&mut self, desk: u32, query: &[u32]) -> Reply {
+        self.begin(DELETE, desk, query)
+    }
+
+    fn begin(&mut self, kind: u32, desk: u32, asked: &[u32]) -> Reply {
+        let refusal = self.begin_refusal(kind, desk, asked);
+        if refusal != 0 {
+            return Reply::refused(refusal);
+        }
+        let key = Query::arrived(self.desks[COLUMNS] as usize, asked).key();
+        let own = self.desk_mut(desk);
+        own[DESK_KIND] = kind;
+        own[DESK_ENTRY..DESK_ENTRY + KEY_WIDTH].copy_from_slice(&key);
+        Reply::ACCEPTED
+    }
+
+    /// One step of what is under way at the desk. Only an answer writes to the tray.
+    pub fn step(&mut self, tray: &mut [u32], desk: u32) -> Reply {
+        if self.is_short() || tray.len() < TRAY_LEAST {
+            return Reply::refused(1);
+        }
+        match self.busy_query(desk) {
+            Err(refusal) => Reply::refused(refusal),
+            Ok(query) if self.desk(desk)[DESK_KIND] == READ => self.read_step(tray, desk, &query),
+            Ok(query) => self.write_step(desk, &query),
+        }
+    }
+
+    pub fn abandon(&mut self, desk: u32) -> Reply {
+        if self.is_short() {
+            return Reply::refused(1);
+        }
+        let query = match self.busy_query(desk) {
+            Err(refusal) => return Reply::refused(refusal),
+            Ok(query) => query,
+        };
+        let (kind, steps) = (self.desk(desk)[DESK_KIND], self.desk(desk)[DESK_STEPS]);
+        if kind != READ && steps > query.marks() {
+            return Reply::refused(7);
+        }
+        if kind != READ && nodes::take_back::<FAULT>(self.nodes, &query, steps).is_none() {
+            return Reply::refused(3);
+        }
+        self.desk_mut(desk).fill(0);
+        Reply::ACCEPTED
+    }
+
+    pub fn evict_answer(&mut self, place: u32) -> Reply {
+        let refusal = self.hall_refusal();
+        if refusal != 0 {
+            return Reply::refused(refusal);
+        }
+        if place >= self.answers[COUNT] {
+            return Reply::refused(8);
+        }
+        answers::put_out(self.answers, place as usize);
+        Reply::ACCEPTED
+    }
+
+    pub fn evict_node(&mut self, place: u32) -> Reply {
+        let refusal = self.hall_refusal();
+        if refusal != 0 {
+            return Reply::refused(refusal);
+        }
+        match nodes::all(self.nodes).get(place as usize) {
+            None => Reply::refused(8),
+            Some(node) if node[NODE_MARKS] != 0 => Reply::refused(9),
+            Some(_) => {
+                nodes::put_out(self.nodes, place as usize);
+                Reply::ACCEPTED
+            }
+        }
+    }
+
+    pub fn renew(&mut self) -> Reply {
+        let refusal = self.hall_refusal();
+        if refusal != 0 {
+            return Reply::refused(refusal);
+        }
+        if self.desks[HEAD..HEAD + DESKS * DESK_WIDTH].iter().any(|number| *number != 0) {
+            return Reply::refused(11);
+        }
+        nodes::renew(self.nodes);
+        answers::renew(self.answers);
+        Reply::ACCEPTED
+    }
+}

@@ -1,0 +1,95 @@
+//! What the controller turns down, the smallest number that applies (document 01). Leans on layout, answers and query.
+//! What only a step or an abandoning can find at a node stands in nodes.
+
+use crate::layout::*;
+use crate::query::{self, Query};
+use crate::{answers, nodes, Memories};
+
+impl<const FAULT: u8> Memories<'_, FAULT> {
+    /// a desk below 12, in a memory that is long enough
+    pub(crate) fn desk(&self, desk: u32) -> &[u32; DESK_WIDTH] {
+        &self.desks[HEAD..DESKS_LEAST].as_chunks().0[desk as usize]
+    }
+
+    pub(crate) fn desk_mut(&mut self, desk: u32) -> &mut [u32; DESK_WIDTH] {
+        &mut self.desks[HEAD..DESKS_LEAST].as_chunks_mut().0[desk as usize]
+    }
+
+    /// 1: a lent memory is below its least length.
+    pub(crate) fn is_short(&self) -> bool {
+        self.table.len() < TABLE_LEAST || self.nodes.len() < NODES_LEAST || self.answers.len() < ANSWERS_LEAST || self.desks.len() < DESKS_LEAST
+    }
+
+    /// 3: k, an entry count or a filed list's length is out of range.
+    fn is_unsound(&self) -> bool {
+        !(1..=4).contains(&self.desks[COLUMNS])
+            || self.table[COUNT] as usize > RECORDS
+            || self.nodes[NODE_COUNT] as usize > NODES
+            || self.answers[COUNT] as usize > ANSWERS
+            || answers::all(self.answers).iter().any(|entry| entry[ENTRY_LENGTH] as usize > LIST)
+    }
+
+    /// 1 or 3 of the memories as a whole, or 0.
+    pub(crate) fn hall_refusal(&self) -> u32 {
+        if self.is_short() {
+            1
+        } else if self.is_unsound() {
+            3
+        } else {
+            0
+        }
+    }
+
+    fn is_idle(&self, desk: u32) -> bool {
+        self.desk(desk).iter().all(|number| *number == 0)
+    }
+
+    /// The query of a desk that is not idle, if its kind, query, step and list length are in range.
+    fn sound_query(&self, desk: u32) -> Option<Query> {
+        let own = self.desk(desk);
+        let kind = own[DESK_KIND];
+        let query = Query::kept(self.desks[COLUMNS] as usize, own[DESK_ENTRY..].first_chunk()?)?;
+        let steps = if kind == READ { query.looks() + 3 } else { 2 * query.marks() + 1 };
+        let sound = (READ..=DELETE).contains(&kind)
+            && (kind != INSERT || query.names_all())
+            && own[DESK_STEPS] < steps
+            && own[DESK_ENTRY + ENTRY_LENGTH] as usize <= LIST;
+        sound.then_some(query)
+    }
+
+    /// For a begin, in memories of any contents.
+    pub(crate) fn begin_refusal(&self, kind: u32, desk: u32, asked: &[u32]) -> u32 {
+        if self.is_short() {
+            1
+        } else if query::is_refused(self.desks[COLUMNS], asked, kind == INSERT) {
+            2
+        } else if self.is_unsound() {
+            3
+        } else if desk as usize >= DESKS {
+            4
+        } else if !self.is_idle(desk) {
+            if self.sound_query(desk).is_some() {
+                5
+            } else {
+                3
+            }
+        } else if kind != READ && nodes::is_worn(self.nodes) {
+            10
+        } else {
+            0
+        }
+    }
+
+    /// For a step or an abandoning, in memories that are long enough: the query of the busy desk, or 3, 4 or 6.
+    pub(crate) fn busy_query(&self, desk: u32) -> Result<Query, u32> {
+        if self.is_unsound() {
+            Err(3)
+        } else if desk as usize >= DESKS {
+            Err(4)
+        } else if self.is_idle(desk) {
+            Err(6)
+        } else {
+            self.sound_query(desk).ok_or(3)
+        }
+    }
+}

@@ -1,0 +1,218 @@
+//! The cases of document 01, "On each side of a line", on the twin: 1 to 5 on labels, 6 to 12 on memories.
+
+use twin::layout::*;
+use twin::query::{Label, Query};
+use twin::{Memories, Reply, PLAIN};
+
+const ACCEPTED: Reply = Reply { number: 0, count: 0, ending: 0 };
+
+struct Hall {
+    table: Vec<u32>,
+    nodes: Vec<u32>,
+    answers: Vec<u32>,
+    desks: Vec<u32>,
+    tray: Vec<u32>,
+}
+
+impl Hall {
+    fn open(k: u32) -> Hall {
+        let mut hall = Hall {
+            table: vec![7; TABLE_LEAST],
+            nodes: vec![7; NODES_LEAST],
+            answers: vec![7; ANSWERS_LEAST],
+            desks: vec![7; DESKS_LEAST],
+            tray: vec![7; TRAY_LEAST],
+        };
+        assert_eq!(hall.lend().open(k), ACCEPTED);
+        hall
+    }
+
+    fn lend(&mut self) -> Memories<'_> {
+        Memories { table: &mut self.table, nodes: &mut self.nodes, answers: &mut self.answers, desks: &mut self.desks }
+    }
+
+    fn step(&mut self, desk: u32) -> Reply {
+        let mut m: Memories<'_> = Memories { table: &mut self.table, nodes: &mut self.nodes, answers: &mut self.answers, desks: &mut self.desks };
+        m.step(&mut self.tray, desk)
+    }
+
+    fn steps(&mut self, desk: u32, count: u32) {
+        for _ in 0..count {
+            assert_eq!(self.step(desk), ACCEPTED);
+        }
+    }
+
+    /// Steps until something ends: after how many steps, and how.
+    fn run(&mut self, desk: u32) -> (u32, Reply) {
+        let mut made = 1;
+        loop {
+            let reply = self.step(desk);
+            if reply != ACCEPTED {
+                return (made, reply);
+            }
+            made += 1;
+        }
+    }
+
+    fn read(&mut self, desk: u32, query: &[u32]) -> (u32, Reply) {
+        assert_eq!(self.lend().begin_read(desk, query), ACCEPTED);
+        self.run(desk)
+    }
+
+    fn insert(&mut self, desk: u32, query: &[u32]) -> (u32, Reply) {
+        assert_eq!(self.lend().begin_insert(desk, query), ACCEPTED);
+        self.run(desk)
+    }
+
+    fn node(&self, place: usize) -> &[u32] {
+        &self.nodes[HEAD + place * NODE_WIDTH..][..NODE_WIDTH]
+    }
+
+    fn filed_revisions(&self, place: usize, looks: usize) -> &[u32] {
+        &self.answers[HEAD + place * ENTRY_WIDTH + ENTRY_REVISIONS..][..looks]
+    }
+}
+
+fn from_table(count: u32) -> Reply {
+    Reply { number: 0, count, ending: 2 }
+}
+
+fn from_file(count: u32) -> Reply {
+    Reply { number: 0, count, ending: 1 }
+}
+
+/// A column for each word: a number, * or ?.
+fn label(text: &str) -> Label {
+    let mut label = [0; LABEL_WIDTH];
+    for (c, word) in text.split(' ').enumerate() {
+        let tag = match word {
+            "*" => TAG_STAR,
+            "?" => TAG_ANY,
+            value => {
+                label[1 + c] = value.parse().unwrap();
+                TAG_VALUE
+            }
+        };
+        label[0] |= tag << (8 * c);
+    }
+    label
+}
+
+fn read_labels(asked: &[u32]) -> Vec<Label> {
+    let query = Query::arrived(asked.len() / 2, asked);
+    (0..query.looks()).map(|n| query.read_label(n)).collect()
+}
+
+fn write_labels(asked: &[u32]) -> Vec<Label> {
+    let query = Query::arrived(asked.len() / 2, asked);
+    (0..query.marks()).map(|n| query.write_label::<PLAIN>(n)).collect()
+}
+
+#[test]
+fn cases_1_to_3_labels() {
+    let read = ["* 3 2", "* ? 2", "* 3 ?", "* ? ?"];
+    assert_eq!(read_labels(&[0, 0, 1, 3, 1, 2]), read.map(label));
+    let write = ["* 2 3", "? 2 3", "* * 3", "? * 3", "* 2 *", "? 2 *", "* * *", "? * *"];
+    assert_eq!(write_labels(&[0, 0, 1, 2, 1, 3]), write.map(label));
+    assert_eq!(read_labels(&[0, 0, 0, 0, 0, 0]), [label("* * *")]);
+}
+
+#[test]
+fn cases_4_and_5_shared_nodes() {
+    let write = write_labels(&[1, 2, 0, 0, 1, 0]);
+    let shared = |read: &[u32]| -> Vec<Label> { read_labels(read).into_iter().filter(|l| write.contains(l)).collect() };
+    assert_eq!(shared(&[0, 0, 1, 2, 1, 0]), [label("* ? 0")]);
+    assert!(shared(&[0, 0, 1, 2, 1, 1]).is_empty());
+}
+
+#[test]
+fn case_6_answered_at_the_fifth_step_then_at_the_third() {
+    let mut hall = Hall::open(1);
+    assert_eq!(hall.read(0, &[1, 5]), (5, from_table(0)));
+    assert_eq!(hall.read(0, &[1, 5]), (3, from_file(0)));
+}
+
+#[test]
+fn case_7_an_insert_between_looks_and_table() {
+    let mut hall = Hall::open(1);
+    hall.lend().begin_read(0, &[1, 5]);
+    hall.steps(0, 2);
+    assert_eq!(hall.insert(1, &[1, 5]), (5, Reply { number: 0, count: 0, ending: 3 }));
+    hall.steps(0, 2);
+    assert_eq!(hall.step(0), from_table(1));
+    assert_eq!(hall.tray[..2], [5, 7]);
+    assert_eq!(hall.filed_revisions(0, 2), [1, 1]);
+    hall.lend().begin_read(0, &[1, 5]);
+    hall.steps(0, 2);
+    assert_eq!(hall.desks[HEAD + DESK_ENTRY + ENTRY_REVISIONS..][..2], [2, 1]);
+    hall.steps(0, 2);
+    assert_eq!(hall.step(0), from_table(1));
+    assert_eq!(hall.filed_revisions(0, 2), [2, 1]);
+}
+
+#[test]
+fn case_8_a_mark_seen() {
+    let mut hall = Hall::open(1);
+    hall.lend().begin_insert(1, &[1, 5]);
+    hall.steps(1, 1);
+    assert_eq!(hall.read(0, &[1, 5]), (4, from_table(0)));
+    assert_eq!(hall.answers[COUNT], 0);
+}
+
+#[test]
+fn case_9_a_node_leaves_and_comes_back() {
+    let mut hall = Hall::open(1);
+    for _ in 0..6 {
+        hall.insert(1, &[1, 5]);
+    }
+    assert_eq!(hall.node(0)[..7], [TAG_VALUE, 5, 0, 0, 0, 0, 7]);
+    assert_eq!(hall.read(0, &[1, 5]), (5, from_table(1)));
+    assert_eq!(hall.lend().evict_node(0), ACCEPTED);
+    assert_eq!(hall.nodes[FLOOR], 7);
+    assert_eq!(hall.read(0, &[1, 5]), (3, from_file(1)));
+    assert_eq!(hall.node(2)[..7], [TAG_VALUE, 5, 0, 0, 0, 0, 7]);
+}
+
+/// A table of `count` records 0, 1, .., with k columns of which only the first differs.
+fn filled(k: u32, count: u32) -> Hall {
+    let mut hall = Hall::open(k);
+    hall.table[COUNT] = count;
+    for i in 0..count {
+        hall.table[HEAD + (i * k) as usize] = i;
+    }
+    hall
+}
+
+#[test]
+fn case_10_32_records_are_listed_33_are_not() {
+    for k in 1..=4 {
+        let stars = vec![0; 2 * k as usize];
+        assert_eq!(filled(k, 32).read(0, &stars), (4, from_table(32)));
+        let mut long = filled(k, 33);
+        assert_eq!(long.read(0, &stars), (3, Reply { number: 12, count: 0, ending: 0 }));
+        assert!(long.tray.iter().all(|n| *n == 7) && long.desks[HEAD..].iter().all(|n| *n == 0));
+    }
+}
+
+#[test]
+fn case_11_a_full_table() {
+    let mut hall = filled(1, 2047);
+    assert_eq!(hall.insert(0, &[1, 5000]).1.ending, 3);
+    assert_eq!(hall.insert(0, &[1, 5000]).1, Reply { number: 0, count: 0, ending: 4 });
+    assert_eq!(hall.insert(0, &[1, 5001]).1, Reply { number: 13, count: 0, ending: 0 });
+    assert_eq!(hall.table[COUNT], 2048);
+}
+
+#[test]
+fn case_12_worn() {
+    for floor in [true, false] {
+        let mut hall = Hall::open(1);
+        hall.insert(0, &[1, 5]);
+        let place = if floor { FLOOR } else { HEAD + NODE_COUNTER };
+        hall.nodes[place] = 4_294_967_103;
+        assert_eq!(hall.lend().begin_delete(1, &[1, 5]), ACCEPTED);
+        hall.nodes[place] = 4_294_967_104;
+        assert_eq!(hall.lend().begin_insert(2, &[1, 5]).number, 10);
+        assert_eq!(hall.lend().begin_read(2, &[1, 5]), ACCEPTED);
+    }
+}
