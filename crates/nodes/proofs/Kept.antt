@@ -5,11 +5,11 @@ use mathlib.Core.Option.{Option, none, some}
 use Prim.Native.Nat.{ℕ, _<_}
 use native.Mathlib.Omega.{arith}
 use lib.ListN.{length, getD}
-use Rattle.rules.specs.Nodes.{Words, Store, store, evictNode, added, ensured, marked, raised, unmarked, unmarkedAll}
+use Rattle.rules.specs.Nodes.{Words, Store, store, evictNode, added, ensured, marked, raised, unmarkedAll}
 use Rattle.rules.specs.Memory.{storeIn, withStore}
-use Rattle.nodes.specs.Nodes.{Fit, tried, looked}
+use Rattle.nodes.specs.Nodes.{Fit, tried, looked, unmarkedAt}
 use Rattle.nodes.proofs.Stores.{Sized, Keeps, count-nodes, sized-in, keeps-store}
-use Rattle.nodes.proofs.Sizes.{sized-none, sized-evict, sized-added, sized-unmarked, made-present, sized-marked, sized-raised, sized-unmarked-all}
+use Rattle.nodes.proofs.Sizes.{sized-none, sized-evict, sized-added, sized-unmarked-at, made-present, sized-marked, sized-raised, sized-unmarked-all}
 
 module _ (s : List ℕ) (f : Fit s) where
   keeps-self : Keeps s s
@@ -24,8 +24,10 @@ module _ (s : List ℕ) (f : Fit s) where
       let l : length (storeIn s .nodes) ≡ getD s 1 0 = count-nodes s in
       keeps-store s (added p (storeIn s)) f (sized-added p (storeIn s) h (omega arith) (sized-in s f))
 
-  pub keeps-unmarked : (p : Words) → Keeps s (withStore s (unmarked p (storeIn s)))
-  keeps-unmarked p = keeps-store s (unmarked p (storeIn s)) f (sized-unmarked p (storeIn s) (sized-in s f))
+  pub keeps-unmarked-at : (i : ℕ) → i < getD s 1 0 → Keeps s (withStore s (unmarkedAt i (storeIn s)))
+  keeps-unmarked-at i h =
+      let l : length (storeIn s .nodes) ≡ getD s 1 0 = count-nodes s in
+      keeps-store s (unmarkedAt i (storeIn s)) f (sized-unmarked-at i (storeIn s) (omega arith) (sized-in s f))
 
   pub keeps-empty : Keeps s (withStore s (store 1 []))
   keeps-empty = keeps-store s (store 1 []) f (sized-none 1)

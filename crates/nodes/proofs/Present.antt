@@ -10,18 +10,24 @@ use native.Mathlib.Omega.{arith}
 use lib.Dec.{ltb, leb}
 use lib.ListN.{length, getD, set}
 use lib.Seq.{getD-set-other}
-use borrow.Author.Tests.{ltb-true, lt-ltb, le-ltb, le-leb, lt-leb}
-use Rattle.laws.proofs.Lists.{and-true, and-left, and-right, false-left, false-right, true-false}
+use borrow.Author.Tests.{lt-ltb, le-ltb, le-leb, lt-leb}
+use Rattle.laws.proofs.Lists.{and-true, false-left, false-right, true-false}
 use Rattle.rules.specs.Nodes.{Words, Store, store, pending, revision, withPending, withRevision, nodePlace, isPresent, nodeOf, withNode, evictNode, added, oldestFree, makeRoom, addedIn, ensured, markedIn, marked, isPending, unmarked, raised}
 use Rattle.rules.specs.Sizes.{maxNodes, maxPending, maxRevision}
 use Rattle.rules.specs.Memory.{storeIn, withStore}
 use Rattle.nodes.specs.declared.Sight.the-variants.{Seen, Stuck}
 use Rattle.nodes.specs.declared.Spot.the-variants.{At, Nowhere}
 use Rattle.nodes.specs.declared.Spot.{Spot}
-use Rattle.nodes.specs.Nodes.{Fit, Tried, did, tried, saw, looked, Placed, put, placed}
+use Rattle.nodes.specs.Nodes.{Fit, Tried, did, tried, saw, looked, Placed, put, placed, pendingSpot, unmarkedAt}
 use Rattle.nodes.proofs.Stores.{Sized, Keeps, count-nodes, sized-in, count-store, keeps-store, store-back, store-self, store-twice, store-word}
 use Rattle.nodes.proofs.Scans.{pending-at, revision-at}
 use Rattle.nodes.proofs.Sizes.{sized-word, sized-unmarked, length-word, place-word, Room, made-room, Present, made-present, added-place, added-more, sized-added}
+
+-- ---- one taken off node i
+pub unmark-at : (s : List ℕ) (i : ℕ) → Fit s → i < getD s 1 0 → set s (8 + i * 8 + 5) (getD s (8 + i * 8 + 5) 0 - 1) ≡ withStore s (unmarkedAt i (storeIn s))
+unfolding unmarkedAt withPending
+unmark-at s i f h =
+    sym (store-word s f i 5 (pending (getD (storeIn s .nodes) i []) - 1) h (omega arith) ∙ ap (λ (x : ℕ). set s (8 + i * 8 + 5) (x - 1)) (pending-at s i h))
 
 -- ---- the label's node at place i
 module _ (p : Words) (s : List ℕ) (i : ℕ) (e : i ≡ nodePlace p (storeIn s .nodes)) where
@@ -30,7 +36,7 @@ module _ (p : Words) (s : List ℕ) (i : ℕ) (e : i ≡ nodePlace p (storeIn s 
   missing h = let l = count-nodes s in le-ltb (nodePlace p (storeIn s .nodes)) (length (storeIn s .nodes)) (omega arith)
 
   -- a node that is missing has no pending write
-  pub pending-missing : getD s 1 0 ≤ i → false ≡ isPending p (storeIn s)
+  pending-missing : getD s 1 0 ≤ i → false ≡ isPending p (storeIn s)
   unfolding isPending
   pending-missing h = sym (false-left (isPresent p (storeIn s)) (ltb 0 (pending (nodeOf p (storeIn s)))) (missing h))
 
@@ -49,7 +55,7 @@ module _ (p : Words) (s : List ℕ) (i : ℕ) (e : i ≡ nodePlace p (storeIn s 
     revision-here : revision (nodeOf p (storeIn s)) ≡ getD s (8 + i * 8 + 6) 0
     revision-here = ap revision node-here ∙ revision-at s i h
 
-    pub pending-test : ltb 0 (getD s (8 + i * 8 + 5) 0) ≡ isPending p (storeIn s)
+    pending-test : ltb 0 (getD s (8 + i * 8 + 5) 0) ≡ isPending p (storeIn s)
     unfolding isPending
     pending-test = rw (there, pending-here)
 
@@ -58,22 +64,22 @@ module _ (p : Words) (s : List ℕ) (i : ℕ) (e : i ≡ nodePlace p (storeIn s 
     unfolding withNode nodeOf
     word-here j x f k = rw (← e) (store-word s f i j x h k)
 
-    pub unmark-here : Fit s → set s (8 + i * 8 + 5) (getD s (8 + i * 8 + 5) 0 - 1) ≡ withStore s (unmarked p (storeIn s))
-    unfolding unmarked withPending
-    unmark-here f = sym (word-here 5 (pending (nodeOf p (storeIn s)) - 1) f (omega arith) ∙ ap (λ (x : ℕ). set s (8 + i * 8 + 5) (x - 1)) pending-here)
+    unmark-here : Fit s → set s (8 + i * 8 + 5) (getD s (8 + i * 8 + 5) 0 - 1) ≡ withStore s (unmarked p (storeIn s))
+    unfolding unmarkedAt unmarked withNode nodeOf
+    unmark-here f = unmark-at s i f h ∙ ap (λ (j : ℕ). withStore s (unmarkedAt j (storeIn s))) e
 
-  -- one with a pending write is there
-  pub pending-there : isPending p (storeIn s) ≡ true → (i < getD s 1 0) × (0 < getD s (8 + i * 8 + 5) 0)
-  unfolding isPending isPresent
-  pending-there a =
-      let l = count-nodes s in
-      let x : Bool = ltb (nodePlace p (storeIn s .nodes)) (length (storeIn s .nodes)) in
-      let y : Bool = ltb 0 (pending (nodeOf p (storeIn s))) in
-      let b : nodePlace p (storeIn s .nodes) < length (storeIn s .nodes) = ltb-true (nodePlace p (storeIn s .nodes)) (length (storeIn s .nodes)) (and-left x y a) in
-      let h : i < getD s 1 0 = omega arith in
-      let d : 0 < pending (nodeOf p (storeIn s)) = ltb-true 0 (pending (nodeOf p (storeIn s))) (and-right x y a) in
-      let q : pending (nodeOf p (storeIn s)) ≡ getD s (8 + i * 8 + 5) 0 = pending-here h in
-      (h, omega arith)
+    -- where it stands, if it has a pending write
+    pub spot-idle : getD s (8 + i * 8 + 5) 0 ≡ 0 → Nowhere ≡ pendingSpot p (storeIn s)
+    unfolding pendingSpot
+    spot-idle z = rw (← pending-test, le-ltb 0 (getD s (8 + i * 8 + 5) 0) (omega arith))
+
+    pub spot-there : (getD s (8 + i * 8 + 5) 0 ≡ 0 → ⊥) → At i ≡ pendingSpot p (storeIn s)
+    unfolding pendingSpot
+    spot-there z = rw (← pending-test, lt-ltb 0 (getD s (8 + i * 8 + 5) 0) (omega arith)) (ap At e)
+
+  pub spot-missing : getD s 1 0 ≤ i → Nowhere ≡ pendingSpot p (storeIn s)
+  unfolding pendingSpot
+  spot-missing h = rw (← pending-missing h)
 
 -- ---- a raise
 raised-not : (p : Words) (s : List ℕ) → isPending p (storeIn s) && ltb (revision (nodeOf p (storeIn s))) maxRevision ≡ false → did false s ≡ tried s (raised p (storeIn s))

@@ -17,6 +17,7 @@ use Rattle.laws.proofs.Search.{place-le}
 use Rattle.laws.proofs.Rows.{wide-nil, wide-set, wide-without, wide-snoc, wide-at}
 use Rattle.rules.specs.Nodes.{Words, Node, Store, store, labelIn, pending, revision, withPending, withRevision, hasLabel, nodePlace, isPresent, nodeOf, withNode, evictNode, added, oldestFree, makeRoom, addedIn, ensured, markedIn, marked, isPending, unmarked, raised, unmarkedAll}
 use Rattle.rules.specs.Sizes.{maxNodes, maxPending, maxRevision}
+use Rattle.nodes.specs.Nodes.{unmarkedAt}
 use Rattle.nodes.proofs.Stores.{Sized}
 use Rattle.nodes.proofs.Places.{place-set, place-snoc, place-without}
 
@@ -68,9 +69,25 @@ place-word p t j x h =
     let n : Node = getD (t .nodes) (place (hasLabel p) (t .nodes)) [] in
     place-set (hasLabel p) (t .nodes) (place (hasLabel p) (t .nodes)) (set n j x) [] (label-word p n j x h)
 
+-- a mark taken back: every label's node stands where it stood
+pub place-unmarked : (p q : Words) (t : Store) → nodePlace q (unmarked p t .nodes) ≡ nodePlace q (t .nodes)
+unfolding nodePlace unmarked withPending withNode nodeOf
+place-unmarked p q t =
+    let n : Node = getD (t .nodes) (place (hasLabel p) (t .nodes)) [] in
+    place-set (hasLabel q) (t .nodes) (place (hasLabel p) (t .nodes)) (set n 5 (pending n - 1)) [] (label-word q n 5 (pending n - 1) (omega arith))
+
 pub sized-unmarked : (p : Words) (t : Store) → Sized t → Sized (unmarked p t)
 unfolding unmarked withPending
 sized-unmarked p t z = sized-word p t 5 (pending (nodeOf p t) - 1) z
+
+pub sized-unmarked-at : (i : ℕ) (t : Store) → i < length (t .nodes) → Sized t → Sized (unmarkedAt i t)
+unfolding unmarkedAt withPending
+sized-unmarked-at i t h z =
+    let n : Node = getD (t .nodes) i [] in
+    record {
+      wide = wide-set 8 (t .nodes) i (set n 5 (pending n - 1)) (z .wide) (word-length n 5 (pending n - 1) (wide-at 8 (t .nodes) i (z .wide) h));
+      few = rw length-set (z .few);
+    }
 
 -- ---- one out, one in
 without-le : (i : ℕ) (l : List Node) → length (without i l) ≤ length l

@@ -1,10 +1,10 @@
 -- What the functions over the nodes memory require of it and leave in it. Leans on the rules' Nodes and Memory. Definitions only. Assumes nothing.
-use mathlib.Core.Bool.{Bool, true, false}
-use mathlib.Core.List.{List}
+use mathlib.Core.Bool.{Bool, true, false, cond}
+use mathlib.Core.List.{List, []}
 use mathlib.Core.Option.{Option, none, some}
-use Prim.Native.Nat.{ℕ, _≤_}
-use lib.ListN.{length, getD}
-use Rattle.rules.specs.Nodes.{Words, Store, pending, revision, nodePlace, nodeOf}
+use Prim.Native.Nat.{ℕ, _-_, _≤_}
+use lib.ListN.{length, getD, set}
+use Rattle.rules.specs.Nodes.{Words, Store, store, pending, revision, withPending, nodePlace, nodeOf, isPending}
 use Rattle.rules.specs.Memory.{withStore}
 use Rattle.nodes.specs.declared.Sight.{Sight}
 use Rattle.nodes.specs.declared.Sight.the-variants.{Seen, Stuck}
@@ -51,3 +51,11 @@ put p m = record { spot = p; mem = m }
 unfoldable pub placed : Words → List ℕ → Option Store → Placed
 placed p s none = put Nowhere s
 placed p s (some t) = put (At (nodePlace p (t .nodes))) (withStore s t)
+
+-- ---- the label's node where it has a pending write
+unfoldable pub pendingSpot : Words → Store → Spot
+pendingSpot p s = cond (isPending p s) (At (nodePlace p (s .nodes))) Nowhere
+
+-- ---- the taking back of one mark at node i: the rules' `unmarked` with the place in place of the label
+unfoldable pub unmarkedAt : ℕ → Store → Store
+unmarkedAt i s = store (s .floor) (set (s .nodes) i (withPending (getD (s .nodes) i []) (pending (getD (s .nodes) i []) - 1)))

@@ -7,9 +7,9 @@ ghost use mathlib.Core.List.{[]};
 ghost use Prim.Native.Nat.{_+_, _≤_, _<_, max};
 ghost use lib.ListN.{length, getD, take, drop};
 ghost use Rattle.lists.specs.Lists.{same};
-ghost use Rattle.rules.specs.Nodes.{store, nodePlace, oldestFree, evictNode, added, makeRoom, ensured, marked, raised, isPending, unmarked, isWorn};
+ghost use Rattle.rules.specs.Nodes.{store, nodePlace, oldestFree, evictNode, added, makeRoom, ensured, marked, raised, pending, isWorn};
 ghost use Rattle.rules.specs.Memory.{storeIn, withStore};
-ghost use Rattle.nodes.specs.Nodes.{Fit, did, tried, saw, looked, put, placed};
+ghost use Rattle.nodes.specs.Nodes.{Fit, did, tried, saw, looked, put, placed, pendingSpot, unmarkedAt};
 
 // The most nodes that are kept.
 const NODES: usize = Hall::NODES as usize;
@@ -20,33 +20,24 @@ pub enum Sight {
     Stuck,
 }
 
-// Where a node stands that was to be made present.
-enum Spot {
+// Where a node stands, or that there is none.
+pub enum Spot {
     At(usize),
     Nowhere,
 }
 
-// Whether the label's five numbers stand at `at`.
+// Whether the label's five numbers stand at `at`. Tags and first value are compared at once: many nodes agree in one of them and few in both,
+// so a branch on each would be badly predicted.
 fn has_label(nodes: &[u32], at: usize, label: &[u32]) -> bool
     requires { ⌜ (at + 5 ≤ length (now nodes)) × (length (now label) ≡ 5) ⌝ }
     ensures { λ r. ⌜ r ≡ same (take 5 (drop at (now (nodes .entry)))) (now (label .entry)) ⌝ }
 {
-    if nodes[at] != label[0] {
+    let first = (nodes[at] ^ label[0]) | (nodes[at + 1] ^ label[1]);
+    if first != 0 {
         return false;
     }
-    if nodes[at + 1] != label[1] {
-        return false;
-    }
-    if nodes[at + 2] != label[2] {
-        return false;
-    }
-    if nodes[at + 3] != label[3] {
-        return false;
-    }
-    if nodes[at + 4] != label[4] {
-        return false;
-    }
-    true
+    let rest = (nodes[at + 2] ^ label[2]) | (nodes[at + 3] ^ label[3]) | (nodes[at + 4] ^ label[4]);
+    rest == 0
 }
 
 // The place of the label's node, or the number of nodes where there is none.
@@ -194,24 +185,26 @@ pub fn mark(nodes: &mut [u32], label: &[u32]) -> bool
     true
 }
 
-// Whether the label's node is there and has a pending write.
-pub fn is_pending(nodes: &[u32], label: &[u32]) -> bool
+// The place of the label's node where it is there and has a pending write.
+pub fn find_pending(nodes: &[u32], label: &[u32]) -> Spot
     requires { ⌜ Fit (now nodes) × (length (now label) ≡ 5) ⌝ }
-    ensures { λ r. ⌜ r ≡ isPending (now (label .entry)) (storeIn (now (nodes .entry))) ⌝ }
+    ensures { λ r. ⌜ r ≡ pendingSpot (now (label .entry)) (storeIn (now (nodes .entry))) ⌝ }
 {
     let i = find(nodes, label);
     if nodes[1] as usize <= i {
-        return false;
+        return Spot::Nowhere;
     }
-    0 < nodes[8 + i * 8 + 5]
+    if nodes[8 + i * 8 + 5] == 0 {
+        return Spot::Nowhere;
+    }
+    Spot::At(i)
 }
 
-// One pending write fewer at the label's node.
-pub fn unmark(nodes: &mut [u32], label: &[u32])
-    requires { ⌜ Fit (now nodes) × ((length (now label) ≡ 5) × (isPending (now label) (storeIn (now nodes)) ≡ true)) ⌝ }
-    ensures { λ _. ⌜ now (nodes .exit) ≡ withStore (now (nodes .entry)) (unmarked (now (label .entry)) (storeIn (now (nodes .entry)))) ⌝ }
+// One pending write fewer at node i.
+pub fn unmark(nodes: &mut [u32], i: usize)
+    requires { ⌜ Fit (now nodes) × ((i < getD (now nodes) 1 0) × (0 < pending (getD (storeIn (now nodes) .nodes) i []))) ⌝ }
+    ensures { λ _. ⌜ now (nodes .exit) ≡ withStore (now (nodes .entry)) (unmarkedAt i (storeIn (now (nodes .entry)))) ⌝ }
 {
-    let i = find(nodes, label);
     let at = 8 + i * 8 + 5;
     let pending = nodes[at];
     let fewer = pending - 1;

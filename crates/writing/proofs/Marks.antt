@@ -1,22 +1,26 @@
--- Laws of the taking back of a write's marks: the test of all before one is altered, and one taken off each. Leans on rules and on the laws of
--- nodes, query and revisions. Assumes nothing.
-use mathlib.Core.Path.{_≡_, refl, sym, ap, _∙_}
+-- Laws of the taking back of a write's marks: the test of all before one is altered, the places kept from it, and one taken off each. Leans on rules
+-- and on the laws of nodes, query and revisions. Assumes nothing.
+use mathlib.Core.Path.{_≡_, refl, sym, ap, ap₂, subst, _∙_}
 use mathlib.Core.Bool.{Bool, true, false, cond}
-use mathlib.Core.List.{List, [], _∷_}
+use mathlib.Core.List.{List, [], _∷_, _++_}
 use mathlib.Core.Option.{Option, none, some}
-use Prim.Native.Nat.{ℕ, zero, suc, _+_, _-_, _≤_, _<_}
+use Prim.Native.Nat.{ℕ, zero, suc, _+_, _-_, _^_, _≤_, _<_}
+use native.Mathlib.Nat.{zero-add}
 use native.Mathlib.Numerals.{add-one}
 use native.Mathlib.Omega.{arith}
-use lib.ListN.{length, take}
+use lib.Dec.{ltb}
+use lib.ListN.{length, getD, take, drop, set, length-set, length-take, drop-of-length-le}
+use lib.Seq.{drop-cons, take-suc-set}
+use borrow.Author.Tests.{ltb-true}
 use Rattle.lists.specs.Lists.{same, listed}
-use Rattle.laws.proofs.Lists.{ne-same}
+use Rattle.laws.proofs.Lists.{ne-same, and-left, and-right, listed-snoc}
 use Rattle.query.specs.declared.Column.{Column}
 use Rattle.query.specs.Query.{Query, writeNode, writeCount}
 use Rattle.query.specs.Words.{labelWords}
 use Rattle.query.proofs.Nodes.{write-nodes-differ}
 use Rattle.query.proofs.Words.{label-words-told}
 use Rattle.rules.specs.declared.Outcome.the-variants.{Refused, Accepted}
-use Rattle.rules.specs.Nodes.{Words, Store, isPending, unmarked, unmarkedAll}
+use Rattle.rules.specs.Nodes.{Words, Store, pending, nodePlace, isPresent, nodeOf, withNode, isPending, unmarked, unmarkedAll}
 use Rattle.rules.specs.Client.{Client, steps, idle, queryAt}
 use Rattle.rules.specs.Memory.{Mem, mem, storeIn, withStore, clientIn, withClient}
 use Rattle.rules.specs.Outcome.{did}
@@ -24,15 +28,17 @@ use Rattle.rules.specs.Steps.{nowAt, storeBack}
 use Rattle.rules.specs.Calls.{marksSet, takenBack}
 use Rattle.columns.specs.Columns.{four}
 use Rattle.nodes.specs.Nodes as Nodes
-use Rattle.nodes.specs.Nodes.{Fit, tried}
-use Rattle.nodes.proofs.Stores.{Sized, Keeps, sized-in, store-back, store-self, store-twice}
-use Rattle.nodes.proofs.Sizes.{sized-unmarked, length-word}
-use Rattle.nodes.proofs.Kept.{keeps-unmarked}
+use Rattle.nodes.specs.Nodes.{Fit, tried, pendingSpot, unmarkedAt}
+use Rattle.nodes.specs.declared.Spot.{Spot}
+use Rattle.nodes.specs.declared.Spot.the-variants.{At, Nowhere}
+use Rattle.nodes.proofs.Stores.{Sized, Keeps, count-nodes, sized-in, store-back, store-self, store-twice}
+use Rattle.nodes.proofs.Sizes.{place-unmarked, sized-unmarked-at}
+use Rattle.nodes.proofs.Kept.{keeps-unmarked-at}
 use Rattle.nodes.proofs.Present.{Went, went-well}
 use Rattle.revisions.proofs.Effect.{one, tally}
 use Rattle.revisions.proofs.Unmarking.{Apart, allPending, unmarkedEach, unmarkedAll-tests}
-use Rattle.clients.proofs.Sound.{columns-back}
-use Rattle.writing.specs.Writing.{isFound}
+use Rattle.clients.proofs.Sound.{columns-back, power-small}
+use Rattle.writing.specs.Writing.{isFound, placesOf, takenOff, CanTakeOff}
 
 -- the label of the write's node i, in five numbers
 abbrev pub labelAt : Query → ℕ → Words
@@ -99,22 +105,114 @@ module _ (q : Query) (n : ℕ) (s : List ℕ) where
       unfolding allPending
       test-stop z = sym (e ∙ rw (rest-more q n j h, ← f, ← g, z))
 
+-- ---- the places kept from the test
+spot-told : (b : Bool) (i j : ℕ) → At i ≡ cond b (At j) Nowhere → (b ≡ true) × (i ≡ j)
+spot-told true i j e = (refl, cc)
+spot-told false i j e = let z : _≡_ {A = ℕ} 0 1 = cc in absurd (omega arith)
+
+spot-none : (b : Bool) (j : ℕ) → Nowhere ≡ cond b (At j) Nowhere → b ≡ false
+spot-none true j e = let z : _≡_ {A = ℕ} 0 1 = cc in absurd (omega arith)
+spot-none false j e = refl
+
+module _ (p : Words) (s : Store) (x : Spot) (e : x ≡ pendingSpot p s) where
+  pub spot-pending : (i : ℕ) → x ≡ At i → (isPending p s ≡ true) × (i ≡ nodePlace p (s .nodes))
+  unfolding pendingSpot
+  spot-pending i f = spot-told (isPending p s) i (nodePlace p (s .nodes)) (sym f ∙ e)
+
+  pub spot-idle : x ≡ Nowhere → isPending p s ≡ false
+  unfolding pendingSpot
+  spot-idle f = spot-none (isPending p s) (nodePlace p (s .nodes)) (sym f ∙ e)
+
+places-snoc : (ps : List Words) (p : Words) (s : Store) → placesOf (ps ++ (p ∷ [])) s ≡ placesOf ps s ++ (nodePlace p (s .nodes) ∷ [])
+unfolding placesOf
+places-snoc [] p s = refl
+places-snoc (q ∷ ps) p s = ap (λ (l : List ℕ). nodePlace q (s .nodes) ∷ l) (places-snoc ps p s)
+
+-- after the first j: their places are kept, in a memory as long as it was
+pub record Kept (q : Query) (s : Store) (l₀ l : List ℕ) (j : ℕ) : Type 0 where
+  pub size : length l ≡ length l₀
+  pub are : take j l ≡ placesOf (marksSet q j) s
+
+pub kept-none : (q : Query) (s : Store) (l : List ℕ) → Kept q s l l 0
+unfolding marksSet listed placesOf
+kept-none q s l = record { size = refl; are = refl }
+
+pub kept-more : (q : Query) (s : Store) (l₀ l : List ℕ) (j : ℕ) → Kept q s l₀ l j → j < length l₀ → (p : Words) (i : ℕ) → p ≡ labelAt q j → i ≡ nodePlace p (s .nodes)
+    → Kept q s l₀ (set l j i) (j + 1)
+unfolding marksSet
+kept-more q s l₀ l j x h p i e f =
+    let w : length l ≡ length l₀ = x .size in
+    record {
+      size = length-set l j i ∙ w;
+      are =
+          ap (λ (m : ℕ). take m (set l j i)) (add-one j) ∙ take-suc-set l j i (omega arith)
+          ∙ ap₂ (λ (a : List ℕ) (y : ℕ). a ++ (y ∷ [])) (x .are) (f ∙ ap (λ (y : Words). nodePlace y (s .nodes)) (e ∙ ap (labelAt q) (sym (zero-add j))))
+          ∙ sym (places-snoc (listed (labelAt q) 0 j) (labelAt q (0 + j)) s)
+          ∙ ap (λ (ps : List Words). placesOf ps s) (sym (listed-snoc (labelAt q) 0 j));
+    }
+
+pub kept-all : (q : Query) (s : Store) (l₀ l : List ℕ) (j n : ℕ) → Kept q s l₀ l j → j ≡ n → take n l ≡ placesOf (marksSet q n) s
+kept-all q s l₀ l j n x e = rw (← e) (x .are)
+
+-- at most 16 nodes
+few-nodes : (k : ℕ) (cols : List Column) (n : ℕ) → k ≤ 4 → n ≤ writeCount (take k cols) → n ≤ 16
+unfolding writeCount
+few-nodes k cols n h e =
+    let l : length (take k cols) ≤ 4 = rw length-take (omega arith) in
+    let m : 2 ^ length (take k cols) ≤ 16 = power-small (length (take k cols)) (2 ^ length (take k cols)) refl l in
+    omega arith
+
 -- ---- one taken off each
 -- after the first j: what is left to do leads where all would have led
-pub record Taking (q : Query) (n : ℕ) (s₀ s : List ℕ) (j : ℕ) : Type 0 where
+pub record Taking (l s₀ s : List ℕ) (j : ℕ) : Type 0 where
   pub fit : Fit s
   pub size : length s ≡ length s₀
-  pub left : unmarkedAll (rest q n j) (storeIn s) ≡ unmarkedAll (marksSet q n) (storeIn s₀)
+  pub can : CanTakeOff (drop j l) (storeIn s)
+  pub left : takenOff (drop j l) (storeIn s) ≡ takenOff l (storeIn s₀)
   pub mem : s ≡ withStore s₀ (storeIn s)
 
-pub taking-none : (q : Query) (n : ℕ) (s : List ℕ) → Fit s → Taking q n s s 0
-taking-none q n s f =
-    record { fit = f; size = refl; left = ap (λ (l : List Words). unmarkedAll l (storeIn s)) (sym (rest-all q n)); mem = sym (store-self s f) }
+pub taking-none : (l s : List ℕ) → Fit s → CanTakeOff l (storeIn s) → Taking l s s 0
+taking-none l s f c = record { fit = f; size = refl; can = c; left = refl; mem = sym (store-self s f) }
 
-length-unmarked : (p : Words) (s : Store) → length (unmarked p s .nodes) ≡ length (s .nodes)
-unfolding unmarked
-length-unmarked p s = length-word p _ s
+length-unmarked : (i : ℕ) (s : Store) → length (unmarkedAt i s .nodes) ≡ length (s .nodes)
+unfolding unmarkedAt
+length-unmarked i s = length-set (s .nodes) i _
 
+module _ (l s₀ s : List ℕ) (j : ℕ) (x : Taking l s₀ s j) where
+  module _ (h : j < length l) where
+    next : drop j l ≡ getD l j 0 ∷ drop (j + 1) l
+    next = drop-cons l j 0 h ∙ ap (λ (m : ℕ). getD l j 0 ∷ drop m l) (sym (add-one j))
+
+    can-take : ((getD l j 0 < length (storeIn s .nodes)) × (0 < pending (getD (storeIn s .nodes) (getD l j 0) []))) × CanTakeOff (drop (j + 1) l) (unmarkedAt (getD l j 0) (storeIn s))
+    unfolding CanTakeOff
+    can-take = subst (λ (m : List ℕ). CanTakeOff m (storeIn s)) next (x .can)
+
+    pub taking-pending : (getD l j 0 < getD s 1 0) × (0 < pending (getD (storeIn s .nodes) (getD l j 0) []))
+    taking-pending = let n : length (storeIn s .nodes) ≡ getD s 1 0 = count-nodes s in let c = can-take .0 in (omega arith, c .1)
+
+    pub taking-more : Fit s₀ → (u : List ℕ) → u ≡ withStore s (unmarkedAt (getD l j 0) (storeIn s)) → Taking l s₀ u (j + 1)
+    unfolding takenOff
+    taking-more f₀ u e =
+        let t : Store = unmarkedAt (getD l j 0) (storeIn s) in
+        let z : Sized t = sized-unmarked-at (getD l j 0) (storeIn s) (can-take .0 .0) (sized-in s (x .fit)) in
+        let k : Keeps s (withStore s t) = keeps-unmarked-at s (x .fit) (getD l j 0) (taking-pending .0) in
+        let b : storeIn u ≡ t = ap storeIn e ∙ store-back s t (x .fit) z in
+        record {
+          fit = rw e (k .fit);
+          size = ap length e ∙ k .size ∙ x .size;
+          can = subst (CanTakeOff (drop (j + 1) l)) (sym b) (can-take .1);
+          left = ap (takenOff (drop (j + 1) l)) b ∙ sym (ap (λ (m : List ℕ). takenOff m (storeIn s)) next) ∙ x .left;
+          mem =
+              e ∙ ap (λ (y : List ℕ). withStore y t) (x .mem)
+              ∙ store-twice s₀ (storeIn s) t f₀ (sized-in s (x .fit)) z (λ y. omega (arith, length-unmarked (getD l j 0) (storeIn s)))
+              ∙ ap (withStore s₀) (sym b);
+        }
+
+  pub taking-all : length l ≤ j → s ≡ withStore s₀ (takenOff l (storeIn s₀))
+  unfolding takenOff
+  taking-all h = x .mem ∙ ap (withStore s₀) (sym (ap (λ (m : List ℕ). takenOff m (storeIn s)) (drop-of-length-le l h)) ∙ x .left)
+
+-- ---- by places as by labels
 found-first : (p : Words) (l : List Words) (s : Store) → isFound (unmarkedAll (p ∷ l) s) ≡ true
     → (isPending p s ≡ true) × (unmarkedAll (p ∷ l) s ≡ unmarkedAll l (unmarked p s))
 unfolding unmarkedAll isFound
@@ -124,39 +222,45 @@ found-first p l s h = go (isPending p s) h
     go true h = (refl, refl)
     go false h = let z : _≡_ {A = ℕ} 0 1 = cc in absurd (omega arith)
 
-module _ (q : Query) (n : ℕ) (s₀ s : List ℕ) (j : ℕ) (x : Taking q n s₀ s j) (f₀ : Fit s₀) (o : isFound (unmarkedAll (marksSet q n) (storeIn s₀)) ≡ true) where
-  module _ (h : j < n) (p : Words) (f : p ≡ labelAt q j) where
-    first : (isPending p (storeIn s) ≡ true) × (unmarkedAll (p ∷ rest q n (j + 1)) (storeIn s) ≡ unmarkedAll (rest q n (j + 1)) (unmarked p (storeIn s)))
-    first =
-        let e : rest q n j ≡ p ∷ rest q n (j + 1) = rest-more q n j h ∙ ap (λ (y : Words). y ∷ rest q n (j + 1)) (sym f) in
-        found-first p (rest q n (j + 1)) (storeIn s) (ap (λ (l : List Words). isFound (unmarkedAll l (storeIn s))) (sym e) ∙ ap isFound (x .left) ∙ o)
+unmarked-is : (p : Words) (s : Store) → unmarked p s ≡ unmarkedAt (nodePlace p (s .nodes)) s
+unfolding unmarked unmarkedAt withNode nodeOf
+unmarked-is p s = refl
 
-    pub taking-pending : isPending p (storeIn s) ≡ true
-    taking-pending = first .0
+-- a mark taken back moves no node
+places-stay : (p : Words) (ps : List Words) (s : Store) → placesOf ps (unmarked p s) ≡ placesOf ps s
+unfolding placesOf
+places-stay p [] s = refl
+places-stay p (q ∷ ps) s = ap₂ (λ (i : ℕ) (l : List ℕ). i ∷ l) (place-unmarked p q s) (places-stay p ps s)
 
-    pub taking-more : (u : List ℕ) → u ≡ withStore s (unmarked p (storeIn s)) → Taking q n s₀ u (j + 1)
-    taking-more u e =
-        let z : Sized (unmarked p (storeIn s)) = sized-unmarked p (storeIn s) (sized-in s (x .fit)) in
-        let k : Keeps s (withStore s (unmarked p (storeIn s))) = keeps-unmarked s (x .fit) p in
-        let b : storeIn u ≡ unmarked p (storeIn s) = ap storeIn e ∙ store-back s (unmarked p (storeIn s)) (x .fit) z in
-        record {
-          fit = rw e (k .fit);
-          size = ap length e ∙ k .size ∙ x .size;
-          left =
-              ap (unmarkedAll (rest q n (j + 1))) b ∙ sym (first .1)
-              ∙ ap (λ (y : Words). unmarkedAll (y ∷ rest q n (j + 1)) (storeIn s)) f
-              ∙ ap (λ (l : List Words). unmarkedAll l (storeIn s)) (sym (rest-more q n j h)) ∙ x .left;
-          mem =
-              e ∙ ap (λ (y : List ℕ). withStore y (unmarked p (storeIn s))) (x .mem)
-              ∙ store-twice s₀ (storeIn s) (unmarked p (storeIn s)) f₀ (sized-in s (x .fit)) z (λ y. omega (arith, length-unmarked p (storeIn s)))
-              ∙ ap (withStore s₀) (sym b);
-        }
+pending-there : (p : Words) (s : Store) → isPending p s ≡ true → (nodePlace p (s .nodes) < length (s .nodes)) × (0 < pending (getD (s .nodes) (nodePlace p (s .nodes)) []))
+unfolding isPending isPresent nodeOf
+pending-there p s h =
+    let n : ℕ = pending (getD (s .nodes) (nodePlace p (s .nodes)) []) in
+    let x : Bool = ltb (nodePlace p (s .nodes)) (length (s .nodes)) in
+    (ltb-true (nodePlace p (s .nodes)) (length (s .nodes)) (and-left x (ltb 0 n) h), ltb-true 0 n (and-right x (ltb 0 n) h))
 
-  pub taking-all : n ≤ j → Nodes.did true s ≡ tried s₀ (unmarkedAll (marksSet q n) (storeIn s₀))
-  unfolding unmarkedAll tried
-  taking-all h =
-      let e : some (storeIn s) ≡ unmarkedAll (marksSet q n) (storeIn s₀) = sym (ap (λ (l : List Words). unmarkedAll l (storeIn s)) (rest-none q n j h)) ∙ x .left in
-      ap (Nodes.did true) (x .mem) ∙ ap (tried s₀) e
+by-places : (ps : List Words) (s : Store) → isFound (unmarkedAll ps s) ≡ true
+    → CanTakeOff (placesOf ps s) s × (unmarkedAll ps s ≡ some (takenOff (placesOf ps s) s))
+unfolding placesOf takenOff CanTakeOff unmarkedAll
+by-places [] s h = (tt, refl)
+by-places (p ∷ ps) s h =
+    let f = found-first p ps s h in
+    let r = by-places ps (unmarked p s) (ap isFound (sym (f .1)) ∙ h) in
+    let e : placesOf ps (unmarked p s) ≡ placesOf ps s = places-stay p ps s in
+    let u : unmarked p s ≡ unmarkedAt (nodePlace p (s .nodes)) s = unmarked-is p s in (
+      (pending-there p s (f .0), subst (CanTakeOff (placesOf ps s)) u (subst (λ (l : List ℕ). CanTakeOff l (unmarked p s)) e (r .0))),
+      f .1 ∙ r .1 ∙ ap₂ (λ (l : List ℕ) (t : Store). some (takenOff l t)) e u,
+    )
+
+module _ (ps : List Words) (s l : List ℕ) (o : isFound (unmarkedAll ps (storeIn s)) ≡ true) (e : l ≡ placesOf ps (storeIn s)) where
+  pub can-take-off : CanTakeOff l (storeIn s)
+  can-take-off = subst (λ (m : List ℕ). CanTakeOff m (storeIn s)) (sym e) (by-places ps (storeIn s) o .0)
+
+  pub took-off : (u : List ℕ) → u ≡ withStore s (takenOff l (storeIn s)) → Nodes.did true u ≡ tried s (unmarkedAll ps (storeIn s))
+  unfolding tried
+  took-off u f =
+      ap (Nodes.did true) (f ∙ ap (λ (m : List ℕ). withStore s (takenOff m (storeIn s))) e)
+      ∙ ap (tried s) (sym (by-places ps (storeIn s) o .1))
 
 -- ---- the call
 back-stored : (t n a s : List ℕ) (d : ℕ) (o : Option Store) (u : List ℕ) (st : Store) (v : List ℕ) → o ≡ some st → u ≡ withStore n st → v ≡ withClient s d idle
@@ -171,6 +275,9 @@ back-none m d (some st) h = let z : _≡_ {A = ℕ} 0 1 = cc in absurd (omega ar
 
 pub back-fits : (k : ℕ) (c : Client) (cols : List Column) (i : ℕ) → cols ≡ four (queryAt k c) → i ≡ steps c → steps c ≤ writeCount (queryAt k c) → i ≤ writeCount (take k cols)
 back-fits k c cols i e f h = rw (columns-back k c cols e, f) h
+
+pub back-few : (k : ℕ) (c : Client) (cols : List Column) (i : ℕ) → cols ≡ four (queryAt k c) → i ≡ steps c → steps c ≤ writeCount (queryAt k c) → k ≤ 4 → i ≤ 16
+back-few k c cols i e f h m = few-nodes k cols i m (back-fits k c cols i e f h)
 
 module _ (t n a s : List ℕ) (d k : ℕ) (cols : List Column) (i : ℕ) (e : cols ≡ four (queryAt k (clientIn s d))) (f : i ≡ steps (clientIn s d)) where
   same-marks : unmarkedAll (marksSet (take k cols) i) (storeIn n) ≡ unmarkedAll (marksSet (queryAt k (clientIn s d)) (steps (clientIn s d))) (storeIn n)

@@ -2,7 +2,7 @@
 -- Leans on rules. Definitions only. Assumes nothing.
 use mathlib.Core.Path.{_≡_}
 use mathlib.Core.Bool.{Bool, true, false, cond}
-use mathlib.Core.List.{List}
+use mathlib.Core.List.{List, [], _∷_}
 use mathlib.Core.Option.{Option, none, some}
 use Prim.Native.Nat.{ℕ, _≤_, _<_}
 use lib.Dec.{eqb}
@@ -12,12 +12,13 @@ use Rattle.query.specs.Words.{recordOf}
 use Rattle.rules.specs.declared.Outcome.{Outcome}
 use Rattle.rules.specs.declared.Outcome.the-variants.{Accepted}
 use Rattle.rules.specs.Table.{Table, Write, insert, delete, changes, noRoom}
-use Rattle.rules.specs.Nodes.{Store, unmarkedAll}
+use Rattle.rules.specs.Nodes.{Words, Store, pending, nodePlace, unmarkedAll}
 use Rattle.rules.specs.Client.{Client, kind, steps, reads, inserts, idle, isIdle, isBad, queryAt, writeAt, stepped}
 use Rattle.rules.specs.Memory.{Mem, clientIn, storeIn}
 use Rattle.rules.specs.Outcome.{Did, Stepped}
 use Rattle.rules.specs.Steps.{writeDid, endOf}
 use Rattle.rules.specs.Calls.{marksSet, takenBack}
+use Rattle.nodes.specs.Nodes.{unmarkedAt}
 use Rattle.writing.specs.declared.Report.{Report}
 
 -- what a passed check tells of the desks memory s and its client d, whose kind is that of a write
@@ -68,3 +69,19 @@ raiseLeft isLast c = cond isLast idle (stepped c)
 unfoldable pub isFound : Option Store → Bool
 isFound none = false
 isFound (some s) = true
+
+-- ---- the taking back of marks, by the places of the nodes
+-- where the labels' nodes stand
+unfoldable pub placesOf : List Words → Store → List ℕ
+placesOf [] s = []
+placesOf (p ∷ ps) s = nodePlace p (s .nodes) ∷ placesOf ps s
+
+-- one taken off the node at each place, one after another
+unfoldable pub takenOff : List ℕ → Store → Store
+takenOff [] s = s
+takenOff (i ∷ l) s = takenOff l (unmarkedAt i s)
+
+-- each is there, and has a pending write when its turn comes
+unfoldable pub CanTakeOff : List ℕ → Store → Type 0
+CanTakeOff [] s = Unit
+CanTakeOff (i ∷ l) s = ((i < length (s .nodes)) × (0 < pending (getD (s .nodes) i []))) × CanTakeOff l (unmarkedAt i s)

@@ -4,21 +4,21 @@ ghost use mathlib.Core.Path.{_≡_};
 ghost use mathlib.Core.Bool.{true};
 ghost use mathlib.Core.List.{List};
 ghost use Prim.Native.Nat.{ℕ, _≤_, _<_};
-ghost use lib.ListN.{take};
+ghost use lib.ListN.{length, take};
 ghost use Rattle.query.specs.Query.{writeCount};
 ghost use Rattle.query.specs.Words.{namesAll, recordOf};
 ghost use Rattle.rules.specs.Table.{insert, effect};
 ghost use Rattle.rules.specs.Nodes.{unmarkedAll};
 ghost use Rattle.rules.specs.Client.{inserts, idle};
-ghost use Rattle.rules.specs.Memory.{mem, recordsIn, withRecords, storeIn, clientIn, withClient};
+ghost use Rattle.rules.specs.Memory.{mem, recordsIn, withRecords, storeIn, withStore, clientIn, withClient};
 ghost use Rattle.rules.specs.Outcome.{did, didWith};
 ghost use Rattle.rules.specs.Steps.{endOf};
 ghost use Rattle.rules.specs.Calls.{marksSet};
 ghost use Rattle.nodes.specs.Nodes;
-ghost use Rattle.nodes.specs.Nodes.{tried};
 ghost use Rattle.clients.specs.Clients;
 ghost use Rattle.table.specs.Table;
-ghost use Rattle.writing.specs.Writing.{Writer, stepAt, countAt, stepOf, backOf, writeOf, reported, raiseEnd, raiseLeft, isFound};
+ghost use Rattle.writing.specs.Writing.{Writer, stepAt, countAt, stepOf, backOf, writeOf, reported, raiseEnd, raiseLeft, isFound, placesOf, takenOff, CanTakeOff};
+use nodes::Spot;
 use query::Column;
 use rules::Outcome;
 use table::Inserted;
@@ -174,32 +174,34 @@ pub fn write_step(
 }
 
 // ---- The taking back of marks
-// Whether each of the write's first n nodes has a pending write.
-fn can_take_back(nodes: &[u32], cols: [Column; 4], k: usize, n: usize) -> bool
+// Whether each of the write's first n nodes has a pending write; where all have, `places` begins with their places.
+fn can_take_back(nodes: &[u32], cols: [Column; 4], k: usize, n: usize, places: &mut [usize]) -> bool
     requires { ⌜ Nodes.Fit (now nodes) × ((k ≤ 4) × (n ≤ writeCount (take k cols))) ⌝ }
-    ensures { λ r. ⌜ r ≡ isFound (unmarkedAll (marksSet (take k cols) n) (storeIn (now (nodes .entry)))) ⌝ }
+    requires { ⌜ n ≤ length (now places) ⌝ }
+    ensures { λ r. ⌜ (r ≡ isFound (unmarkedAll (marksSet (take k cols) n) (storeIn (now (nodes .entry))))) × (r ≡ true → take n (now (places .exit)) ≡ placesOf (marksSet (take k cols) n) (storeIn (now (nodes .entry)))) ⌝ }
 {
     let mut j = 0;
     while j < n {
         let label = columns::labels::write_label(cols, k, j);
-        if !nodes::is_pending(nodes, &label) {
+        let spot = nodes::find_pending(nodes, &label);
+        let Spot::At(i) = spot else {
             return false;
-        }
+        };
+        places[j] = i;
         j += 1;
     }
     true
 }
 
-// Takes one off each of the write's first n nodes.
-fn take_off(nodes: &mut [u32], cols: [Column; 4], k: usize, n: usize)
-    requires { ⌜ Nodes.Fit (now nodes) × (k ≤ 4) ⌝ }
-    requires { ⌜ isFound (unmarkedAll (marksSet (take k cols) n) (storeIn (now nodes))) ≡ true ⌝ }
-    ensures { λ _. ⌜ Nodes.did true (now (nodes .exit)) ≡ tried (now (nodes .entry)) (unmarkedAll (marksSet (take k cols) n) (storeIn (now (nodes .entry)))) ⌝ }
+// Takes one off the node at each place. The places are kept from the test, so no label is searched for twice.
+fn take_off(nodes: &mut [u32], places: &[usize])
+    requires { ⌜ Nodes.Fit (now nodes) ⌝ }
+    requires { ⌜ CanTakeOff (now places) (storeIn (now nodes)) ⌝ }
+    ensures { λ _. ⌜ now (nodes .exit) ≡ withStore (now (nodes .entry)) (takenOff (now (places .entry)) (storeIn (now (nodes .entry)))) ⌝ }
 {
     let mut done = 0;
-    while done < n {
-        let label = columns::labels::write_label(cols, k, done);
-        nodes::unmark(nodes, &label);
+    while done < places.len() {
+        nodes::unmark(nodes, places[done]);
         done += 1;
     }
 }
@@ -213,10 +215,11 @@ pub fn take_back(nodes: &mut [u32], desks: &mut [u32], d: usize, k: usize) -> Ou
 {
     let cols = clients::columns_at(desks, d, k);
     let made = clients::steps_of(desks, d) as usize;
-    if !can_take_back(nodes, cols, k, made) {
+    let mut places = [0; 16];
+    if !can_take_back(nodes, cols, k, made, &mut places) {
         return Outcome::Refused(3);
     }
-    take_off(nodes, cols, k, made);
+    take_off(nodes, &places[..made]);
     clients::set_idle(desks, d);
     Outcome::Accepted
 }
