@@ -1,3 +1,3 @@
-pub mod Scan
-pub mod Entries
-pub mod Changes
+pub mod AnswerScan
+pub mod AnswerEntries
+pub mod AnswerChanges

@@ -8,7 +8,7 @@ ghost use lib.ListN.{length, getD};
 ghost use Rattle.lists.specs.Lists.{without, allBelow};
 ghost use Rattle.rules.specs.Answers.{hasKeyOf, atLeast, serves, fetchPlace, keyPlace, filed, someLong, lengthIn};
 ghost use Rattle.rules.specs.Memory.{answersIn, withAnswers};
-ghost use Rattle.answers.specs.Answers.{Fit, Gave};
+ghost use Rattle.answers.specs.AnswerContracts.{Fit, Gave};
 
 // The most answers that are kept.
 const ANSWERS: usize = Hall::ANSWERS as usize;

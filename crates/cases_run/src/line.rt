@@ -68,7 +68,7 @@ pub const NODES: u32 = 1;
 
 pub const ANSWERS: u32 = 2;
 
-pub const DESKS: u32 = 3;
+pub const CLIENTS: u32 = 3;
 
 pub const TRAY: u32 = 4;
 
@@ -300,7 +300,7 @@ pub fn floor(n: u32) -> Line {
 
 // The revision that desk 0 has noted at a look, and the one that the oldest filed answer has.
 pub fn noted(at: u32, n: u32) -> Line {
-    look(DESKS, std::num::wrapping_add_u32(21, at), n)
+    look(CLIENTS, std::num::wrapping_add_u32(21, at), n)
 }
 
 pub fn filed(at: u32, n: u32) -> Line {

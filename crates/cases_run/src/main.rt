@@ -26,7 +26,7 @@ fn run_line(
     table: &mut [u32],
     nodes: &mut [u32],
     answers: &mut [u32],
-    desks: &mut [u32],
+    clients: &mut [u32],
     tray: &mut [u32],
     line: Line,
     times: u32,
@@ -34,7 +34,7 @@ fn run_line(
     let mut met: u32 = 0;
     let mut i: u32 = 0;
     while i < times {
-        let seen = play::play(table, nodes, answers, desks, tray, line);
+        let seen = play::play(table, nodes, answers, clients, tray, line);
         met = std::num::wrapping_add_u32(met, print::report(line, seen));
         i += 1;
     }
@@ -45,7 +45,7 @@ fn run_lines(
     table: &mut [u32],
     nodes: &mut [u32],
     answers: &mut [u32],
-    desks: &mut [u32],
+    clients: &mut [u32],
     tray: &mut [u32],
     part: u32,
 ) -> Tally {
@@ -55,7 +55,7 @@ fn run_lines(
     while i < LINES {
         let line = parts::line(part, i);
         let times = line.times;
-        let came = run_line(table, nodes, answers, desks, tray, line, times);
+        let came = run_line(table, nodes, answers, clients, tray, line, times);
         expected = std::num::wrapping_add_u32(expected, line.results());
         met = std::num::wrapping_add_u32(met, came);
         i += 1;
@@ -77,13 +77,13 @@ fn make_noise(
     table: &mut [u32],
     nodes: &mut [u32],
     answers: &mut [u32],
-    desks: &mut [u32],
+    clients: &mut [u32],
     tray: &mut [u32],
 ) {
     memory::fill(table, 1, 2654435769);
     memory::fill(nodes, 2, 2654435769);
     memory::fill(answers, 3, 2654435769);
-    memory::fill(desks, 4, 2654435769);
+    memory::fill(clients, 4, 2654435769);
     memory::fill(tray, 5, 2654435769);
 }
 
@@ -92,12 +92,12 @@ fn run_part(
     table: &mut [u32],
     nodes: &mut [u32],
     answers: &mut [u32],
-    desks: &mut [u32],
+    clients: &mut [u32],
     tray: &mut [u32],
     part: u32,
 ) -> Tally {
-    make_noise(table, nodes, answers, desks, tray);
-    let tally = run_lines(table, nodes, answers, desks, tray, part);
+    make_noise(table, nodes, answers, clients, tray);
+    let tally = run_lines(table, nodes, answers, clients, tray, part);
     parts::name(part);
     print_tally(tally);
     tally
@@ -107,14 +107,14 @@ fn run_parts(
     table: &mut [u32],
     nodes: &mut [u32],
     answers: &mut [u32],
-    desks: &mut [u32],
+    clients: &mut [u32],
     tray: &mut [u32],
 ) -> Tally {
     let mut expected: u32 = 0;
     let mut met: u32 = 0;
     let mut part: u32 = 1;
     while part <= parts::ALL {
-        let tally = run_part(table, nodes, answers, desks, tray, part);
+        let tally = run_part(table, nodes, answers, clients, tray, part);
         expected = std::num::wrapping_add_u32(expected, tally.expected);
         met = std::num::wrapping_add_u32(met, tally.met);
         part += 1;
@@ -126,9 +126,15 @@ fn main() {
     let mut table = [0u32; 8200];
     let mut nodes = [0u32; 8200];
     let mut answers = [0u32; 10000];
-    let mut desks = [0u32; 2000];
+    let mut clients = [0u32; 2000];
     let mut tray = [0u32; 128];
-    let tally = run_parts(&mut table, &mut nodes, &mut answers, &mut desks, &mut tray);
+    let tally = run_parts(
+        &mut table,
+        &mut nodes,
+        &mut answers,
+        &mut clients,
+        &mut tray,
+    );
     print::text(b"all");
     print_tally(tally);
 }

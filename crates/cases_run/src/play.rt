@@ -72,7 +72,7 @@ fn begin_asked(
     table: &mut [u32],
     nodes: &mut [u32],
     answers: &mut [u32],
-    desks: &mut [u32],
+    clients: &mut [u32],
     act: Act,
     client: u32,
     words: &[u32],
@@ -83,9 +83,9 @@ fn begin_asked(
     }
     let asked = &words[..n];
     match act {
-        Act::Read => requests::begin_read(table, nodes, answers, desks, client, asked),
-        Act::Insert => requests::begin_insert(table, nodes, answers, desks, client, asked),
-        _ => requests::begin_delete(table, nodes, answers, desks, client, asked),
+        Act::Read => requests::begin_read(table, nodes, answers, clients, client, asked),
+        Act::Insert => requests::begin_insert(table, nodes, answers, clients, client, asked),
+        _ => requests::begin_delete(table, nodes, answers, clients, client, asked),
     }
 }
 
@@ -93,14 +93,14 @@ fn begin(
     table: &mut [u32],
     nodes: &mut [u32],
     answers: &mut [u32],
-    desks: &mut [u32],
+    clients: &mut [u32],
     line: Line,
 ) -> Seen {
     let act = line.act;
     let query = line.query;
     let words = query.words;
     let n = memory::numbers_of(query.k);
-    seen(begin_asked(table, nodes, answers, desks, act, line.at, &words, n))
+    seen(begin_asked(table, nodes, answers, clients, act, line.at, &words, n))
 }
 
 // ---- Steps
@@ -109,7 +109,7 @@ fn short_step(
     table: &mut [u32],
     nodes: &mut [u32],
     answers: &mut [u32],
-    desks: &mut [u32],
+    clients: &mut [u32],
     tray: &mut [u32],
     client: u32,
 ) -> Outcome {
@@ -117,7 +117,7 @@ fn short_step(
     if tray.len() < n {
         return Outcome::Accepted;
     }
-    steps::step(table, nodes, answers, desks, &mut tray[..n], client)
+    steps::step(table, nodes, answers, clients, &mut tray[..n], client)
 }
 
 // The five steps of an insert into a hall of one column; says what the last one said.
@@ -125,14 +125,14 @@ fn five_steps(
     table: &mut [u32],
     nodes: &mut [u32],
     answers: &mut [u32],
-    desks: &mut [u32],
+    clients: &mut [u32],
     tray: &mut [u32],
     client: u32,
 ) -> Outcome {
     let mut out = Outcome::Accepted;
     let mut i: u32 = 0;
     while i < 5 {
-        out = steps::step(table, nodes, answers, desks, tray, client);
+        out = steps::step(table, nodes, answers, clients, tray, client);
         i += 1;
     }
     out
@@ -143,14 +143,14 @@ fn whole(
     table: &mut [u32],
     nodes: &mut [u32],
     answers: &mut [u32],
-    desks: &mut [u32],
+    clients: &mut [u32],
     tray: &mut [u32],
     client: u32,
     value: u32,
 ) -> Outcome {
     let asked = [1, value];
-    requests::begin_insert(table, nodes, answers, desks, client, &asked);
-    five_steps(table, nodes, answers, desks, tray, client)
+    requests::begin_insert(table, nodes, answers, clients, client, &asked);
+    five_steps(table, nodes, answers, clients, tray, client)
 }
 
 // 1 if a write has ended and changed the table.
@@ -166,7 +166,7 @@ fn fill(
     table: &mut [u32],
     nodes: &mut [u32],
     answers: &mut [u32],
-    desks: &mut [u32],
+    clients: &mut [u32],
     tray: &mut [u32],
     from: u32,
     to: u32,
@@ -174,7 +174,7 @@ fn fill(
     let mut n: u32 = 0;
     let mut i = from;
     while i < to {
-        let out = whole(table, nodes, answers, desks, tray, 0, i);
+        let out = whole(table, nodes, answers, clients, tray, 0, i);
         n = std::num::wrapping_add_u32(n, one_if_changed(seen(out)));
         i += 1;
     }
@@ -185,25 +185,25 @@ fn moved(
     table: &mut [u32],
     nodes: &mut [u32],
     answers: &mut [u32],
-    desks: &mut [u32],
+    clients: &mut [u32],
     tray: &mut [u32],
     line: Line,
 ) -> Seen {
     let act = line.act;
     let client = line.at;
     match act {
-        Act::Step => seen(steps::step(table, nodes, answers, desks, tray, client)),
-        Act::ShortStep => seen(short_step(table, nodes, answers, desks, tray, client)),
+        Act::Step => seen(steps::step(table, nodes, answers, clients, tray, client)),
+        Act::ShortStep => seen(short_step(table, nodes, answers, clients, tray, client)),
         Act::Whole => seen(whole(
             table,
             nodes,
             answers,
-            desks,
+            clients,
             tray,
             client,
             memory::first_value(line.query),
         )),
-        _ => numbered(fill(table, nodes, answers, desks, tray, line.place, line.value)),
+        _ => numbered(fill(table, nodes, answers, clients, tray, line.place, line.value)),
     }
 }
 
@@ -213,27 +213,27 @@ fn short_open(
     table: &mut [u32],
     nodes: &mut [u32],
     answers: &mut [u32],
-    desks: &mut [u32],
+    clients: &mut [u32],
     k: u32,
 ) -> Outcome {
     let n = hall::Hall::TABLE_LEAST - 1;
     if table.len() < n {
         return Outcome::Accepted;
     }
-    hall::Hall::open(&mut table[..n], nodes, answers, desks, k)
+    hall::Hall::open(&mut table[..n], nodes, answers, clients, k)
 }
 
 fn opened(
     table: &mut [u32],
     nodes: &mut [u32],
     answers: &mut [u32],
-    desks: &mut [u32],
+    clients: &mut [u32],
     act: Act,
     k: u32,
 ) -> Outcome {
     match act {
-        Act::Open => hall::Hall::open(table, nodes, answers, desks, k),
-        _ => short_open(table, nodes, answers, desks, k),
+        Act::Open => hall::Hall::open(table, nodes, answers, clients, k),
+        _ => short_open(table, nodes, answers, clients, k),
     }
 }
 
@@ -241,15 +241,15 @@ fn taken_out(
     table: &mut [u32],
     nodes: &mut [u32],
     answers: &mut [u32],
-    desks: &mut [u32],
+    clients: &mut [u32],
     act: Act,
     at: u32,
 ) -> Outcome {
     match act {
-        Act::Abandon => steps::abandon(table, nodes, answers, desks, at),
-        Act::EvictAnswer => requests::evict_answer(table, nodes, answers, desks, at),
-        Act::EvictNode => requests::evict_node(table, nodes, answers, desks, at),
-        _ => requests::renew(table, nodes, answers, desks),
+        Act::Abandon => steps::abandon(table, nodes, answers, clients, at),
+        Act::EvictAnswer => requests::evict_answer(table, nodes, answers, clients, at),
+        Act::EvictNode => requests::evict_node(table, nodes, answers, clients, at),
+        _ => requests::renew(table, nodes, answers, clients),
     }
 }
 
@@ -258,7 +258,7 @@ fn set(
     table: &mut [u32],
     nodes: &mut [u32],
     answers: &mut [u32],
-    desks: &mut [u32],
+    clients: &mut [u32],
     tray: &mut [u32],
     line: Line,
 ) -> u32 {
@@ -269,7 +269,7 @@ fn set(
         0 => memory::put(table, place, value),
         1 => memory::put(nodes, place, value),
         2 => memory::put(answers, place, value),
-        3 => memory::put(desks, place, value),
+        3 => memory::put(clients, place, value),
         _ => memory::put(tray, place, value),
     }
 }
@@ -278,7 +278,7 @@ fn spread(
     table: &mut [u32],
     nodes: &mut [u32],
     answers: &mut [u32],
-    desks: &mut [u32],
+    clients: &mut [u32],
     tray: &mut [u32],
     line: Line,
 ) -> u32 {
@@ -288,7 +288,7 @@ fn spread(
         0 => memory::spread(table, value),
         1 => memory::spread(nodes, value),
         2 => memory::spread(answers, value),
-        3 => memory::spread(desks, value),
+        3 => memory::spread(clients, value),
         _ => memory::spread(tray, value),
     }
 }
@@ -298,7 +298,7 @@ fn looked(
     table: &[u32],
     nodes: &[u32],
     answers: &[u32],
-    desks: &[u32],
+    clients: &[u32],
     tray: &[u32],
     line: Line,
 ) -> Seen {
@@ -312,7 +312,7 @@ fn looked(
         0 => numbered(memory::at(table, place)),
         1 => numbered(memory::at(nodes, place)),
         2 => numbered(memory::at(answers, place)),
-        3 => numbered(memory::at(desks, place)),
+        3 => numbered(memory::at(clients, place)),
         _ => numbered(memory::at(tray, place)),
     }
 }
@@ -323,14 +323,14 @@ fn called(
     table: &mut [u32],
     nodes: &mut [u32],
     answers: &mut [u32],
-    desks: &mut [u32],
+    clients: &mut [u32],
     line: Line,
 ) -> Seen {
     let act = line.act;
     match act {
-        Act::Read | Act::Insert | Act::Delete => begin(table, nodes, answers, desks, line),
-        Act::Open | Act::ShortOpen => { seen(opened(table, nodes, answers, desks, act, line.at)) }
-        _ => seen(taken_out(table, nodes, answers, desks, act, line.at)),
+        Act::Read | Act::Insert | Act::Delete => begin(table, nodes, answers, clients, line),
+        Act::Open | Act::ShortOpen => { seen(opened(table, nodes, answers, clients, act, line.at)) }
+        _ => seen(taken_out(table, nodes, answers, clients, act, line.at)),
     }
 }
 
@@ -339,15 +339,15 @@ fn by_hand(
     table: &mut [u32],
     nodes: &mut [u32],
     answers: &mut [u32],
-    desks: &mut [u32],
+    clients: &mut [u32],
     tray: &mut [u32],
     line: Line,
 ) -> Seen {
     let act = line.act;
     match act {
-        Act::Set => numbered(set(table, nodes, answers, desks, tray, line)),
-        Act::Spread => numbered(spread(table, nodes, answers, desks, tray, line)),
-        _ => looked(table, nodes, answers, desks, tray, line),
+        Act::Set => numbered(set(table, nodes, answers, clients, tray, line)),
+        Act::Spread => numbered(spread(table, nodes, answers, clients, tray, line)),
+        _ => looked(table, nodes, answers, clients, tray, line),
     }
 }
 
@@ -355,18 +355,18 @@ pub fn play(
     table: &mut [u32],
     nodes: &mut [u32],
     answers: &mut [u32],
-    desks: &mut [u32],
+    clients: &mut [u32],
     tray: &mut [u32],
     line: Line,
 ) -> Seen {
     let act = line.act;
     match act {
         Act::Step | Act::ShortStep | Act::Whole | Act::Fill => {
-            moved(table, nodes, answers, desks, tray, line)
+            moved(table, nodes, answers, clients, tray, line)
         }
         Act::Set | Act::Spread | Act::Look | Act::Label => {
-            by_hand(table, nodes, answers, desks, tray, line)
+            by_hand(table, nodes, answers, clients, tray, line)
         }
-        _ => called(table, nodes, answers, desks, line),
+        _ => called(table, nodes, answers, clients, line),
     }
 }

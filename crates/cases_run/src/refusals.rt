@@ -1,6 +1,6 @@
 // The numbers of document 01, "What the controller turns down", 1 to 13: each met, and just not met. Leans on line.
 use crate::line::ANSWERS;
-use crate::line::DESKS;
+use crate::line::CLIENTS;
 use crate::line::IS;
 use crate::line::Line;
 use crate::line::NODES;
@@ -78,11 +78,11 @@ fn columns(i: u32) -> Line {
 fn unsound(i: u32) -> Line {
     match i {
         0 => open(1),
-        1 => set(DESKS, 0, 5),
+        1 => set(CLIENTS, 0, 5),
         2 => step(0).gives(code(3)),
         3 => renew().gives(code(3)),
         4 => read(0, one(IS, 5)).gives(code(2)),
-        5 => set(DESKS, 0, 1),
+        5 => set(CLIENTS, 0, 1),
         6 => set(TABLE, 0, 2049),
         7 => read(0, one(IS, 5)).gives(code(3)),
         8 => read(12, one(IS, 5)).gives(code(3)),
@@ -103,24 +103,24 @@ fn unsound(i: u32) -> Line {
 }
 
 // 3, of the called desk: its kind, query, step or list length out of range. Places 8 to 20 are desk 0: kind, steps, three flags, key, length.
-fn unsound_desk(i: u32) -> Line {
+fn unsound_client(i: u32) -> Line {
     match i {
         0 => open(1),
-        1 => set(DESKS, 8, 4),
+        1 => set(CLIENTS, 8, 4),
         2 => step(0).gives(code(3)),
         3 => read(0, one(IS, 5)).gives(code(3)),
         4 => step(1).gives(code(6)),
-        5 => set(DESKS, 8, 0),
+        5 => set(CLIENTS, 8, 0),
         6 => read(0, one(IS, 5)),
-        7 => set(DESKS, 9, 5),
+        7 => set(CLIENTS, 9, 5),
         8 => step(0).gives(code(3)),
-        9 => set(DESKS, 9, 0),
-        10 => set(DESKS, 13, 2),
+        9 => set(CLIENTS, 9, 0),
+        10 => set(CLIENTS, 13, 2),
         11 => step(0).gives(code(3)),
-        12 => set(DESKS, 13, 1),
-        13 => set(DESKS, 20, 33),
+        12 => set(CLIENTS, 13, 1),
+        13 => set(CLIENTS, 20, 33),
         14 => step(0).gives(code(3)),
-        15 => set(DESKS, 20, 0),
+        15 => set(CLIENTS, 20, 0),
         16 => step(0).times(4),
         17 => step(0).gives(answered(0)),
         _ => done(),
@@ -159,7 +159,7 @@ fn unsound_nodes(i: u32) -> Line {
 }
 
 // 4, no desk: desk above 11.
-fn no_desk(i: u32) -> Line {
+fn no_client(i: u32) -> Line {
     match i {
         0 => open(1),
         1 => read(12, one(IS, 5)).gives(code(4)),
@@ -318,7 +318,7 @@ fn long(i: u32) -> Line {
         4 => step(0).times(2),
         5 => step(0).gives(code(12)),
         6 => look(TRAY, 0, 77),
-        7 => look(DESKS, 8, 0),
+        7 => look(CLIENTS, 8, 0),
         8 => step(0).gives(code(6)),
         9 => answers_kept(0),
         10 => read(0, one(IS, 32)),
@@ -358,9 +358,9 @@ pub fn line(part: u32, i: u32) -> Line {
         1 => short(i),
         2 => columns(i),
         3 => unsound(i),
-        4 => unsound_desk(i),
+        4 => unsound_client(i),
         5 => unsound_nodes(i),
-        6 => no_desk(i),
+        6 => no_client(i),
         7 => taken(i),
         8 => idle(i),
         9 => committed(i),

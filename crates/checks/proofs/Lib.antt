@@ -1,2 +1,2 @@
-pub mod Sound
-pub mod Codes
+pub mod SoundMemories
+pub mod CheckCodes

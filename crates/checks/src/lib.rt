@@ -6,17 +6,17 @@ ghost use mathlib.Core.Path.{_≡_};
 ghost use mathlib.Core.Bool.{false};
 ghost use Prim.Native.Nat.{_≤_};
 ghost use Rattle.rules.specs.Memory.{mem, clientIn};
-ghost use Rattle.rules.specs.Refusals.{isShort, badQuery, isUnsound, isCommitted, atDesk, beginCode, stepCode, abandonCode, evictAnswerCode, evictNodeCode, renewCode};
-ghost use Rattle.clients.specs.Clients.{Fit};
-ghost use Rattle.checks.specs.Checks.{soundCode, recordCode};
+ghost use Rattle.rules.specs.Refusals.{isShort, badQuery, isUnsound, isCommitted, atClient, beginCode, stepCode, abandonCode, evictAnswerCode, evictNodeCode, renewCode};
+ghost use Rattle.clients.specs.ClientContracts.{Fit};
+ghost use Rattle.checks.specs.CheckContracts.{soundCode, recordCode};
 
 // ---- The memories
 // Whether k, an entry count or a filed list's length is out of range. Reads each memory once.
-pub fn is_unsound(table: &[u32], nodes: &[u32], answers: &[u32], desks: &[u32]) -> bool
-    requires { ⌜ isShort (mem (now table) (now nodes) (now answers) (now desks)) ≡ false ⌝ }
-    ensures { λ r. ⌜ r ≡ isUnsound (mem (now (table .entry)) (now (nodes .entry)) (now (answers .entry)) (now (desks .entry))) ⌝ }
+pub fn is_unsound(table: &[u32], nodes: &[u32], answers: &[u32], clients: &[u32]) -> bool
+    requires { ⌜ isShort (mem (now table) (now nodes) (now answers) (now clients)) ≡ false ⌝ }
+    ensures { λ r. ⌜ r ≡ isUnsound (mem (now (table .entry)) (now (nodes .entry)) (now (answers .entry)) (now (clients .entry))) ⌝ }
 {
-    let k = desks[0];
+    let k = clients[0];
     if k == 0 {
         return true;
     }
@@ -36,35 +36,35 @@ pub fn is_unsound(table: &[u32], nodes: &[u32], answers: &[u32], desks: &[u32]) 
 }
 
 // 1 where a memory is short, 3 where one is unsound.
-fn sound_code(table: &[u32], nodes: &[u32], answers: &[u32], desks: &[u32]) -> u32
-    ensures { λ r. ⌜ r ≡ soundCode (mem (now (table .entry)) (now (nodes .entry)) (now (answers .entry)) (now (desks .entry))) ⌝ }
+fn sound_code(table: &[u32], nodes: &[u32], answers: &[u32], clients: &[u32]) -> u32
+    ensures { λ r. ⌜ r ≡ soundCode (mem (now (table .entry)) (now (nodes .entry)) (now (answers .entry)) (now (clients .entry))) ⌝ }
 {
-    if Hall::is_short(table, nodes, answers, desks) {
+    if Hall::is_short(table, nodes, answers, clients) {
         return 1;
     }
-    if is_unsound(table, nodes, answers, desks) {
+    if is_unsound(table, nodes, answers, clients) {
         return 3;
     }
     0
 }
 
 // What a call finds at client d of long memories: 3 unsound, 4 no such client, 6 idle, 0 busy.
-pub fn at_desk(table: &[u32], nodes: &[u32], answers: &[u32], desks: &[u32], d: u32) -> u32
-    requires { ⌜ isShort (mem (now table) (now nodes) (now answers) (now desks)) ≡ false ⌝ }
-    ensures { λ r. ⌜ r ≡ atDesk (mem (now (table .entry)) (now (nodes .entry)) (now (answers .entry)) (now (desks .entry))) d ⌝ }
+pub fn at_client(table: &[u32], nodes: &[u32], answers: &[u32], clients: &[u32], d: u32) -> u32
+    requires { ⌜ isShort (mem (now table) (now nodes) (now answers) (now clients)) ≡ false ⌝ }
+    ensures { λ r. ⌜ r ≡ atClient (mem (now (table .entry)) (now (nodes .entry)) (now (answers .entry)) (now (clients .entry))) d ⌝ }
 {
-    if is_unsound(table, nodes, answers, desks) {
+    if is_unsound(table, nodes, answers, clients) {
         return 3;
     }
     if Hall::CLIENTS <= d {
         return 4;
     }
-    let k = desks[0] as usize;
-    if clients::is_bad(desks, d as usize, k) {
+    let k = clients[0] as usize;
+    if clients::is_bad(clients, d as usize, k) {
         return 3;
     }
     // A client that is not bad is idle exactly if its kind is 0: its other numbers need not be read again.
-    if clients::kind_of(desks, d as usize) == 0 {
+    if clients::kind_of(clients, d as usize) == 0 {
         return 6;
     }
     0
@@ -106,20 +106,20 @@ pub fn begin_code(
     table: &[u32],
     nodes: &[u32],
     answers: &[u32],
-    desks: &[u32],
+    clients: &[u32],
     kind: u32,
     d: u32,
     asked: &[u32],
 ) -> u32
-    ensures { λ r. ⌜ r ≡ beginCode (mem (now (table .entry)) (now (nodes .entry)) (now (answers .entry)) (now (desks .entry))) kind d (now (asked .entry)) ⌝ }
+    ensures { λ r. ⌜ r ≡ beginCode (mem (now (table .entry)) (now (nodes .entry)) (now (answers .entry)) (now (clients .entry))) kind d (now (asked .entry)) ⌝ }
 {
-    if Hall::is_short(table, nodes, answers, desks) {
+    if Hall::is_short(table, nodes, answers, clients) {
         return 1;
     }
-    if bad_query(desks[0], kind, asked) {
+    if bad_query(clients[0], kind, asked) {
         return 2;
     }
-    let found = at_desk(table, nodes, answers, desks, d);
+    let found = at_client(table, nodes, answers, clients, d);
     if found == 0 {
         return 5;
     }
@@ -140,45 +140,45 @@ pub fn step_code(
     table: &[u32],
     nodes: &[u32],
     answers: &[u32],
-    desks: &[u32],
+    clients: &[u32],
     tray: &[u32],
     d: u32,
 ) -> u32
-    ensures { λ r. ⌜ r ≡ stepCode (mem (now (table .entry)) (now (nodes .entry)) (now (answers .entry)) (now (desks .entry))) (now (tray .entry)) d ⌝ }
+    ensures { λ r. ⌜ r ≡ stepCode (mem (now (table .entry)) (now (nodes .entry)) (now (answers .entry)) (now (clients .entry))) (now (tray .entry)) d ⌝ }
 {
-    if Hall::is_short(table, nodes, answers, desks) {
+    if Hall::is_short(table, nodes, answers, clients) {
         return 1;
     }
     if tray.len() < Hall::TRAY_LEAST {
         return 1;
     }
-    at_desk(table, nodes, answers, desks, d)
+    at_client(table, nodes, answers, clients, d)
 }
 
 // Whether a write has made its table step: it has made more steps than it has nodes to mark.
-fn is_committed(desks: &[u32], d: usize, k: usize) -> bool
-    requires { ⌜ Fit (now desks) d × (k ≤ 4) ⌝ }
-    ensures { λ r. ⌜ r ≡ isCommitted k (clientIn (now (desks .entry)) d) ⌝ }
+fn is_committed(clients: &[u32], d: usize, k: usize) -> bool
+    requires { ⌜ Fit (now clients) d × (k ≤ 4) ⌝ }
+    ensures { λ r. ⌜ r ≡ isCommitted k (clientIn (now (clients .entry)) d) ⌝ }
 {
-    if clients::kind_of(desks, d) == 1 {
+    if clients::kind_of(clients, d) == 1 {
         return false;
     }
-    let made = clients::steps_of(desks, d);
+    let made = clients::steps_of(clients, d);
     columns::keys::power(k) < made
 }
 
-pub fn abandon_code(table: &[u32], nodes: &[u32], answers: &[u32], desks: &[u32], d: u32) -> u32
-    ensures { λ r. ⌜ r ≡ abandonCode (mem (now (table .entry)) (now (nodes .entry)) (now (answers .entry)) (now (desks .entry))) d ⌝ }
+pub fn abandon_code(table: &[u32], nodes: &[u32], answers: &[u32], clients: &[u32], d: u32) -> u32
+    ensures { λ r. ⌜ r ≡ abandonCode (mem (now (table .entry)) (now (nodes .entry)) (now (answers .entry)) (now (clients .entry))) d ⌝ }
 {
-    if Hall::is_short(table, nodes, answers, desks) {
+    if Hall::is_short(table, nodes, answers, clients) {
         return 1;
     }
-    let found = at_desk(table, nodes, answers, desks, d);
+    let found = at_client(table, nodes, answers, clients, d);
     if found != 0 {
         return found;
     }
-    let k = desks[0] as usize;
-    if is_committed(desks, d as usize, k) {
+    let k = clients[0] as usize;
+    if is_committed(clients, d as usize, k) {
         return 7;
     }
     0
@@ -189,12 +189,12 @@ pub fn evict_answer_code(
     table: &[u32],
     nodes: &[u32],
     answers: &[u32],
-    desks: &[u32],
+    clients: &[u32],
     place: u32,
 ) -> u32
-    ensures { λ r. ⌜ r ≡ evictAnswerCode (mem (now (table .entry)) (now (nodes .entry)) (now (answers .entry)) (now (desks .entry))) place ⌝ }
+    ensures { λ r. ⌜ r ≡ evictAnswerCode (mem (now (table .entry)) (now (nodes .entry)) (now (answers .entry)) (now (clients .entry))) place ⌝ }
 {
-    let found = sound_code(table, nodes, answers, desks);
+    let found = sound_code(table, nodes, answers, clients);
     if found != 0 {
         return found;
     }
@@ -208,12 +208,12 @@ pub fn evict_node_code(
     table: &[u32],
     nodes: &[u32],
     answers: &[u32],
-    desks: &[u32],
+    clients: &[u32],
     place: u32,
 ) -> u32
-    ensures { λ r. ⌜ r ≡ evictNodeCode (mem (now (table .entry)) (now (nodes .entry)) (now (answers .entry)) (now (desks .entry))) place ⌝ }
+    ensures { λ r. ⌜ r ≡ evictNodeCode (mem (now (table .entry)) (now (nodes .entry)) (now (answers .entry)) (now (clients .entry))) place ⌝ }
 {
-    let found = sound_code(table, nodes, answers, desks);
+    let found = sound_code(table, nodes, answers, clients);
     if found != 0 {
         return found;
     }
@@ -227,14 +227,14 @@ pub fn evict_node_code(
     0
 }
 
-pub fn renew_code(table: &[u32], nodes: &[u32], answers: &[u32], desks: &[u32]) -> u32
-    ensures { λ r. ⌜ r ≡ renewCode (mem (now (table .entry)) (now (nodes .entry)) (now (answers .entry)) (now (desks .entry))) ⌝ }
+pub fn renew_code(table: &[u32], nodes: &[u32], answers: &[u32], clients: &[u32]) -> u32
+    ensures { λ r. ⌜ r ≡ renewCode (mem (now (table .entry)) (now (nodes .entry)) (now (answers .entry)) (now (clients .entry))) ⌝ }
 {
-    let found = sound_code(table, nodes, answers, desks);
+    let found = sound_code(table, nodes, answers, clients);
     if found != 0 {
         return found;
     }
-    if !clients::all_idle(desks) {
+    if !clients::all_idle(clients) {
         return 11;
     }
     0

@@ -1,4 +1,4 @@
-pub mod Memory
-pub mod Reading
-pub mod Changes
-pub mod Sound
+pub mod ClientMemory
+pub mod ClientReads
+pub mod ClientChanges
+pub mod ClientSound

@@ -7,12 +7,12 @@ ghost use Prim.Native.Nat.{_+_, _*_, _<_, _≤_};
 ghost use lib.Dec.{eqb, ltb, leb};
 ghost use lib.ListN.{length, getD, take, drop, set};
 ghost use Rattle.lists.specs.Lists.{allBelow, written};
-ghost use Rattle.query.specs.Words.{isKey, namesAll};
-ghost use Rattle.columns.specs.Columns.{four};
+ghost use Rattle.query.specs.Encoding.{isKey, namesAll};
+ghost use Rattle.columns.specs.ColumnContracts.{four};
 ghost use Rattle.rules.specs.Answers.{keyIn, lengthIn, listIn};
-ghost use Rattle.rules.specs.Client.{kind, steps, sawMark, didChange, foundFull, entryOf, idle, isIdle, queryAt, stepsInAll, isBad, stepped, flag, noted, wrote};
+ghost use Rattle.rules.specs.Client.{kind, steps, sawPending, didChange, foundFull, entryOf, idle, isIdle, queryAt, stepsInAll, isBad, stepped, flag, noted, wrote};
 ghost use Rattle.rules.specs.Memory.{clientIn, withClient};
-ghost use Rattle.clients.specs.Clients.{Fit, idleAt, begunWith, listSet};
+ghost use Rattle.clients.specs.ClientContracts.{Fit, idleAt, begunWith, listSet};
 use query::Column;
 
 // How many clients there are.
@@ -20,69 +20,69 @@ const CLIENTS: usize = Hall::CLIENTS as usize;
 
 // ---- Reading
 // Number j of client d.
-fn word(desks: &[u32], d: usize, j: usize) -> u32
-    requires { ⌜ Fit (now desks) d × (j < 157) ⌝ }
-    ensures { λ r. ⌜ r ≡ getD (clientIn (now (desks .entry)) d) j 0 ⌝ }
+fn word(clients: &[u32], d: usize, j: usize) -> u32
+    requires { ⌜ Fit (now clients) d × (j < 157) ⌝ }
+    ensures { λ r. ⌜ r ≡ getD (clientIn (now (clients .entry)) d) j 0 ⌝ }
 {
-    desks[8 + d * 157 + j]
+    clients[8 + d * 157 + j]
 }
 
-pub fn kind_of(desks: &[u32], d: usize) -> u32
-    requires { ⌜ Fit (now desks) d ⌝ }
-    ensures { λ r. ⌜ r ≡ kind (clientIn (now (desks .entry)) d) ⌝ }
+pub fn kind_of(clients: &[u32], d: usize) -> u32
+    requires { ⌜ Fit (now clients) d ⌝ }
+    ensures { λ r. ⌜ r ≡ kind (clientIn (now (clients .entry)) d) ⌝ }
 {
-    word(desks, d, 0)
+    word(clients, d, 0)
 }
 
-pub fn steps_of(desks: &[u32], d: usize) -> u32
-    requires { ⌜ Fit (now desks) d ⌝ }
-    ensures { λ r. ⌜ r ≡ steps (clientIn (now (desks .entry)) d) ⌝ }
+pub fn steps_of(clients: &[u32], d: usize) -> u32
+    requires { ⌜ Fit (now clients) d ⌝ }
+    ensures { λ r. ⌜ r ≡ steps (clientIn (now (clients .entry)) d) ⌝ }
 {
-    word(desks, d, 1)
+    word(clients, d, 1)
 }
 
 // Whether a look saw a mark.
-pub fn saw_mark(desks: &[u32], d: usize) -> bool
-    requires { ⌜ Fit (now desks) d ⌝ }
-    ensures { λ r. ⌜ r ≡ sawMark (clientIn (now (desks .entry)) d) ⌝ }
+pub fn saw_pending(clients: &[u32], d: usize) -> bool
+    requires { ⌜ Fit (now clients) d ⌝ }
+    ensures { λ r. ⌜ r ≡ sawPending (clientIn (now (clients .entry)) d) ⌝ }
 {
-    word(desks, d, 2) != 0
+    word(clients, d, 2) != 0
 }
 
 // Whether the write changed the table.
-pub fn did_change(desks: &[u32], d: usize) -> bool
-    requires { ⌜ Fit (now desks) d ⌝ }
-    ensures { λ r. ⌜ r ≡ didChange (clientIn (now (desks .entry)) d) ⌝ }
+pub fn did_change(clients: &[u32], d: usize) -> bool
+    requires { ⌜ Fit (now clients) d ⌝ }
+    ensures { λ r. ⌜ r ≡ didChange (clientIn (now (clients .entry)) d) ⌝ }
 {
-    word(desks, d, 3) != 0
+    word(clients, d, 3) != 0
 }
 
 // Whether the insert found the table full.
-pub fn found_full(desks: &[u32], d: usize) -> bool
-    requires { ⌜ Fit (now desks) d ⌝ }
-    ensures { λ r. ⌜ r ≡ foundFull (clientIn (now (desks .entry)) d) ⌝ }
+pub fn found_full(clients: &[u32], d: usize) -> bool
+    requires { ⌜ Fit (now clients) d ⌝ }
+    ensures { λ r. ⌜ r ≡ foundFull (clientIn (now (clients .entry)) d) ⌝ }
 {
-    word(desks, d, 4) != 0
+    word(clients, d, 4) != 0
 }
 
 // Whether all of a client's numbers are 0.
-pub fn is_idle(desks: &[u32], d: usize) -> bool
-    requires { ⌜ Fit (now desks) d ⌝ }
-    ensures { λ r. ⌜ r ≡ isIdle (clientIn (now (desks .entry)) d) ⌝ }
+pub fn is_idle(clients: &[u32], d: usize) -> bool
+    requires { ⌜ Fit (now clients) d ⌝ }
+    ensures { λ r. ⌜ r ≡ isIdle (clientIn (now (clients .entry)) d) ⌝ }
 {
     let at = 8 + d * 157;
     let stop = at + 157;
-    words::is_zero(&desks[at..stop])
+    words::is_zero(&clients[at..stop])
 }
 
 // Whether no client is busy; ends at the first that is.
-pub fn all_idle(desks: &[u32]) -> bool
-    requires { ⌜ 2000 ≤ length (now desks) ⌝ }
-    ensures { λ r. ⌜ r ≡ allBelow 12 (idleAt (now (desks .entry))) ⌝ }
+pub fn all_idle(clients: &[u32]) -> bool
+    requires { ⌜ 2000 ≤ length (now clients) ⌝ }
+    ensures { λ r. ⌜ r ≡ allBelow 12 (idleAt (now (clients .entry))) ⌝ }
 {
     let mut d = 0;
     while d < CLIENTS {
-        if !is_idle(desks, d) {
+        if !is_idle(clients, d) {
             return false;
         }
         d += 1;
@@ -91,79 +91,79 @@ pub fn all_idle(desks: &[u32]) -> bool
 }
 
 // The columns of a client's query.
-pub fn columns_at(desks: &[u32], d: usize, k: usize) -> [Column; 4]
-    requires { ⌜ Fit (now desks) d × ((1 ≤ k) × (k ≤ 4)) ⌝ }
-    ensures { λ r. ⌜ r ≡ four (queryAt k (clientIn (now (desks .entry)) d)) ⌝ }
+pub fn columns_at(clients: &[u32], d: usize, k: usize) -> [Column; 4]
+    requires { ⌜ Fit (now clients) d × ((1 ≤ k) × (k ≤ 4)) ⌝ }
+    ensures { λ r. ⌜ r ≡ four (queryAt k (clientIn (now (clients .entry)) d)) ⌝ }
 {
-    let marks = word(desks, d, 5);
+    let marks = word(clients, d, 5);
     let at = 8 + d * 157 + 6;
     let end = at + 6;
-    columns::keys::columns_in(k, marks, &desks[at..end])
+    columns::keys::columns_in(k, marks, &clients[at..end])
 }
 
 // Writes a client's list from the tray's start on, and says how many records it has.
-pub fn give_list(desks: &[u32], d: usize, k: usize, tray: &mut [u32]) -> u32
-    requires { ⌜ Fit (now desks) d × ((lengthIn (entryOf (clientIn (now desks) d)) ≤ 32) × ((1 ≤ k) × ((k ≤ 4) × (128 ≤ length (now tray))))) ⌝ }
-    ensures { λ r. ⌜ (r ≡ lengthIn (entryOf (clientIn (now (desks .entry)) d))) × (now (tray .exit) ≡ written (now (tray .entry)) 0 (listIn k (entryOf (clientIn (now (desks .entry)) d)))) ⌝ }
+pub fn give_list(clients: &[u32], d: usize, k: usize, tray: &mut [u32]) -> u32
+    requires { ⌜ Fit (now clients) d × ((lengthIn (entryOf (clientIn (now clients) d)) ≤ 32) × ((1 ≤ k) × ((k ≤ 4) × (128 ≤ length (now tray))))) ⌝ }
+    ensures { λ r. ⌜ (r ≡ lengthIn (entryOf (clientIn (now (clients .entry)) d))) × (now (tray .exit) ≡ written (now (tray .entry)) 0 (listIn k (entryOf (clientIn (now (clients .entry)) d)))) ⌝ }
 {
-    let n = word(desks, d, 12);
+    let n = word(clients, d, 12);
     let at = 8 + d * 157 + 29;
     let end = at + n as usize * k;
-    words::write(tray, 0, &desks[at..end]);
+    words::write(tray, 0, &clients[at..end]);
     n
 }
 
 // ---- Changes
 // Stores x as number j of client d.
-fn put(desks: &mut [u32], d: usize, j: usize, x: u32)
-    requires { ⌜ Fit (now desks) d × (j < 157) ⌝ }
-    ensures { λ _. ⌜ now (desks .exit) ≡ withClient (now (desks .entry)) d (set (clientIn (now (desks .entry)) d) j x) ⌝ }
+fn put(clients: &mut [u32], d: usize, j: usize, x: u32)
+    requires { ⌜ Fit (now clients) d × (j < 157) ⌝ }
+    ensures { λ _. ⌜ now (clients .exit) ≡ withClient (now (clients .entry)) d (set (clientIn (now (clients .entry)) d) j x) ⌝ }
 {
-    desks[8 + d * 157 + j] = x;
+    clients[8 + d * 157 + j] = x;
 }
 
 // Leaves client d idle: all 0.
-pub fn set_idle(desks: &mut [u32], d: usize)
-    requires { ⌜ Fit (now desks) d ⌝ }
-    ensures { λ _. ⌜ now (desks .exit) ≡ withClient (now (desks .entry)) d idle ⌝ }
+pub fn set_idle(clients: &mut [u32], d: usize)
+    requires { ⌜ Fit (now clients) d ⌝ }
+    ensures { λ _. ⌜ now (clients .exit) ≡ withClient (now (clients .entry)) d idle ⌝ }
 {
     let at = 8 + d * 157;
     let end = at + 157;
-    words::clear(&mut desks[at..end], 157);
+    words::clear(&mut clients[at..end], 157);
 }
 
 // Begins a read or a write at client d: its kind and its query's key, all the rest 0.
-pub fn begin(desks: &mut [u32], d: usize, kind: u32, key: &[u32])
-    requires { ⌜ Fit (now desks) d × (length (now key) ≡ 7) ⌝ }
-    ensures { λ _. ⌜ now (desks .exit) ≡ withClient (now (desks .entry)) d (begunWith kind (now (key .entry))) ⌝ }
+pub fn begin(clients: &mut [u32], d: usize, kind: u32, key: &[u32])
+    requires { ⌜ Fit (now clients) d × (length (now key) ≡ 7) ⌝ }
+    ensures { λ _. ⌜ now (clients .exit) ≡ withClient (now (clients .entry)) d (begunWith kind (now (key .entry))) ⌝ }
 {
-    set_idle(desks, d);
+    set_idle(clients, d);
     let head = [kind, 0, 0, 0, 0];
     let at = 8 + d * 157;
-    words::write(desks, at, &head);
-    words::write(desks, at + 5, key);
+    words::write(clients, at, &head);
+    words::write(clients, at + 5, key);
 }
 
 // Counts one step more.
-pub fn advance(desks: &mut [u32], d: usize)
-    requires { ⌜ Fit (now desks) d × (steps (clientIn (now desks) d) < 4294967295) ⌝ }
-    ensures { λ _. ⌜ now (desks .exit) ≡ withClient (now (desks .entry)) d (stepped (clientIn (now (desks .entry)) d)) ⌝ }
+pub fn advance(clients: &mut [u32], d: usize)
+    requires { ⌜ Fit (now clients) d × (steps (clientIn (now clients) d) < 4294967295) ⌝ }
+    ensures { λ _. ⌜ now (clients .exit) ≡ withClient (now (clients .entry)) d (stepped (clientIn (now (clients .entry)) d)) ⌝ }
 {
-    let made = steps_of(desks, d);
-    put(desks, d, 1, made + 1);
+    let made = steps_of(clients, d);
+    put(clients, d, 1, made + 1);
 }
 
 // Look j: notes a node's revision and whether writes are pending there, and counts the step.
-pub fn note(desks: &mut [u32], d: usize, j: usize, revision: u32, pending: u32)
-    requires { ⌜ Fit (now desks) d × ((j < 16) × (steps (clientIn (now desks) d) < 4294967295)) ⌝ }
-    ensures { λ _. ⌜ now (desks .exit) ≡ withClient (now (desks .entry)) d (noted j revision pending (clientIn (now (desks .entry)) d)) ⌝ }
+pub fn note(clients: &mut [u32], d: usize, j: usize, revision: u32, pending: u32)
+    requires { ⌜ Fit (now clients) d × ((j < 16) × (steps (clientIn (now clients) d) < 4294967295)) ⌝ }
+    ensures { λ _. ⌜ now (clients .exit) ≡ withClient (now (clients .entry)) d (noted j revision pending (clientIn (now (clients .entry)) d)) ⌝ }
 {
-    advance(desks, d);
-    put(desks, d, 13 + j, revision);
+    advance(clients, d);
+    put(clients, d, 13 + j, revision);
     if pending == 0 {
         return;
     }
-    put(desks, d, 2, 1);
+    put(clients, d, 2, 1);
 }
 
 fn flag(b: bool) -> u32
@@ -173,26 +173,26 @@ fn flag(b: bool) -> u32
 }
 
 // A write's table step: whether the table changed, whether it was full, and the step counted.
-pub fn set_wrote(desks: &mut [u32], d: usize, changed: bool, full: bool)
-    requires { ⌜ Fit (now desks) d × (steps (clientIn (now desks) d) < 4294967295) ⌝ }
-    ensures { λ _. ⌜ now (desks .exit) ≡ withClient (now (desks .entry)) d (wrote changed full (clientIn (now (desks .entry)) d)) ⌝ }
+pub fn set_wrote(clients: &mut [u32], d: usize, changed: bool, full: bool)
+    requires { ⌜ Fit (now clients) d × (steps (clientIn (now clients) d) < 4294967295) ⌝ }
+    ensures { λ _. ⌜ now (clients .exit) ≡ withClient (now (clients .entry)) d (wrote changed full (clientIn (now (clients .entry)) d)) ⌝ }
 {
-    advance(desks, d);
-    put(desks, d, 3, flag(changed));
-    put(desks, d, 4, flag(full));
+    advance(clients, d);
+    put(clients, d, 3, flag(changed));
+    put(clients, d, 4, flag(full));
 }
 
 // A read's table step, the list being in its place already: sets its length, clears what is behind it, and counts the step.
-pub fn set_list(desks: &mut [u32], d: usize, n: usize, k: usize)
-    requires { ⌜ Fit (now desks) d × ((n ≤ 32) × ((1 ≤ k) × ((k ≤ 4) × (steps (clientIn (now desks) d) < 4294967295)))) ⌝ }
-    ensures { λ _. ⌜ now (desks .exit) ≡ withClient (now (desks .entry)) d (listSet n k (clientIn (now (desks .entry)) d)) ⌝ }
+pub fn set_list(clients: &mut [u32], d: usize, n: usize, k: usize)
+    requires { ⌜ Fit (now clients) d × ((n ≤ 32) × ((1 ≤ k) × ((k ≤ 4) × (steps (clientIn (now clients) d) < 4294967295)))) ⌝ }
+    ensures { λ _. ⌜ now (clients .exit) ≡ withClient (now (clients .entry)) d (listSet n k (clientIn (now (clients .entry)) d)) ⌝ }
 {
-    advance(desks, d);
-    put(desks, d, 12, n as u32);
+    advance(clients, d);
+    put(clients, d, 12, n as u32);
     let used = 29 + n * k;
     let from = 8 + d * 157 + used;
     let end = 8 + d * 157 + 157;
-    words::clear(&mut desks[from..end], 157 - used);
+    words::clear(&mut clients[from..end], 157 - used);
 }
 
 // ---- Soundness
@@ -210,13 +210,13 @@ pub fn steps_in_all(kind: u32, cols: [Column; 4], k: usize) -> u32
 }
 
 // Whether a client's key is that of no query of k columns.
-fn bad_key(desks: &[u32], d: usize, k: usize) -> bool
-    requires { ⌜ Fit (now desks) d × (k ≤ 4) ⌝ }
-    ensures { λ r. ⌜ r ≡ not (isKey k (keyIn (entryOf (clientIn (now (desks .entry)) d)))) ⌝ }
+fn bad_key(clients: &[u32], d: usize, k: usize) -> bool
+    requires { ⌜ Fit (now clients) d × (k ≤ 4) ⌝ }
+    ensures { λ r. ⌜ r ≡ not (isKey k (keyIn (entryOf (clientIn (now (clients .entry)) d)))) ⌝ }
 {
     let at = 8 + d * 157 + 5;
     let end = at + 7;
-    !columns::keys::is_key(k, &desks[at..end])
+    !columns::keys::is_key(k, &clients[at..end])
 }
 
 // Whether an insert has a wildcard.
@@ -231,43 +231,43 @@ fn bad_insert(kind: u32, cols: [Column; 4], k: usize) -> bool
 }
 
 // Whether a client has made all its steps and is not idle.
-fn bad_step(desks: &[u32], d: usize, kind: u32, cols: [Column; 4], k: usize) -> bool
-    requires { ⌜ Fit (now desks) d × (k ≤ 4) ⌝ }
-    ensures { λ r. ⌜ r ≡ leb (stepsInAll kind (take k cols)) (steps (clientIn (now (desks .entry)) d)) ⌝ }
+fn bad_step(clients: &[u32], d: usize, kind: u32, cols: [Column; 4], k: usize) -> bool
+    requires { ⌜ Fit (now clients) d × (k ≤ 4) ⌝ }
+    ensures { λ r. ⌜ r ≡ leb (stepsInAll kind (take k cols)) (steps (clientIn (now (clients .entry)) d)) ⌝ }
 {
-    let made = steps_of(desks, d);
+    let made = steps_of(clients, d);
     steps_in_all(kind, cols, k) <= made
 }
 
 // Whether a client's list is longer than any.
-fn bad_length(desks: &[u32], d: usize) -> bool
-    requires { ⌜ Fit (now desks) d ⌝ }
-    ensures { λ r. ⌜ r ≡ ltb 32 (lengthIn (entryOf (clientIn (now (desks .entry)) d))) ⌝ }
+fn bad_length(clients: &[u32], d: usize) -> bool
+    requires { ⌜ Fit (now clients) d ⌝ }
+    ensures { λ r. ⌜ r ≡ ltb 32 (lengthIn (entryOf (clientIn (now (clients .entry)) d))) ⌝ }
 {
-    Hall::LIST < word(desks, d, 12)
+    Hall::LIST < word(clients, d, 12)
 }
 
 // Whether a client is not idle and its kind, query, step or list length is out of range. Only where the kind is 0 are all its numbers read.
-pub fn is_bad(desks: &[u32], d: usize, k: usize) -> bool
-    requires { ⌜ Fit (now desks) d × ((1 ≤ k) × (k ≤ 4)) ⌝ }
-    ensures { λ r. ⌜ r ≡ isBad k (clientIn (now (desks .entry)) d) ⌝ }
+pub fn is_bad(clients: &[u32], d: usize, k: usize) -> bool
+    requires { ⌜ Fit (now clients) d × ((1 ≤ k) × (k ≤ 4)) ⌝ }
+    ensures { λ r. ⌜ r ≡ isBad k (clientIn (now (clients .entry)) d) ⌝ }
 {
-    let kind = kind_of(desks, d);
+    let kind = kind_of(clients, d);
     if kind == 0 {
-        return !is_idle(desks, d);
+        return !is_idle(clients, d);
     }
     if 3 < kind {
         return true;
     }
-    if bad_key(desks, d, k) {
+    if bad_key(clients, d, k) {
         return true;
     }
-    let cols = columns_at(desks, d, k);
+    let cols = columns_at(clients, d, k);
     if bad_insert(kind, cols, k) {
         return true;
     }
-    if bad_step(desks, d, kind, cols, k) {
+    if bad_step(clients, d, kind, cols, k) {
         return true;
     }
-    bad_length(desks, d)
+    bad_length(clients, d)
 }

@@ -1,5 +1,5 @@
-pub mod Table
-pub mod Fill
-pub mod Laws
-pub mod Marks
-pub mod Nodes
+pub mod TableRule
+pub mod FillLoop
+pub mod ColumnLoops
+pub mod KeyLoops
+pub mod LabelLoops

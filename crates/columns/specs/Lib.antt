@@ -1,3 +1,3 @@
-pub mod Columns
-pub mod Keys
-pub mod Labels
+pub mod ColumnContracts
+pub mod KeyContracts
+pub mod LabelContracts

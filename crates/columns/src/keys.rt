@@ -3,9 +3,9 @@ ghost use mathlib.Core.Path.{_≡_};
 ghost use Prim.Native.Nat.{_≤_, _^_};
 ghost use lib.ListN.{length, take};
 ghost use Rattle.query.specs.Query.{named};
-ghost use Rattle.query.specs.Words.{marks, columnsIn, columnValue, keyWords, isKey};
-ghost use Rattle.columns.specs.Columns.{four};
-ghost use Rattle.columns.specs.Keys.{markOf, keeps, zeroUnder};
+ghost use Rattle.query.specs.Encoding.{marks, columnsIn, columnValue, keyWords, isKey};
+ghost use Rattle.columns.specs.ColumnContracts.{four};
+ghost use Rattle.columns.specs.KeyContracts.{markOf, keeps, zeroUnder};
 use query::Column;
 
 // 1 for a column that names a value, 0 for a wildcard.

@@ -3,8 +3,8 @@ ghost use mathlib.Core.Path.{_≡_};
 ghost use Prim.Native.Nat.{_≤_, _<_};
 ghost use lib.ListN.{take};
 ghost use Rattle.query.specs.Query.{readCount, readNode, writeNode};
-ghost use Rattle.query.specs.Words.{labelWords};
-ghost use Rattle.columns.specs.Labels.{termOf, changedTerm, changedNode, wordOf, bytes, Tags};
+ghost use Rattle.query.specs.Encoding.{labelWords};
+ghost use Rattle.columns.specs.LabelContracts.{termOf, changedTerm, changedNode, wordOf, bytes, Tags};
 use query::Column;
 
 // The tags of a label's column.

@@ -4,8 +4,8 @@ ghost use mathlib.Core.Path.{_≡_};
 ghost use Prim.Native.Nat.{_≤_};
 ghost use lib.ListN.{length, take};
 ghost use Rattle.query.specs.Query.{admits, lies};
-ghost use Rattle.query.specs.Words.{isQuery, columnOf, queryOf, wellMarked};
-ghost use Rattle.columns.specs.Columns.{columnMarked, four, takenOf};
+ghost use Rattle.query.specs.Encoding.{isQuery, columnOf, queryOf, wellMarked};
+ghost use Rattle.columns.specs.ColumnContracts.{columnMarked, four, takenOf};
 use query::Column;
 
 pub mod keys; // keys.rt: marks, values and keys

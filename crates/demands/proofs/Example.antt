@@ -1,6 +1,6 @@
 -- The premises of demand 2's last sentence can be met, and what it then gives: case 6 of document 01, k 1 and an empty table. A read of 5
 -- answers at its fifth step and files that; read again, it gets it from file at its third. The premises are computed, in one pass over the
--- calls; the answer is the theorem's. Leans on Runs and Second. Assumes nothing.
+-- calls; the answer is the theorem's. Leans on HistoryRuns and Demand2Holds. Assumes nothing.
 use mathlib.Core.Path.{_≡_, refl, sym, ap, _∙_}
 use mathlib.Core.Logic.{inr}
 use mathlib.Core.Bool.{Bool, true, false, not, _&&_, _||_, true≢false}
@@ -11,27 +11,27 @@ use lib.Dec.{eqb, leb}
 use borrow.Author.Tests.{eqb-true, eq-eqb, ne-eqb, lt-leb, not-true}
 use lib.ListN.{length, getD, take, replicate}
 use Rattle.lists.specs.Lists.{same, keep, place, without, allBelow, listed, padded, written, rows, flat, entriesIn, withEntries}
-use Rattle.laws.proofs.Lists.{and-left, and-right, same-eq}
+use Rattle.laws.proofs.ListLaws.{and-left, and-right, same-eq}
 use Rattle.query.specs.declared.Column.the-variants.{Is}
 use Rattle.query.specs.Query.{Query, admits, lies, pick, readNode, named, readCount}
-use Rattle.query.specs.Words.{columnOf, queryOf, wellMarked, isQuery, namesAll, termValue, columnValue, tag, tags, labelWords, marks, keyWords, columnsIn, queryIn, isKey}
+use Rattle.query.specs.Encoding.{columnOf, queryOf, wellMarked, isQuery, namesAll, termValue, columnValue, tag, tags, labelWords, marks, keyWords, columnsIn, queryIn, isKey}
 use Rattle.rules.specs.declared.Outcome.the-variants.{Answered}
 use Rattle.rules.specs.Table.{listOf}
 use Rattle.rules.specs.Nodes.{labelIn, pending, revision, withPending, withRevision, hasLabel, nodePlace, isPresent, nodeOf, withNode, evictNode, added, isFree, oldestFree, makeRoom, addedIn, ensured, isHigh, isWorn}
 use Rattle.rules.specs.Answers.{Entry, keyIn, lengthIn, revisionIn, listIn, hasKeyOf, atLeast, serves, fetchPlace, keyPlace, filed, isLong, someLong}
-use Rattle.rules.specs.Client.{reads, kind, steps, sawMark, entryOf, idle, isIdle, begun, queryAt, stepsInAll, isBad, stepped, noted, holding}
+use Rattle.rules.specs.Client.{reads, kind, steps, sawPending, entryOf, idle, isIdle, begun, queryAt, stepsInAll, isBad, stepped, noted, holding}
 use Rattle.rules.specs.Memory.{Mem, mem, recordsIn, storeIn, withStore, answersIn, withAnswers, columnsAt, clientIn, withClient, cleared, opened}
 use Rattle.rules.specs.Outcome.{number}
-use Rattle.rules.specs.Refusals.{columns, client, isShort, badColumns, badQuery, isUnsound, noDesk, openCode, beginCode, atDesk, stepCode}
-use Rattle.rules.specs.Steps.{nowAt, storeBack, answered, lookDid, fetchDid, tableDid, fileDid, readDid, progress}
-use Rattle.rules.specs.Calls.{unless, beginDid, stepDid}
-use Rattle.rules.specs.History.{Call, beginRead, beginInsert, beginDelete, step, abandon, evictAnswer, evictNode as dropNode, renew, untrayed, callDid, isAccepted, memAfter}
+use Rattle.rules.specs.Refusals.{columns, client, isShort, badColumns, badQuery, isUnsound, noClient, openCode, beginCode, atClient, stepCode}
+use Rattle.rules.specs.Steps.{nowAt, storeBack, answered, lookResult, fetchResult, tableResult, fileResult, readResult, progress}
+use Rattle.rules.specs.Calls.{unless, beginResult, stepResult}
+use Rattle.rules.specs.History.{Call, beginRead, beginInsert, beginDelete, step, abandon, evictAnswer, evictNode as dropNode, renew, untrayed, callResult, isAccepted, memAfter}
 use Rattle.machine.proofs.Keys.{Key, sameKey, sameQuery, sameColumn, sameKey-eq}
-use Rattle.demands.specs.Whole.{History, memAt, callAt, replyAt, acceptedAt, endsWork, endsAt, UnderWay}
-use Rattle.demands.specs.Demand2.{isOpen, isQuiet, stillThere, keepsNodes, Calm, Reads, Filed, Fetches, LastFiled}
-use Rattle.demands.proofs.Runs.{next-mem}
+use Rattle.demands.specs.WholeHistory.{History, memAt, callAt, resultAt, acceptedAt, endsWork, endsAt, UnderWay}
+use Rattle.demands.specs.Demand2.{isOpen, isQuiet, stillThere, keepsNodes, Quiescent, Reads, Filed, Fetches, LastFiled}
+use Rattle.demands.proofs.HistoryRuns.{next-mem}
 use Rattle.demands.proofs.Moments.{asking}
-use Rattle.demands.proofs.Second.{demand-2-gets}
+use Rattle.demands.proofs.Demand2Holds.{demand-2-gets}
 
 abbrev pub tray : List ℕ
 tray = replicate 128 9
@@ -71,8 +71,8 @@ onFile m =
     eqb (length (answersIn (m .answers))) 1
     && (same (keyIn (getD (answersIn (m .answers)) 0 [])) (keyWords q) && eqb (lengthIn (getD (answersIn (m .answers)) 0 [])) 0)
 
-calmAt : Mem → Call → Bool
-calmAt m c = isQuiet q m && keepsNodes q m (callDid m c .mem)
+quiescentAt : Mem → Call → Bool
+quiescentAt m c = isQuiet q m && keepsNodes q m (callResult m c .mem)
 
 -- it is no file step, or not after call 5
 mayFile : Call → Mem → Bool
@@ -87,24 +87,24 @@ mayFile renew m = false
 
 -- it ends nothing at desk 0, but for calls 5 and 9
 goes : Mem → Call → Bool
-goes m c = not (endsAt 0 c (callDid m c .out))
+goes m c = not (endsAt 0 c (callResult m c .out))
 
 tests : ℕ → Mem → Call → Bool
 tests i m c =
-    calmAt m c
+    quiescentAt m c
     && ((leb i 5 || not (mayFile c m))
     && ((eqb i 5 || (eqb i 9 || goes m c))
-    && ((not (eqb i 0) || isAccepted (number (callDid m c .out)))
-    && ((not (eqb i 6) || isAccepted (number (callDid m c .out)))
+    && ((not (eqb i 0) || isAccepted (number (callResult m c .out)))
+    && ((not (eqb i 6) || isAccepted (number (callResult m c .out)))
     && ((not (eqb i 5) || ready m (readCount q + 2))
     && (not (eqb i 9) || (ready m (readCount q) && onFile m)))))))
 
 passes : ℕ → Mem → List Call → Bool
 passes i m [] = true
-passes i m (c ∷ cs) = tests i m c && passes (suc i) (callDid m c .mem) cs
+passes i m (c ∷ cs) = tests i m c && passes (suc i) (callResult m c .mem) cs
 
 computed : passes 0 (opened 1 lent) played ≡ true
-unfolding same keep place without allBelow listed padded written rows flat entriesIn withEntries pick readNode named readCount columnOf queryOf wellMarked isQuery namesAll termValue columnValue tag tags labelWords marks keyWords columnsIn queryIn isKey listOf labelIn pending revision withPending withRevision hasLabel nodePlace isPresent nodeOf withNode evictNode added isFree oldestFree makeRoom addedIn ensured isHigh isWorn keyIn lengthIn revisionIn listIn hasKeyOf atLeast serves fetchPlace keyPlace filed isLong someLong kind steps sawMark entryOf idle isIdle begun queryAt stepsInAll isBad stepped noted holding recordsIn storeIn withStore answersIn withAnswers columnsAt clientIn withClient cleared opened columns client isShort badColumns badQuery isUnsound noDesk openCode beginCode atDesk stepCode nowAt storeBack answered lookDid fetchDid tableDid fileDid readDid progress unless beginDid stepDid untrayed callDid isAccepted endsWork endsAt isOpen isQuiet stillThere keepsNodes number lies admits sameKey sameQuery sameColumn ready onFile calmAt mayFile goes tests passes
+unfolding same keep place without allBelow listed padded written rows flat entriesIn withEntries pick readNode named readCount columnOf queryOf wellMarked isQuery namesAll termValue columnValue tag tags labelWords marks keyWords columnsIn queryIn isKey listOf labelIn pending revision withPending withRevision hasLabel nodePlace isPresent nodeOf withNode evictNode added isFree oldestFree makeRoom addedIn ensured isHigh isWorn keyIn lengthIn revisionIn listIn hasKeyOf atLeast serves fetchPlace keyPlace filed isLong someLong kind steps sawPending entryOf idle isIdle begun queryAt stepsInAll isBad stepped noted holding recordsIn storeIn withStore answersIn withAnswers columnsAt clientIn withClient cleared opened columns client isShort badColumns badQuery isUnsound noClient openCode beginCode atClient stepCode nowAt storeBack answered lookResult fetchResult tableResult fileResult readResult progress unless beginResult stepResult untrayed callResult isAccepted endsWork endsAt isOpen isQuiet stillThere keepsNodes number lies admits sameKey sameQuery sameColumn ready onFile quiescentAt mayFile goes tests passes
 computed = refl
 
 -- ---- What they say of each call
@@ -114,41 +114,41 @@ passed [] n m e i l = absurd (omega arith)
 passed (c ∷ cs) n m e zero l = let z : n + 0 ≡ n = omega arith in rw z (and-left (tests n m c) _ e)
 passed (c ∷ cs) n m e (suc i) l =
     let z : n + suc i ≡ suc n + i = omega arith in
-    rw z (passed cs (suc n) (callDid m c .mem) (and-right (tests n m c) _ e) i (omega arith))
+    rw z (passed cs (suc n) (callResult m c .mem) (and-right (tests n m c) _ e) i (omega arith))
 
 at-call : (i : ℕ) → i < 10 → tests i (memAt example i) (callAt example i) ≡ true
 unfolding memAt callAt
 at-call i l = let z : 0 + i ≡ i = omega arith in rw z at (passed played 0 (opened 1 lent) computed i l)
 
 record Passed (i : ℕ) (m : Mem) (c : Call) : Type 0 where
-  calm : calmAt m c ≡ true
+  quiescent : quiescentAt m c ≡ true
   last : (leb i 5 || not (mayFile c m)) ≡ true
   on : (eqb i 5 || (eqb i 9 || goes m c)) ≡ true
-  begun : (not (eqb i 0) || isAccepted (number (callDid m c .out))) ≡ true
-  begun-again : (not (eqb i 6) || isAccepted (number (callDid m c .out))) ≡ true
+  begun : (not (eqb i 0) || isAccepted (number (callResult m c .out))) ≡ true
+  begun-again : (not (eqb i 6) || isAccepted (number (callResult m c .out))) ≡ true
   files : (not (eqb i 5) || ready m (readCount q + 2)) ≡ true
   fetches : (not (eqb i 9) || (ready m (readCount q) && onFile m)) ≡ true
 
-told : (i : ℕ) (m : Mem) (c : Call) → tests i m c ≡ true → Passed i m c
+given : (i : ℕ) (m : Mem) (c : Call) → tests i m c ≡ true → Passed i m c
 unfolding tests
-told i m c t =
-    let a = and-right (calmAt m c) _ t in
+given i m c t =
+    let a = and-right (quiescentAt m c) _ t in
     let b = and-right (leb i 5 || not (mayFile c m)) _ a in
     let d = and-right (eqb i 5 || (eqb i 9 || goes m c)) _ b in
-    let e = and-right (not (eqb i 0) || isAccepted (number (callDid m c .out))) _ d in
-    let f = and-right (not (eqb i 6) || isAccepted (number (callDid m c .out))) _ e in
+    let e = and-right (not (eqb i 0) || isAccepted (number (callResult m c .out))) _ d in
+    let f = and-right (not (eqb i 6) || isAccepted (number (callResult m c .out))) _ e in
     record {
-      calm = and-left (calmAt m c) _ t;
+      quiescent = and-left (quiescentAt m c) _ t;
       last = and-left (leb i 5 || not (mayFile c m)) _ a;
       on = and-left (eqb i 5 || (eqb i 9 || goes m c)) _ b;
-      begun = and-left (not (eqb i 0) || isAccepted (number (callDid m c .out))) _ d;
-      begun-again = and-left (not (eqb i 6) || isAccepted (number (callDid m c .out))) _ e;
+      begun = and-left (not (eqb i 0) || isAccepted (number (callResult m c .out))) _ d;
+      begun-again = and-left (not (eqb i 6) || isAccepted (number (callResult m c .out))) _ e;
       files = and-left (not (eqb i 5) || ready m (readCount q + 2)) _ f;
       fetches = and-right (not (eqb i 5) || ready m (readCount q + 2)) _ f;
     }
 
 at : (i : ℕ) → i < 10 → Passed i (memAt example i) (callAt example i)
-at i l = told i (memAt example i) (callAt example i) (at-call i l)
+at i l = given i (memAt example i) (callAt example i) (at-call i l)
 
 -- ---- The premises
 is-ready : (m : Mem) (n : ℕ) → ready m n ≡ true → (stepCode m tray 0 ≡ 0) × Reads m 0 q n
@@ -160,7 +160,7 @@ is-ready m n e =
     let k = sameKey (asking (queryAt (columns m) (client m 0))) (asking q) in (
       eqb-true (stepCode m tray 0) 0 (and-left (eqb (stepCode m tray 0) 0) _ e),
       record {
-        desk = omega arith;
+        below = omega arith;
         busy = not-true (isIdle (client m 0)) (and-left (not (isIdle (client m 0))) _ a);
         reader = eqb-true (kind (client m 0)) reads (and-left (eqb (kind (client m 0)) reads) _ b);
         asks = ap (λ (x : Key). x .asked) (sameKey-eq (asking (queryAt (columns m) (client m 0))) (asking q) (and-left k _ c));
@@ -171,7 +171,7 @@ is-ready m n e =
 -- a read that call b began at desk 0 is under way up to call n, where no call between is 5 or 9
 runs : (b n : ℕ) → b < n → n ≤ 9 → ((i : ℕ) → b < i → i < n → i ≡ 5 → ⊥) → callAt example b ≡ beginRead 0 asked → acceptedAt example b ≡ true
     → UnderWay example (beginRead 0 asked) 0 b n
-unfolding goes replyAt
+unfolding goes resultAt
 runs b n l m f c a = record {
   begins = c;
   accepted = a;
@@ -182,11 +182,11 @@ runs b n l m f c a = record {
 }
 
 first-begun : acceptedAt example 0 ≡ true
-unfolding acceptedAt replyAt
+unfolding acceptedAt resultAt
 first-begun = at 0 (omega arith) .begun
 
 second-begun : acceptedAt example 6 ≡ true
-unfolding acceptedAt replyAt
+unfolding acceptedAt resultAt
 second-begun = at 6 (omega arith) .begun-again
 
 first-call : callAt example 0 ≡ beginRead 0 asked
@@ -209,7 +209,7 @@ was-filed : Filed example q 0 5
 was-filed =
     let r = is-ready (memAt example 5) (readCount q + 2) (at 5 (omega arith) .files) in
     record {
-      desk = 0;
+      client = 0;
       asked = asked;
       tray = tray;
       calls = file-call;
@@ -244,7 +244,7 @@ fetched : Fetches example q 6 9 e
 fetched =
     let r = is-ready (memAt example 9) (readCount q) (and-left (ready (memAt example 9) (readCount q)) _ (at 9 (omega arith) .fetches)) in
     record {
-      desk = 0;
+      client = 0;
       asked = asked;
       tray = tray;
       within = omega arith;
@@ -260,7 +260,7 @@ fetched =
 
 may-file : (g b : ℕ) → Filed example q b g → mayFile (callAt example g) (memAt example g) ≡ true
 unfolding mayFile
-may-file g b x = ap (λ c. mayFile c (memAt example g)) (x .calls) ∙ eq-eqb (steps (client (memAt example g) (x .desk))) (readCount q + 2) (x .files .made)
+may-file g b x = ap (λ c. mayFile c (memAt example g)) (x .calls) ∙ eq-eqb (steps (client (memAt example g) (x .client))) (readCount q + 2) (x .files .made)
 
 last-filed : LastFiled example q 5 9
 last-filed = (
@@ -271,15 +271,15 @@ last-filed = (
       true≢false (sym (may-file g b x) ∙ not-true _ y)),
 )
 
-was-calm : Calm example q 0 9
-unfolding calmAt replyAt
-was-calm = record {
-  quiet = λ i l m. and-left (isQuiet q (memAt example i)) _ (at i (omega arith) .calm);
-  kept = λ i l m. rw (next-mem example i (omega arith)) (and-right (isQuiet q (memAt example i)) _ (at i (omega arith) .calm));
+was-quiescent : Quiescent example q 0 9
+unfolding quiescentAt resultAt
+was-quiescent = record {
+  quiet = λ i l m. and-left (isQuiet q (memAt example i)) _ (at i (omega arith) .quiescent);
+  kept = λ i l m. rw (next-mem example i (omega arith)) (and-right (isQuiet q (memAt example i)) _ (at i (omega arith) .quiescent));
 }
 
 -- ---- What the theorem gives
-pub case-6 : replyAt example 9 .out ≡ Answered 0 true
+pub case-6 : resultAt example 9 .out ≡ Answered 0 true
 case-6 =
-    demand-2-gets example q 6 9 e fetched 0 5 was-filed last-filed 0 (omega arith) (omega arith) (inr refl) was-calm .0
+    demand-2-gets example q 6 9 e fetched 0 5 was-filed last-filed 0 (omega arith) (omega arith) (inr refl) was-quiescent .0
     ∙ ap (λ n. Answered n true) (filed-there .none)

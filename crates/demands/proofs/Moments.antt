@@ -1,5 +1,5 @@
 -- What demand 2 says of the memories at a moment, told of the machine's state: no open write meets a query, its nodes are still there, and
--- a desk's read stands at its fetch or at its file step. Leans on bridge and on machine's Calm. Assumes nothing.
+-- a client's read stands at its fetch or at its file step. Leans on refinement and on machine's Quiescence. Assumes nothing.
 use mathlib.Core.Path.{_≡_, refl, sym, ap, _∙_}
 use mathlib.Core.Bool.{Bool, true, false, not}
 use mathlib.Core.List.{List, []}
@@ -9,28 +9,28 @@ use lib.Dec.{eqb, leb}
 use borrow.Author.Tests.{eqb-true, eqb-false, leb-true, leb-false, not-true}
 use lib.ListN.{length, drop, length-drop}
 use lib.Seq.{length-take-le}
-use Rattle.laws.proofs.Lists.{all-below, below-at, getD-map}
-use Rattle.laws.proofs.Tests.{byTest}
+use Rattle.laws.proofs.ListLaws.{all-below, below-at, getD-map}
+use Rattle.laws.proofs.TestLaws.{byTest}
 use Rattle.query.specs.Query.{Query, readNode, readNodes, readCount, writeCount}
 use Rattle.query.specs.Graph.{meets}
-use Rattle.query.specs.Words.{labelWords}
-use Rattle.query.proofs.Nodes.{read-nodes-count, read-nodes-at}
+use Rattle.query.specs.Encoding.{labelWords}
+use Rattle.query.proofs.NodeLists.{read-nodes-count, read-nodes-at}
 use Rattle.rules.specs.Table.{Write, target}
 use Rattle.rules.specs.Nodes.{isPresent}
 use Rattle.rules.specs.Answers.{Entry}
-use Rattle.rules.specs.Client.{Client, kind, steps, isIdle, entryOf, queryAt, writeAt, sawMark, reads}
+use Rattle.rules.specs.Client.{Client, kind, steps, isIdle, entryOf, queryAt, writeAt, sawPending, reads}
 use Rattle.rules.specs.Memory.{Mem, storeIn}
 use Rattle.rules.specs.Refusals.{columns, client}
-use Rattle.revisions.proofs.Effect.{NoDup, has}
-use Rattle.revisions.proofs.Operations.{present-has}
-use Rattle.machine.proofs.Keys.{Key, Val, nodesOf, length-nodesOf, touches}
+use Rattle.revisions.proofs.EffectiveRevision.{NoDup, has}
+use Rattle.revisions.proofs.NodeOperations.{present-has}
+use Rattle.machine.proofs.Keys.{Key, Val, readLabels, length-readLabels, touches}
 use Rattle.machine.proofs.Machine.{looking, tabling, filing, node}
 use Rattle.machine.proofs.Moves.{isFiling, not-filing}
-use Rattle.machine.proofs.Calm.{opens, quiet, kept}
-use Rattle.bridge.proofs.View.{stateOf, keyOf, valueIn, revisionsIn, looksOf, readerOf, writerOf, busyDesk, deskOf, Fits}
-use Rattle.bridge.proofs.Desks.{looking-desk, tabling-desk, filing-desk, last-read}
-use Rattle.bridge.proofs.Phases.{looks-most}
-use Rattle.bridge.proofs.Steps.{Going, going, desk-at}
+use Rattle.machine.proofs.Quiescence.{opens, quiet, kept}
+use Rattle.refinement.proofs.Abstraction.{stateOf, keyOf, valueIn, revisionsIn, looksOf, readerOf, writerOf, busyPhase, phaseOf, Fits}
+use Rattle.refinement.proofs.ClientPhases.{looking-phase, tabling-phase, filing-phase, last-read}
+use Rattle.refinement.proofs.PhaseSteps.{looks-most}
+use Rattle.refinement.proofs.StepFrame.{Going, going, client-at}
 use Rattle.demands.specs.Demand2.{isOpen, isQuiet, stillThere, keepsNodes, Reads}
 
 -- a read's key
@@ -50,23 +50,23 @@ not-touched : (q : Query) (w : Write) → meets q (target w) ≡ false → touch
 unfolding touches
 not-touched q w e = e
 
-client-opens : (k : ℕ) (q : Query) (c : Client) → isOpen k q c ≡ false → opens (deskOf k c) (asking q) ≡ false
-unfolding isOpen deskOf busyDesk
+client-opens : (k : ℕ) (q : Query) (c : Client) → isOpen k q c ≡ false → opens (phaseOf k c) (asking q) ≡ false
+unfolding isOpen phaseOf busyPhase
 client-opens k q c e = byTest (isIdle c)
     (λ i. rw i (unfold opens in refl))
     (λ i. byTest (eqb (kind c) reads)
-    (λ r. rw (i, r) (reader-opens k (entryOf c) (steps c) (sawMark c) (asking q)))
+    (λ r. rw (i, r) (reader-opens k (entryOf c) (steps c) (sawPending c) (asking q)))
     (λ r. rw (i, r) (writer-opens (writeAt k c) _ _ _ (asking q) ∙ not-touched q (writeAt k c) (rw (i, r) at e))))
 
 pub quiet-there : (q : Query) (m : Mem) → isQuiet q m ≡ true → quiet (stateOf m) (asking q) ≡ true
 unfolding isQuiet quiet
-quiet-there q m e = all-below 12 (λ d. not (opens (stateOf m .desks d) (asking q))) (λ d l.
+quiet-there q m e = all-below 12 (λ d. not (opens (stateOf m .clients d) (asking q))) (λ d l.
     let o = not-true (isOpen (columns m) q (client m d)) (below-at 12 (λ d. not (isOpen (columns m) q (client m d))) d e l) in
-    rw (desk-at m d l, client-opens (columns m) q (client m d) o) refl)
+    rw (client-at m d l, client-opens (columns m) q (client m d) o) refl)
 
 -- ---- No node put out
 node-is : (q : Query) (j : ℕ) → j < readCount q → node (asking q) j ≡ labelWords (readNode q j)
-unfolding node nodesOf readCount
+unfolding node readLabels readCount
 node-is q j l = let n = read-nodes-count q in getD-map labelWords (readNodes q) j [] [] (omega arith) ∙ ap labelWords (read-nodes-at q j l)
 
 has-is : (q : Query) (m : Mem) (j : ℕ) → j < readCount q → has (stateOf m .store .nodes) (node (asking q) j) ≡ isPresent (labelWords (readNode q j)) (storeIn (m .nodes))
@@ -75,8 +75,8 @@ has-is q m j l = rw (node-is q j l) (sym (present-has (labelWords (readNode q j)
 
 pub kept-there : (q : Query) (m t : Mem) → keepsNodes q m t ≡ true → kept (stateOf m) (stateOf t) (asking q) ≡ true
 unfolding keepsNodes kept stillThere
-kept-there q m t e = all-below (length (nodesOf (asking q))) _ (λ j l.
-    let k : j < readCount q = let n = length-nodesOf (asking q) in omega arith in
+kept-there q m t e = all-below (length (readLabels (asking q))) _ (λ j l.
+    let k : j < readCount q = let n = length-readLabels (asking q) in omega arith in
     rw (has-is q m j k, has-is q t j k) (below-at (readCount q) (stillThere q m t) j e k))
 
 -- ---- A read at its fetch, and at its file step
@@ -98,38 +98,38 @@ revisions-length n c w l =
 pub record Fetching (m : Mem) (d : ℕ) (q : Query) : Type 0 where
   pub revs : List ℕ
   pub saw : Bool
-  pub desk : stateOf m .desks d ≡ looking (asking q) revs saw
-  pub all : length (nodesOf (asking q)) ≤ length revs
+  pub phase : stateOf m .clients d ≡ looking (asking q) revs saw
+  pub all : length (readLabels (asking q)) ≤ length revs
 
 pub fetching : (m : Mem) (d : ℕ) (q : Query) → Fits m → NoDup (storeIn (m .nodes) .nodes) → Reads m d q (readCount q) → Fetching m d q
 fetching m d q f once r =
     let c = client m d in
     let k = columns m in
-    let g = going m f once d (r .desk) (r .busy) in
+    let g = going m f once d (r .below) (r .busy) in
     let n : looksOf k (entryOf c) ≡ readCount q = query-is k c ∙ ap readCount (r .asks) in
     let x = r .made in
     let few = looks-most k (entryOf c) (f .few) in
     let y = revisions-length (steps c) c (g .wide) (omega arith) in
-    let z = length-nodesOf (asking q) in
+    let z = length-readLabels (asking q) in
     record {
       revs = revisionsIn (steps c) (entryOf c);
-      saw = sawMark c;
-      desk = desk-at m d (r .desk) ∙ looking-desk k c (g .busy) (r .reader) (omega arith)
-          ∙ ap (λ (x : Key). looking x (revisionsIn (steps c) (entryOf c)) (sawMark c)) (key-is k c q (r .asks));
+      saw = sawPending c;
+      phase = client-at m d (r .below) ∙ looking-phase k c (g .busy) (r .reader) (omega arith)
+          ∙ ap (λ (x : Key). looking x (revisionsIn (steps c) (entryOf c)) (sawPending c)) (key-is k c q (r .asks));
       all = omega arith;
     }
 
 pub filing-there : (m : Mem) (d : ℕ) (q : Query) → Fits m → NoDup (storeIn (m .nodes) .nodes) → Reads m d q (readCount q + 2)
-    → (ns : List ℕ) × (l : Val) × (stateOf m .desks d ≡ filing (asking q) ns l)
+    → (ns : List ℕ) × (l : Val) × (stateOf m .clients d ≡ filing (asking q) ns l)
 filing-there m d q f once r =
     let c = client m d in
     let k = columns m in
-    let g = going m f once d (r .desk) (r .busy) in
+    let g = going m f once d (r .below) (r .busy) in
     let n : looksOf k (entryOf c) ≡ readCount q = query-is k c ∙ ap readCount (r .asks) in
     let x = r .made in (
       revisionsIn (looksOf k (entryOf c)) (entryOf c),
       valueIn k (entryOf c),
-      desk-at m d (r .desk) ∙ filing-desk k c (g .busy) (r .reader) (omega arith)
+      client-at m d (r .below) ∙ filing-phase k c (g .busy) (r .reader) (omega arith)
           ∙ ap (λ (x : Key). filing x (revisionsIn (looksOf k (entryOf c)) (entryOf c)) (valueIn k (entryOf c))) (key-is k c q (r .asks)),
     )
 
@@ -141,16 +141,16 @@ writer-files : (w : Write) (i : ℕ) (c f : Bool) → isFiling (writerOf w i c f
 unfolding writerOf
 writer-files w i c f = byTest (leb i (writeCount (target w))) (λ t. rw t refl) (λ t. rw t refl)
 
-idle-not : (k : ℕ) (c : Client) → isIdle c ≡ true → isFiling (deskOf k c) ≡ false
-unfolding deskOf
+idle-not : (k : ℕ) (c : Client) → isIdle c ≡ true → isFiling (phaseOf k c) ≡ false
+unfolding phaseOf
 idle-not k c e = rw e refl
 
-writer-not : (k : ℕ) (c : Client) → isIdle c ≡ false → eqb (kind c) reads ≡ false → isFiling (deskOf k c) ≡ false
-unfolding deskOf busyDesk
+writer-not : (k : ℕ) (c : Client) → isIdle c ≡ false → eqb (kind c) reads ≡ false → isFiling (phaseOf k c) ≡ false
+unfolding phaseOf busyPhase
 writer-not k c e r = rw (e, r) (writer-files (writeAt k c) _ _ _)
 
 reader-files : (m : Mem) (d : ℕ) (q : Key) (ns : List ℕ) (l : Val) → Going m d → isIdle (client m d) ≡ false → kind (client m d) ≡ reads
-    → deskOf (columns m) (client m d) ≡ filing q ns l → Reads m d (q .asked) (readCount (q .asked) + 2)
+    → phaseOf (columns m) (client m d) ≡ filing q ns l → Reads m d (q .asked) (readCount (q .asked) + 2)
 unfolding keyOf queryAt
 reader-files m d q ns l g b r e =
     let c = client m d in
@@ -159,19 +159,19 @@ reader-files m d q ns l g b r e =
     let late = g .busy .going in
     let lst = last-read k c r in
     byTest (leb (steps c) (looksOf k (entryOf c)))
-    (λ t. not-filing (looking _ _ _) refl (sym (looking-desk k c (g .busy) r (leb-true _ _ t)) ∙ e))
+    (λ t. not-filing (looking _ _ _) refl (sym (looking-phase k c (g .busy) r (leb-true _ _ t)) ∙ e))
     (λ t. byTest (eqb (steps c) (looksOf k (entryOf c) + 1))
-    (λ u. not-filing (tabling _ _ _) refl (sym (tabling-desk k c (g .busy) r (eqb-true _ _ u)) ∙ e))
+    (λ u. not-filing (tabling _ _ _) refl (sym (tabling-phase k c (g .busy) r (eqb-true _ _ u)) ∙ e))
     (λ u. let low = leb-false (steps c) (looksOf k (entryOf c)) t in
     let ne : steps c ≡ looksOf k (entryOf c) + 1 → ⊥ = eqb-false (steps c) (looksOf k (entryOf c) + 1) u in
-    let a : queryAt k c ≡ q .asked = ap (λ (x : Key). x .asked) (filing-key (sym (filing-desk k c (g .busy) r (omega arith)) ∙ e)) in
+    let a : queryAt k c ≡ q .asked = ap (λ (x : Key). x .asked) (filing-key (sym (filing-phase k c (g .busy) r (omega arith)) ∙ e)) in
     let z = ap readCount a in
-    record { desk = g .desk; busy = b; reader = r; asks = a; made = omega arith }))
+    record { below = g .below; busy = b; reader = r; asks = a; made = omega arith }))
 
 pub files-there : (m : Mem) (d : ℕ) (q : Key) (ns : List ℕ) (l : Val) → Fits m → NoDup (storeIn (m .nodes) .nodes) → d < 12
-    → stateOf m .desks d ≡ filing q ns l → Reads m d (q .asked) (readCount (q .asked) + 2)
+    → stateOf m .clients d ≡ filing q ns l → Reads m d (q .asked) (readCount (q .asked) + 2)
 files-there m d q ns l f once h e =
-    let e′ : deskOf (columns m) (client m d) ≡ filing q ns l = sym (desk-at m d h) ∙ e in
+    let e′ : phaseOf (columns m) (client m d) ≡ filing q ns l = sym (client-at m d h) ∙ e in
     byTest (isIdle (client m d))
     (λ i. not-filing _ (idle-not (columns m) (client m d) i) e′)
     (λ i. byTest (eqb (kind (client m d)) reads)

@@ -8,7 +8,7 @@ use lib.Dec.{eqb}
 use lib.ListN.{length, getD}
 use Rattle.lists.specs.Lists.{same, allBelow}
 use Rattle.query.specs.Query.{Query, Record, lies}
-use Rattle.query.specs.Words.{queryOf, recordOf}
+use Rattle.query.specs.Encoding.{queryOf, recordOf}
 use Rattle.rules.specs.declared.Outcome.{Outcome}
 use Rattle.rules.specs.declared.Outcome.the-variants.{Refused, Accepted, Answered, Long, Ended, Full}
 use Rattle.rules.specs.Sizes.{maxRecords, maxList}
@@ -17,7 +17,7 @@ use Rattle.rules.specs.Client.{Client, kind, isIdle, writeAt, reads}
 use Rattle.rules.specs.Memory.{Mem, recordsIn}
 use Rattle.rules.specs.Refusals.{columns, client}
 use Rattle.rules.specs.History.{Call, beginRead, beginInsert, beginDelete, step}
-use Rattle.demands.specs.Whole.{History, memAt, plainAt, callAt, replyAt, UnderWay}
+use Rattle.demands.specs.WholeHistory.{History, memAt, plainAt, callAt, resultAt, UnderWay}
 use Rattle.demands.specs.Demand3.{IsList}
 use Rattle.demands.specs.Demand2.{isQuiet}
 
@@ -27,11 +27,11 @@ pub record Answers (h : History) (d : ℕ) (a : List ℕ) (b n count : ℕ) (cac
   pub within : n < length (h .calls)
   pub calls : callAt h n ≡ step d tray
   pub runs : UnderWay h (beginRead d a) d b n
-  pub says : replyAt h n .out ≡ Answered count cached
+  pub says : resultAt h n .out ≡ Answered count cached
 
 -- that answer is the query's list on the plain table after the first j calls
 abbrev pub ListAt : History → List ℕ → ℕ → ℕ → ℕ → Type 0
-ListAt h a n count j = IsList (h .k) (listOf (queryOf a) (plainAt h j .table)) count (replyAt h n .tray)
+ListAt h a n count j = IsList (h .k) (listOf (queryOf a) (plainAt h j .table)) count (resultAt h n .tray)
 
 -- what the table memory holds after the first n calls
 abbrev pub tableAt : History → ℕ → Table
@@ -39,7 +39,7 @@ tableAt h n = recordsIn (h .k) (memAt h n .table)
 
 -- Whatever call answers, it is a step of a read that was begun and is under way.
 abbrev pub EveryAnswer : History → Type 0
-EveryAnswer h = (n count : ℕ) (cached : Bool) → n < length (h .calls) → replyAt h n .out ≡ Answered count cached
+EveryAnswer h = (n count : ℕ) (cached : Bool) → n < length (h .calls) → resultAt h n .out ≡ Answered count cached
     → (d : ℕ) × (a : List ℕ) × (b : ℕ) × Answers h d a b n count cached
 
 -- At a desk one read is under way at a time: two begins that both are, are one call.
@@ -66,12 +66,12 @@ NeverBack h = (d d′ : ℕ) (a a′ : List ℕ) (b n b′ n′ count count′ :
 abbrev pub QuietIsNow : History → Type 0
 QuietIsNow h = (d : ℕ) (a : List ℕ) (b n count : ℕ) (cached : Bool) → Answers h d a b n count cached
     → ((i : ℕ) → b < i → i ≤ n → isQuiet (queryOf a) (memAt h i) ≡ true)
-    → IsList (h .k) (listOf (queryOf a) (tableAt h (suc n))) count (replyAt h n .tray)
+    → IsList (h .k) (listOf (queryOf a) (tableAt h (suc n))) count (resultAt h n .tray)
 
 -- An answer's records ascend, and are at most 32.
 abbrev pub AnswersAscend : History → Type 0
 AnswersAscend h = (d : ℕ) (a : List ℕ) (b n count : ℕ) (cached : Bool) → Answers h d a b n count cached
-    → (l : List Record) × IsList (h .k) l count (replyAt h n .tray) × Ascending l × (count ≤ maxList)
+    → (l : List Record) × IsList (h .k) l count (resultAt h n .tray) × Ascending l × (count ≤ maxList)
 
 -- The table never holds a record twice, and never more than 2,048.
 abbrev pub NoneTwice : History → Type 0
@@ -99,7 +99,7 @@ pub record Ends (h : History) (d : ℕ) (w : Write) (b e : ℕ) (o : Outcome) : 
   pub within : e < length (h .calls)
   pub calls : callAt h e ≡ step d tray
   pub runs : UnderWay h begin d b e
-  pub says : replyAt h e .out ≡ o
+  pub says : resultAt h e .out ≡ o
   pub ends : isWriteEnd o ≡ true
 
 -- A write takes effect whole, at one call t between its begin and its end, and its end is what it gives alone on the table of that call.
@@ -131,13 +131,13 @@ Unopposed h v r b n = (i : ℕ) → b < i → i ≤ n → isUnopposed v r (memAt
 abbrev pub InsertsSeen : History → Type 0
 InsertsSeen h = (d : ℕ) (r : Record) (b e : ℕ) (changed : Bool) → Ends h d (insert r) b e (Ended changed)
     → (d′ : ℕ) (a : List ℕ) (b′ n count : ℕ) (cached : Bool) → Answers h d′ a b′ n count cached → e < b′ → lies (queryOf a) r ≡ true
-    → Unopposed h true r b n → (l : List Record) × IsList (h .k) l count (replyAt h n .tray) × (has r l ≡ true)
+    → Unopposed h true r b n → (l : List Record) × IsList (h .k) l count (resultAt h n .tray) × (has r l ≡ true)
 
 -- A record that a delete has taken out is in no answer of a read that begins later, unless an insert of it was open since the delete's begin.
 abbrev pub DeletesSeen : History → Type 0
 DeletesSeen h = (d : ℕ) (q : Query) (b e : ℕ) (o : Outcome) → Ends h d (delete q) b e o
     → (d′ : ℕ) (a : List ℕ) (b′ n count : ℕ) (cached : Bool) → Answers h d′ a b′ n count cached → e < b′ → (r : Record) → lies q r ≡ true
-    → Unopposed h false r b n → (l : List Record) × IsList (h .k) l count (replyAt h n .tray) × (has r l ≡ false)
+    → Unopposed h false r b n → (l : List Record) × IsList (h .k) l count (resultAt h n .tray) × (has r l ≡ false)
 
 pub record Corollaries (h : History) : Type 0 where
   pub every-answer : EveryAnswer h

@@ -1,4 +1,4 @@
--- Demand 2, about the definitions that the contracts cite. Leans on Whole. Definitions only. Assumes nothing.
+-- Demand 2, about the definitions that the contracts cite. Leans on WholeHistory. Definitions only. Assumes nothing.
 use mathlib.Core.Path.{_≡_}
 use mathlib.Core.Bool.{Bool, true, false, not, _&&_, _||_}
 use mathlib.Core.List.{List, []}
@@ -9,7 +9,7 @@ use lib.ListN.{length, getD}
 use Rattle.lists.specs.Lists.{allBelow, written}
 use Rattle.query.specs.Query.{Query, readNode, readCount}
 use Rattle.query.specs.Graph.{meets}
-use Rattle.query.specs.Words.{labelWords, keyWords}
+use Rattle.query.specs.Encoding.{labelWords, keyWords}
 use Rattle.rules.specs.declared.Outcome.the-variants.{Answered}
 use Rattle.rules.specs.Table.{target}
 use Rattle.rules.specs.Nodes.{isPresent}
@@ -18,7 +18,7 @@ use Rattle.rules.specs.Client.{Client, kind, steps, isIdle, queryAt, writeAt, r
 use Rattle.rules.specs.Memory.{Mem, storeIn, answersIn}
 use Rattle.rules.specs.Refusals.{client, columns, stepCode}
 use Rattle.rules.specs.History.{beginRead, step}
-use Rattle.demands.specs.Whole.{History, memAt, callAt, replyAt, UnderWay}
+use Rattle.demands.specs.WholeHistory.{History, memAt, callAt, resultAt, UnderWay}
 
 -- ---- The last sentence
 -- "A write is open from its begin until its desk is idle.": a write that meets q is open at a desk
@@ -38,13 +38,13 @@ unfoldable pub keepsNodes : Query → Mem → Mem → Bool
 keepsNodes q m t = allBelow (readCount q) (stillThere q m t)
 
 -- both, at every moment after call b up to call n
-pub record Calm (h : History) (q : Query) (b n : ℕ) : Type 0 where
+pub record Quiescent (h : History) (q : Query) (b n : ℕ) : Type 0 where
   pub quiet : (i : ℕ) → b < i → i ≤ n → isQuiet q (memAt h i) ≡ true
   pub kept : (i : ℕ) → b < i → i < n → keepsNodes q (memAt h i) (memAt h (suc i)) ≡ true
 
 -- the client at desk d is a reader of q that has made so many steps
 pub record Reads (m : Mem) (d : ℕ) (q : Query) (n : ℕ) : Type 0 where
-  pub desk : d < 12
+  pub below : d < 12
   pub busy : isIdle (client m d) ≡ false
   pub reader : kind (client m d) ≡ reads
   pub asks : queryAt (columns m) (client m d) ≡ q
@@ -52,24 +52,24 @@ pub record Reads (m : Mem) (d : ℕ) (q : Query) (n : ℕ) : Type 0 where
 
 -- call f is the file step of a read of q that call b began
 pub record Filed (h : History) (q : Query) (b f : ℕ) : Type 0 where
-  pub desk : ℕ
+  pub client : ℕ
   pub asked : List ℕ
   pub tray : List ℕ
-  pub calls : callAt h f ≡ step desk tray
-  pub takes : stepCode (memAt h f) tray desk ≡ 0
-  pub files : Reads (memAt h f) desk q (readCount q + 2)
-  pub runs : UnderWay h (beginRead desk asked) desk b f
+  pub calls : callAt h f ≡ step client tray
+  pub takes : stepCode (memAt h f) tray client ≡ 0
+  pub files : Reads (memAt h f) client q (readCount q + 2)
+  pub runs : UnderWay h (beginRead client asked) client b f
 
 -- "A read whose fetch finds a filed answer to its query": call n is the fetch of a read of q that call b began, and e is a filed answer to q
 pub record Fetches (h : History) (q : Query) (b n : ℕ) (e : Entry) : Type 0 where
-  pub desk : ℕ
+  pub client : ℕ
   pub asked : List ℕ
   pub tray : List ℕ
   pub within : n < length (h .calls)
-  pub calls : callAt h n ≡ step desk tray
-  pub takes : stepCode (memAt h n) tray desk ≡ 0
-  pub fetches : Reads (memAt h n) desk q (readCount q)
-  pub runs : UnderWay h (beginRead desk asked) desk b n
+  pub calls : callAt h n ≡ step client tray
+  pub takes : stepCode (memAt h n) tray client ≡ 0
+  pub fetches : Reads (memAt h n) client q (readCount q)
+  pub runs : UnderWay h (beginRead client asked) client b n
   pub place : ℕ
   pub there : place < length (answersIn (memAt h n .answers))
   pub is : getD (answersIn (memAt h n .answers)) place [] ≡ e
@@ -83,5 +83,5 @@ LastFiled h q f n = (f < n) × ((g b : ℕ) → f < g → g < n → Filed h q b 
 -- nodes was put out"
 abbrev pub GetsIt : History → Type 0
 GetsIt h = (q : Query) (b n : ℕ) (e : Entry) (x : Fetches h q b n e) (b′ f : ℕ) → Filed h q b′ f → LastFiled h q f n
-    → (c : ℕ) → c ≤ b → c ≤ b′ → (c ≡ b) ⊎ (c ≡ b′) → Calm h q c n
-    → (replyAt h n .out ≡ Answered (lengthIn e) true) × (replyAt h n .tray ≡ written (x .tray) 0 (listIn (h .k) e))
+    → (c : ℕ) → c ≤ b → c ≤ b′ → (c ≡ b) ⊎ (c ≡ b′) → Quiescent h q c n
+    → (resultAt h n .out ≡ Answered (lengthIn e) true) × (resultAt h n .tray ≡ written (x .tray) 0 (listIn (h .k) e))

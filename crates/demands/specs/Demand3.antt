@@ -1,4 +1,4 @@
--- Demand 3, as one claim about a whole history. Leans on Whole. Definitions only. Assumes nothing.
+-- Demand 3, as one claim about a whole history. Leans on WholeHistory. Definitions only. Assumes nothing.
 use mathlib.Core.Path.{_≡_}
 use mathlib.Core.Bool.{Bool}
 use mathlib.Core.List.{List}
@@ -6,17 +6,17 @@ use Prim.Native.Nat.{ℕ, suc, _*_, _≤_, _<_}
 use lib.ListN.{length, take}
 use Rattle.lists.specs.Lists.{flat}
 use Rattle.query.specs.Query.{Record}
-use Rattle.query.specs.Words.{queryOf}
+use Rattle.query.specs.Encoding.{queryOf}
 use Rattle.rules.specs.declared.Outcome.the-variants.{Answered}
 use Rattle.rules.specs.Table.{listOf}
 use Rattle.rules.specs.Memory.{recordsIn}
 use Rattle.rules.specs.History.{beginRead, beginInsert, beginDelete, step}
-use Rattle.demands.specs.Whole.{History, memAt, plainAt, callAt, replyAt, UnderWay, stepsIn}
+use Rattle.demands.specs.WholeHistory.{History, memAt, plainAt, callAt, resultAt, UnderWay, stepsIn}
 
 -- "An answer is exactly such a list if its count is the list's length and the tray holds the list's records, in that order, from its start."
 pub record IsList (k : ℕ) (l : List Record) (count : ℕ) (tray : List ℕ) : Type 0 where
   pub counted : count ≡ length l
-  pub told : take (length l * k) tray ≡ flat l
+  pub unsourced : take (length l * k) tray ≡ flat l
 
 -- "whatever a read answers with, count and records, is exactly its query's list on the plain table at some moment from that read's begin
 -- to its answer": the read of `asked` was begun at desk d by call b, and moment j lies after call b and not after call n, which answers
@@ -27,13 +27,13 @@ pub record WasTrue (h : History) (d n count : ℕ) : Type 0 where
   pub j : ℕ
   pub after : b < j
   pub upto : j ≤ suc n
-  pub was : IsList (h .k) (listOf (queryOf asked) (plainAt h j .table)) count (replyAt h n .tray)
+  pub was : IsList (h .k) (listOf (queryOf asked) (plainAt h j .table)) count (resultAt h n .tray)
 
 pub record Demand3 (h : History) : Type 0 where
   -- "after each call the table memory holds the plain table that document 01 works out from the calls"
   pub tables : (n : ℕ) → n ≤ length (h .calls) → recordsIn (h .k) (memAt h n .table) ≡ plainAt h n .table
   pub answers : (n d : ℕ) (tray : List ℕ) (count : ℕ) (cached : Bool) → n < length (h .calls) → callAt h n ≡ step d tray
-      → replyAt h n .out ≡ Answered count cached → WasTrue h d n count
+      → resultAt h n .out ≡ Answered count cached → WasTrue h d n count
   -- "a read has ended with its nineteenth accepted step at the latest, a write with its thirty-third"
   pub reads-end : (d : ℕ) (a : List ℕ) (b n : ℕ) → n ≤ length (h .calls) → UnderWay h (beginRead d a) d b n → stepsIn h d b n < 19
   pub inserts-end : (d : ℕ) (a : List ℕ) (b n : ℕ) → n ≤ length (h .calls) → UnderWay h (beginInsert d a) d b n → stepsIn h d b n < 33

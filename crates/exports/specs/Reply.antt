@@ -4,7 +4,7 @@ use mathlib.Core.List.{List}
 use Prim.Native.Nat.{ℕ}
 use Rattle.rules.specs.declared.Outcome.{Outcome}
 use Rattle.rules.specs.Memory.{Mem}
-use Rattle.rules.specs.Outcome.{number, count, ending, Did, Stepped}
+use Rattle.rules.specs.Outcome.{number, count, ending, Result, StepResult}
 use Rattle.exports.specs.declared.Reply.{Reply}
 
 abbrev pub replied : ℕ → ℕ → ℕ → Reply
@@ -21,7 +21,7 @@ pub record Sent : Type 0 where
 abbrev pub sent : Reply → Mem → Sent
 sent r m = record { reply = r; mem = m }
 
-unfoldable pub sentBy : Did → Sent
+unfoldable pub sentBy : Result → Sent
 sentBy d = sent (replyOf (d .out)) (d .mem)
 
 -- the same of a step, which is lent the tray too
@@ -33,5 +33,5 @@ pub record SentWith : Type 0 where
 abbrev pub sentWith : Reply → Mem → List ℕ → SentWith
 sentWith r m t = record { reply = r; mem = m; tray = t }
 
-unfoldable pub sentByStep : Stepped → SentWith
+unfoldable pub sentByStep : StepResult → SentWith
 sentByStep s = sentWith (replyOf (s .out)) (s .mem) (s .tray)

@@ -4,7 +4,7 @@
 use rules::Outcome;
 ghost use mathlib.Core.Path.{_≡_};
 ghost use Rattle.rules.specs.Memory.{mem};
-ghost use Rattle.rules.specs.Calls.{openDid, beginDid, stepDid, abandonDid, evictAnswerDid, evictNodeDid, renewDid};
+ghost use Rattle.rules.specs.Calls.{openResult, beginResult, stepResult, abandonResult, evictAnswerResult, evictNodeResult, renewResult};
 ghost use Rattle.exports.specs.Reply.{replied, replyOf, sent, sentBy, sentWith, sentByStep};
 
 // What a caller in another language gets. Its memories hold the rest.
@@ -59,12 +59,12 @@ pub extern "C" fn mondzafeky_open(
     table: &mut [u32],
     nodes: &mut [u32],
     answers: &mut [u32],
-    desks: &mut [u32],
+    clients: &mut [u32],
     k: u32,
 ) -> Reply
-    ensures { λ r. ⌜ sent r (mem (now (table .exit)) (now (nodes .exit)) (now (answers .exit)) (now (desks .exit))) ≡ sentBy (openDid (mem (now (table .entry)) (now (nodes .entry)) (now (answers .entry)) (now (desks .entry))) k) ⌝ }
+    ensures { λ r. ⌜ sent r (mem (now (table .exit)) (now (nodes .exit)) (now (answers .exit)) (now (clients .exit))) ≡ sentBy (openResult (mem (now (table .entry)) (now (nodes .entry)) (now (answers .entry)) (now (clients .entry))) k) ⌝ }
 {
-    let out = hall::Hall::open(table, nodes, answers, desks, k);
+    let out = hall::Hall::open(table, nodes, answers, clients, k);
     reply_of(out)
 }
 
@@ -74,13 +74,13 @@ pub extern "C" fn mondzafeky_begin_read(
     table: &mut [u32],
     nodes: &mut [u32],
     answers: &mut [u32],
-    desks: &mut [u32],
-    desk: u32,
+    clients: &mut [u32],
+    client: u32,
     query: &[u32],
 ) -> Reply
-    ensures { λ r. ⌜ sent r (mem (now (table .exit)) (now (nodes .exit)) (now (answers .exit)) (now (desks .exit))) ≡ sentBy (beginDid (mem (now (table .entry)) (now (nodes .entry)) (now (answers .entry)) (now (desks .entry))) 1 desk (now (query .entry))) ⌝ }
+    ensures { λ r. ⌜ sent r (mem (now (table .exit)) (now (nodes .exit)) (now (answers .exit)) (now (clients .exit))) ≡ sentBy (beginResult (mem (now (table .entry)) (now (nodes .entry)) (now (answers .entry)) (now (clients .entry))) 1 client (now (query .entry))) ⌝ }
 {
-    let out = requests::begin_read(table, nodes, answers, desks, desk, query);
+    let out = requests::begin_read(table, nodes, answers, clients, client, query);
     reply_of(out)
 }
 
@@ -90,13 +90,13 @@ pub extern "C" fn mondzafeky_begin_insert(
     table: &mut [u32],
     nodes: &mut [u32],
     answers: &mut [u32],
-    desks: &mut [u32],
-    desk: u32,
+    clients: &mut [u32],
+    client: u32,
     query: &[u32],
 ) -> Reply
-    ensures { λ r. ⌜ sent r (mem (now (table .exit)) (now (nodes .exit)) (now (answers .exit)) (now (desks .exit))) ≡ sentBy (beginDid (mem (now (table .entry)) (now (nodes .entry)) (now (answers .entry)) (now (desks .entry))) 2 desk (now (query .entry))) ⌝ }
+    ensures { λ r. ⌜ sent r (mem (now (table .exit)) (now (nodes .exit)) (now (answers .exit)) (now (clients .exit))) ≡ sentBy (beginResult (mem (now (table .entry)) (now (nodes .entry)) (now (answers .entry)) (now (clients .entry))) 2 client (now (query .entry))) ⌝ }
 {
-    let out = requests::begin_insert(table, nodes, answers, desks, desk, query);
+    let out = requests::begin_insert(table, nodes, answers, clients, client, query);
     reply_of(out)
 }
 
@@ -106,13 +106,13 @@ pub extern "C" fn mondzafeky_begin_delete(
     table: &mut [u32],
     nodes: &mut [u32],
     answers: &mut [u32],
-    desks: &mut [u32],
-    desk: u32,
+    clients: &mut [u32],
+    client: u32,
     query: &[u32],
 ) -> Reply
-    ensures { λ r. ⌜ sent r (mem (now (table .exit)) (now (nodes .exit)) (now (answers .exit)) (now (desks .exit))) ≡ sentBy (beginDid (mem (now (table .entry)) (now (nodes .entry)) (now (answers .entry)) (now (desks .entry))) 3 desk (now (query .entry))) ⌝ }
+    ensures { λ r. ⌜ sent r (mem (now (table .exit)) (now (nodes .exit)) (now (answers .exit)) (now (clients .exit))) ≡ sentBy (beginResult (mem (now (table .entry)) (now (nodes .entry)) (now (answers .entry)) (now (clients .entry))) 3 client (now (query .entry))) ⌝ }
 {
-    let out = requests::begin_delete(table, nodes, answers, desks, desk, query);
+    let out = requests::begin_delete(table, nodes, answers, clients, client, query);
     reply_of(out)
 }
 
@@ -122,13 +122,13 @@ pub extern "C" fn mondzafeky_step(
     table: &mut [u32],
     nodes: &mut [u32],
     answers: &mut [u32],
-    desks: &mut [u32],
+    clients: &mut [u32],
     tray: &mut [u32],
-    desk: u32,
+    client: u32,
 ) -> Reply
-    ensures { λ r. ⌜ sentWith r (mem (now (table .exit)) (now (nodes .exit)) (now (answers .exit)) (now (desks .exit))) (now (tray .exit)) ≡ sentByStep (stepDid (mem (now (table .entry)) (now (nodes .entry)) (now (answers .entry)) (now (desks .entry))) (now (tray .entry)) desk) ⌝ }
+    ensures { λ r. ⌜ sentWith r (mem (now (table .exit)) (now (nodes .exit)) (now (answers .exit)) (now (clients .exit))) (now (tray .exit)) ≡ sentByStep (stepResult (mem (now (table .entry)) (now (nodes .entry)) (now (answers .entry)) (now (clients .entry))) (now (tray .entry)) client) ⌝ }
 {
-    let out = steps::step(table, nodes, answers, desks, tray, desk);
+    let out = steps::step(table, nodes, answers, clients, tray, client);
     reply_of(out)
 }
 
@@ -138,12 +138,12 @@ pub extern "C" fn mondzafeky_abandon(
     table: &mut [u32],
     nodes: &mut [u32],
     answers: &mut [u32],
-    desks: &mut [u32],
-    desk: u32,
+    clients: &mut [u32],
+    client: u32,
 ) -> Reply
-    ensures { λ r. ⌜ sent r (mem (now (table .exit)) (now (nodes .exit)) (now (answers .exit)) (now (desks .exit))) ≡ sentBy (abandonDid (mem (now (table .entry)) (now (nodes .entry)) (now (answers .entry)) (now (desks .entry))) desk) ⌝ }
+    ensures { λ r. ⌜ sent r (mem (now (table .exit)) (now (nodes .exit)) (now (answers .exit)) (now (clients .exit))) ≡ sentBy (abandonResult (mem (now (table .entry)) (now (nodes .entry)) (now (answers .entry)) (now (clients .entry))) client) ⌝ }
 {
-    let out = steps::abandon(table, nodes, answers, desks, desk);
+    let out = steps::abandon(table, nodes, answers, clients, client);
     reply_of(out)
 }
 
@@ -153,12 +153,12 @@ pub extern "C" fn mondzafeky_evict_answer(
     table: &mut [u32],
     nodes: &mut [u32],
     answers: &mut [u32],
-    desks: &mut [u32],
+    clients: &mut [u32],
     place: u32,
 ) -> Reply
-    ensures { λ r. ⌜ sent r (mem (now (table .exit)) (now (nodes .exit)) (now (answers .exit)) (now (desks .exit))) ≡ sentBy (evictAnswerDid (mem (now (table .entry)) (now (nodes .entry)) (now (answers .entry)) (now (desks .entry))) place) ⌝ }
+    ensures { λ r. ⌜ sent r (mem (now (table .exit)) (now (nodes .exit)) (now (answers .exit)) (now (clients .exit))) ≡ sentBy (evictAnswerResult (mem (now (table .entry)) (now (nodes .entry)) (now (answers .entry)) (now (clients .entry))) place) ⌝ }
 {
-    let out = requests::evict_answer(table, nodes, answers, desks, place);
+    let out = requests::evict_answer(table, nodes, answers, clients, place);
     reply_of(out)
 }
 
@@ -168,12 +168,12 @@ pub extern "C" fn mondzafeky_evict_node(
     table: &mut [u32],
     nodes: &mut [u32],
     answers: &mut [u32],
-    desks: &mut [u32],
+    clients: &mut [u32],
     place: u32,
 ) -> Reply
-    ensures { λ r. ⌜ sent r (mem (now (table .exit)) (now (nodes .exit)) (now (answers .exit)) (now (desks .exit))) ≡ sentBy (evictNodeDid (mem (now (table .entry)) (now (nodes .entry)) (now (answers .entry)) (now (desks .entry))) place) ⌝ }
+    ensures { λ r. ⌜ sent r (mem (now (table .exit)) (now (nodes .exit)) (now (answers .exit)) (now (clients .exit))) ≡ sentBy (evictNodeResult (mem (now (table .entry)) (now (nodes .entry)) (now (answers .entry)) (now (clients .entry))) place) ⌝ }
 {
-    let out = requests::evict_node(table, nodes, answers, desks, place);
+    let out = requests::evict_node(table, nodes, answers, clients, place);
     reply_of(out)
 }
 
@@ -183,10 +183,10 @@ pub extern "C" fn mondzafeky_renew(
     table: &mut [u32],
     nodes: &mut [u32],
     answers: &mut [u32],
-    desks: &mut [u32],
+    clients: &mut [u32],
 ) -> Reply
-    ensures { λ r. ⌜ sent r (mem (now (table .exit)) (now (nodes .exit)) (now (answers .exit)) (now (desks .exit))) ≡ sentBy (renewDid (mem (now (table .entry)) (now (nodes .entry)) (now (answers .entry)) (now (desks .entry)))) ⌝ }
+    ensures { λ r. ⌜ sent r (mem (now (table .exit)) (now (nodes .exit)) (now (answers .exit)) (now (clients .exit))) ≡ sentBy (renewResult (mem (now (table .entry)) (now (nodes .entry)) (now (answers .entry)) (now (clients .entry)))) ⌝ }
 {
-    let out = requests::renew(table, nodes, answers, desks);
+    let out = requests::renew(table, nodes, answers, clients);
     reply_of(out)
 }

@@ -2,12 +2,12 @@
 // The rules stand in rules; specs/Hall.antt says what one memory's clearing leaves.
 use rules::Outcome;
 ghost use mathlib.Core.Path.{_≡_};
-ghost use Rattle.rules.specs.Sizes.{tableLeast, nodesLeast, answersLeast, desksLeast};
+ghost use Rattle.rules.specs.Sizes.{tableLeast, nodesLeast, answersLeast, clientsLeast};
 ghost use Rattle.rules.specs.Memory.{mem};
-ghost use Rattle.rules.specs.Outcome.{did};
+ghost use Rattle.rules.specs.Outcome.{result};
 ghost use Rattle.rules.specs.Refusals.{isShort, openCode};
-ghost use Rattle.rules.specs.Calls.{openDid};
-ghost use Rattle.hall.specs.Hall.{limitsOf, isLong, tableCleared, nodesCleared, answersCleared, desksCleared};
+ghost use Rattle.rules.specs.Calls.{openResult};
+ghost use Rattle.hall.specs.HallContracts.{limitsOf, isLong, tableCleared, nodesCleared, answersCleared, clientsCleared};
 
 // The name that the sizes and the functions of every hall stand under. A hall itself lies in the lent memories, its number of columns too.
 pub struct Hall;
@@ -44,7 +44,7 @@ impl Hall {
 
     pub const ANSWERS_LEAST: usize = 10000;
 
-    pub const DESKS_LEAST: usize = 2000;
+    pub const CLIENTS_LEAST: usize = 2000;
 
     pub const TRAY_LEAST: usize = 128;
 
@@ -97,20 +97,20 @@ impl Hall {
     }
 
     // Leaves every client idle and sets the number of columns to k.
-    pub fn clear_desks(desks: &mut [u32], k: u32) -> bool
-        ensures { λ r. ⌜ (r ≡ isLong desksLeast (now (desks .entry))) × (now (desks .exit) ≡ desksCleared k (now (desks .entry))) ⌝ }
+    pub fn clear_clients(clients: &mut [u32], k: u32) -> bool
+        ensures { λ r. ⌜ (r ≡ isLong clientsLeast (now (clients .entry))) × (now (clients .exit) ≡ clientsCleared k (now (clients .entry))) ⌝ }
     {
-        if desks.len() < Hall::DESKS_LEAST {
+        if clients.len() < Hall::CLIENTS_LEAST {
             return false;
         }
-        words::clear(desks, Hall::DESKS_LEAST);
-        desks[0] = k;
+        words::clear(clients, Hall::CLIENTS_LEAST);
+        clients[0] = k;
         true
     }
 
     // Whether a lent memory is below its least length.
-    pub fn is_short(table: &[u32], nodes: &[u32], answers: &[u32], desks: &[u32]) -> bool
-        ensures { λ r. ⌜ r ≡ isShort (mem (now (table .entry)) (now (nodes .entry)) (now (answers .entry)) (now (desks .entry))) ⌝ }
+    pub fn is_short(table: &[u32], nodes: &[u32], answers: &[u32], clients: &[u32]) -> bool
+        ensures { λ r. ⌜ r ≡ isShort (mem (now (table .entry)) (now (nodes .entry)) (now (answers .entry)) (now (clients .entry))) ⌝ }
     {
         if table.len() < Hall::TABLE_LEAST {
             return true;
@@ -121,14 +121,14 @@ impl Hall {
         if answers.len() < Hall::ANSWERS_LEAST {
             return true;
         }
-        desks.len() < Hall::DESKS_LEAST
+        clients.len() < Hall::CLIENTS_LEAST
     }
 
     // The number that an opening is refused with, or 0.
-    fn open_code(table: &[u32], nodes: &[u32], answers: &[u32], desks: &[u32], k: u32) -> u32
-        ensures { λ r. ⌜ r ≡ openCode (mem (now (table .entry)) (now (nodes .entry)) (now (answers .entry)) (now (desks .entry))) k ⌝ }
+    fn open_code(table: &[u32], nodes: &[u32], answers: &[u32], clients: &[u32], k: u32) -> u32
+        ensures { λ r. ⌜ r ≡ openCode (mem (now (table .entry)) (now (nodes .entry)) (now (answers .entry)) (now (clients .entry))) k ⌝ }
     {
-        if Hall::is_short(table, nodes, answers, desks) {
+        if Hall::is_short(table, nodes, answers, clients) {
             return 1;
         }
         if k == 0 {
@@ -145,19 +145,19 @@ impl Hall {
         table: &mut [u32],
         nodes: &mut [u32],
         answers: &mut [u32],
-        desks: &mut [u32],
+        clients: &mut [u32],
         k: u32,
     ) -> Outcome
-        ensures { λ r. ⌜ did r (mem (now (table .exit)) (now (nodes .exit)) (now (answers .exit)) (now (desks .exit))) ≡ openDid (mem (now (table .entry)) (now (nodes .entry)) (now (answers .entry)) (now (desks .entry))) k ⌝ }
+        ensures { λ r. ⌜ result r (mem (now (table .exit)) (now (nodes .exit)) (now (answers .exit)) (now (clients .exit))) ≡ openResult (mem (now (table .entry)) (now (nodes .entry)) (now (answers .entry)) (now (clients .entry))) k ⌝ }
     {
-        let code = Hall::open_code(table, nodes, answers, desks, k);
+        let code = Hall::open_code(table, nodes, answers, clients, k);
         if code != 0 {
             return Outcome::Refused(code);
         }
         Hall::clear_table(table);
         Hall::clear_nodes(nodes);
         Hall::clear_answers(answers);
-        Hall::clear_desks(desks, k);
+        Hall::clear_clients(clients, k);
         Outcome::Accepted
     }
 }

@@ -1,6 +1,6 @@
--- Demand 3 for every history of the machine, told by places in its list of calls and results, with no bookkeeping in the statements:
+-- Demand 3 for every history of the machine, told by places in its list of calls and results, with no trace in the statements:
 -- the table is the plain table; an answer is its query's list on the plain table after one of the read's moments; the limits on steps.
--- Then, for every history: the table is ascending; demand 2's last sentence. Leans on Claims, Log, Ascending and Gets. Assumes nothing.
+-- Then, for every history: the table is ascending; demand 2's last sentence. Leans on Claims, Log, TableAscending and Gets. Assumes nothing.
 use mathlib.Core.Path.{_≡_, refl, sym, ap, _∙_, subst}
 use mathlib.Core.Bool.{Bool, true, false, _&&_, not, cond, true≢false, and-false}
 use mathlib.Core.List.{List, [], _∷_, _++_}
@@ -9,31 +9,31 @@ use native.Mathlib.Omega.{arith}
 use lib.Dec.{eqb}
 use borrow.Author.Tests.{eqb-true, eqb-false, not-true}
 use lib.ListN.{length, take, length-append}
-use Rattle.laws.proofs.Lists.{and-left, and-right}
-use Rattle.laws.proofs.Tests.{byTest}
+use Rattle.laws.proofs.ListLaws.{and-left, and-right}
+use Rattle.laws.proofs.TestLaws.{byTest}
 use Rattle.rules.specs.Table.{Table}
-use Rattle.machine.proofs.Base.{upd, upd-same, upd-other, In}
-use Rattle.machine.proofs.Keys.{Key, Val, valueOf, nodesOf}
-use Rattle.machine.proofs.Machine.{State, Desk, idle, looking, Ans, opened}
-use Rattle.machine.proofs.Machine.{Call, begin-read, begin-write, step, abandon, out-answer, out-node, renew}
-use Rattle.machine.proofs.Machine.{Result, refused, went, answered, long, ended, full}
-use Rattle.machine.proofs.Did
-use Rattle.machine.proofs.Did.{Did}
-use Rattle.machine.proofs.Book.{Act, reads, writes, Job, no-job, job, Book, next-book, accepted-book, step-book, begin-book, abandon-book}
-use Rattle.machine.proofs.Book.{tick, turn, job-after, tabled-at, isRefused, blank-book}
-use Rattle.machine.proofs.BookInv.{JobOk}
+use Rattle.machine.proofs.Sums.{upd, upd-same, upd-other, In}
+use Rattle.machine.proofs.Keys.{Key, Val, valueOf, readLabels}
+use Rattle.machine.proofs.Machine.{State, Phase, idle, looking, Ans, opened}
+use Rattle.machine.proofs.Machine.{Call, begin-read, begin-write, step, abandon, evict-answer, evict-node, renew}
+use Rattle.machine.proofs.Machine.{Response, refused, went, answered, long, ended, full}
+use Rattle.machine.proofs.Transition
+use Rattle.machine.proofs.Transition.{Transition}
+use Rattle.machine.proofs.Trace.{Act, reads, writes, Job, no-job, job, Trace, next-trace, accepted-trace, step-trace, begin-trace, abandon-trace}
+use Rattle.machine.proofs.Trace.{tick, turn, job-after, tabled-at, isRefused, empty-trace}
+use Rattle.machine.proofs.TraceInv.{JobOk}
 use Rattle.machine.proofs.Claims.{Hist, next, fresh, WasAt, Limited, Good, good-limits, good-next, claims, opened-good}
-use Rattle.machine.proofs.Tidy.{Tidy, did-tidy, did-cols, opened-tidy}
-use Rattle.machine.proofs.Ascending.{TableGood, table-good, opened-table}
-use Rattle.machine.proofs.Calm.{Calm, calm-next, calm-start, CalmInv, opened-calm}
-use Rattle.machine.proofs.Gets.{did-calm, gets}
+use Rattle.machine.proofs.StateInv.{StateInv, transition-inv, transition-cols, opened-inv}
+use Rattle.machine.proofs.TableAscending.{TableGood, table-good, opened-table}
+use Rattle.machine.proofs.Quiescence.{Quiescent, quiescent-next, quiescent-start, QuiescenceInv, opened-quiescent}
+use Rattle.machine.proofs.Gets.{transition-quiescent, gets}
 use Rattle.machine.proofs.Log.{Entry, entry, after, plainTable, now-after, tabs-are, startOf, isEnd, ends, goesOn, stepped, stepsOf, UnderWay}
 use Rattle.machine.proofs.Log.{JobFrom, linked, refused-on}
 
 -- ---- A history: every call did what it may do
 abbrev pub Run : State → List Entry → State → Type 0
 Run s [] t = t ≡ s
-Run s (e ∷ l) t = (m : State) × Did s (e .call) (e .result) m × Run m l t
+Run s (e ∷ l) t = (m : State) × Transition s (e .call) (e .result) m × Run m l t
 
 pub run-good : (l : List Entry) (s t : State) (h : Hist) → Good s h → Run s l t → Good t (after h l)
 unfolding after
@@ -60,7 +60,7 @@ unfolding after
 after-append [] h e = refl
 after-append (c ∷ l) h e = after-append l (next h (c .call) (c .result)) e
 
-was-list : (l : List Entry) (d : ℕ) (v : Val) (f : Bool) (B : Book) (j : Job) → B .now ≡ suc (length l)
+was-list : (l : List Entry) (d : ℕ) (v : Val) (f : Bool) (B : Trace) (j : Job) → B .now ≡ suc (length l)
     → ((i : ℕ) → i ≤ B .now → B .tabs i ≡ plainTable (take i (l ++ (entry (step d) (answered v f) ∷ []))))
     → JobFrom l d j → WasAt B j v → WasList l d v f
 was-list l d v f B no-job n t u w = absurd w
@@ -77,30 +77,30 @@ was-list l d v f B (job (reads q) m b i) n t u w =
     }
 
 pub answers : (k : ℕ) → k ≤ 4 → (l : List Entry) (s t : State) → Run (opened k) l s → (d : ℕ) (v : Val) (f : Bool)
-    → Did s (step d) (answered v f) t → WasList l d v f
+    → Transition s (step d) (answered v f) t → WasList l d v f
 answers k b l s t r d v f o =
     let h = after fresh l in
     let e = entry (step d) (answered v f) in
     let g = run-good l (opened k) s fresh (opened-good k b) r in
     let eq = after-append l fresh e in
     let len = length-append l (e ∷ []) in
-    let n : next h (step d) (answered v f) .book .now ≡ suc (length l) =
+    let n : next h (step d) (answered v f) .trace .now ≡ suc (length l) =
     let z = now-after (l ++ (e ∷ [])) fresh in
-    let y : fresh .book .now ≡ 0 = unfold fresh in unfold blank-book in refl in
-    ap (λ (x : Hist). x .book .now) (sym eq) ∙ (omega arith) in
-    was-list l d v f (next h (step d) (answered v f) .book) (h .book .jobs d) n
-    (λ i le. ap (λ (x : Hist). x .book .tabs i) (sym eq) ∙ tabs-are (l ++ (e ∷ [])) i (omega arith))
+    let y : fresh .trace .now ≡ 0 = unfold fresh in unfold empty-trace in refl in
+    ap (λ (x : Hist). x .trace .now) (sym eq) ∙ (omega arith) in
+    was-list l d v f (next h (step d) (answered v f) .trace) (h .trace .jobs d) n
+    (λ i le. ap (λ (x : Hist). x .trace .tabs i) (sym eq) ∙ tabs-are (l ++ (e ∷ [])) i (omega arith))
     (linked l d) (claims s h g o .answer)
 
 -- ---- Claim 3: the limits
 -- an accepted begin at desk d
-unfoldable startsAt : ℕ → Call → Result → Bool
+unfoldable startsAt : ℕ → Call → Response → Bool
 startsAt d (begin-read e q) a = eqb e d && not (isRefused a)
 startsAt d (begin-write e w) a = eqb e d && not (isRefused a)
 startsAt d (step e) a = false
 startsAt d (abandon e) a = false
-startsAt d (out-answer i) a = false
-startsAt d (out-node i) a = false
+startsAt d (evict-answer i) a = false
+startsAt d (evict-node i) a = false
 startsAt d renew a = false
 
 refused-starts : (d : ℕ) (c : Call) (n : ℕ) → startsAt d c (refused n) ≡ false
@@ -109,43 +109,43 @@ refused-starts d (begin-read e q) n = and-false (eqb e d)
 refused-starts d (begin-write e w) n = and-false (eqb e d)
 refused-starts d (step e) n = refl
 refused-starts d (abandon e) n = refl
-refused-starts d (out-answer i) n = refl
-refused-starts d (out-node i) n = refl
+refused-starts d (evict-answer i) n = refl
+refused-starts d (evict-node i) n = refl
 refused-starts d renew n = refl
 
 -- there is none where a desk is busy
-not-here : (s : State) (d e : ℕ) (b : Bool) → s .desks e ≡ idle → (s .desks d ≡ idle → ⊥) → (eqb e d && b) ≡ false
+not-here : (s : State) (d e : ℕ) (b : Bool) → s .clients e ≡ idle → (s .clients d ≡ idle → ⊥) → (eqb e d && b) ≡ false
 not-here s d e b i ne = byTest (eqb e d)
-    (λ k. absurd (ne (subst (λ y. s .desks y ≡ idle) (eqb-true e d k) i)))
+    (λ k. absurd (ne (subst (λ y. s .clients y ≡ idle) (eqb-true e d k) i)))
     (λ k. rw k refl)
 
-did-starts : (s : State) (d : ℕ) {c : Call} {a : Result} {t : State} → Did s c a t → (s .desks d ≡ idle → ⊥) → startsAt d c a ≡ false
+transition-starts : (s : State) (d : ℕ) {c : Call} {a : Response} {t : State} → Transition s c a t → (s .clients d ≡ idle → ⊥) → startsAt d c a ≡ false
 unfolding startsAt
-did-starts s d (Did.nothing {c} {n} e) ne = refused-starts d c n
-did-starts s d (Did.began {d = e} l i k) ne = not-here s d e _ i ne
-did-starts s d (Did.began-write {d = e} l i k o) ne = not-here s d e _ i ne
-did-starts s d (Did.looked l e k m n) ne = refl
-did-starts s d (Did.missed l e k y) ne = refl
-did-starts s d (Did.hit l e k i f) ne = refl
-did-starts s d (Did.too-long l e k) ne = refl
-did-starts s d (Did.listed l e k) ne = refl
-did-starts s d (Did.took l e k) ne = refl
-did-starts s d (Did.filed l e) ne = refl
-did-starts s d (Did.marked l e k m) ne = refl
-did-starts s d (Did.wrote l e k) ne = refl
-did-starts s d (Did.raised l e k m) ne = refl
-did-starts s d (Did.last l e k m) ne = refl
-did-starts s d (Did.gave-up l e) ne = refl
-did-starts s d (Did.took-back l e m) ne = refl
-did-starts s d (Did.put-out l) ne = refl
-did-starts s d (Did.node-out l m) ne = refl
-did-starts s d (Did.renewed i) ne = refl
+transition-starts s d (Transition.nothing {c} {n} e) ne = refused-starts d c n
+transition-starts s d (Transition.began {d = e} l i k) ne = not-here s d e _ i ne
+transition-starts s d (Transition.began-write {d = e} l i k o) ne = not-here s d e _ i ne
+transition-starts s d (Transition.looked l e k m n) ne = refl
+transition-starts s d (Transition.missed l e k y) ne = refl
+transition-starts s d (Transition.hit l e k i f) ne = refl
+transition-starts s d (Transition.too-long l e k) ne = refl
+transition-starts s d (Transition.listed l e k) ne = refl
+transition-starts s d (Transition.took l e k) ne = refl
+transition-starts s d (Transition.filed l e) ne = refl
+transition-starts s d (Transition.announced l e k m) ne = refl
+transition-starts s d (Transition.wrote l e k) ne = refl
+transition-starts s d (Transition.raised l e k m) ne = refl
+transition-starts s d (Transition.last l e k m) ne = refl
+transition-starts s d (Transition.abandoned-read l e) ne = refl
+transition-starts s d (Transition.abandoned-write l e m) ne = refl
+transition-starts s d (Transition.evicted-answer l) ne = refl
+transition-starts s d (Transition.evicted-node l m) ne = refl
+transition-starts s d (Transition.renewed i) ne = refl
 
 abbrev isJob : Job → Bool
 isJob no-job = false
 isJob (job x n b t) = true
 
-busy : (B : Book) (d : ℕ) (j : Job) (y : Desk) → isJob j ≡ true → JobOk B d j y → y ≡ idle → ⊥
+busy : (B : Trace) (d : ℕ) (j : Job) (y : Phase) → isJob j ≡ true → JobOk B d j y → y ≡ idle → ⊥
 busy B d j y e o k = true≢false (sym e ∙ ap isJob (subst (λ z. JobOk B d j z) k o))
 
 -- a job that is there goes on over a call that neither ends nor begins one at its desk
@@ -160,7 +160,7 @@ upd-on js d e y x n b t k i =
     let ne : e ≡ d → ⊥ = eqb-false e d k in
     still-on (upd js e y) d x n b t (upd-other js e y d (λ z. ne (sym z)) ∙ i)
 
-went-on : (js : ℕ → Job) (d : ℕ) (x : Act) (n b t : ℕ) (a : Result) → isRefused a ≡ false → isEnd a ≡ false
+went-on : (js : ℕ → Job) (d : ℕ) (x : Act) (n b t : ℕ) (a : Response) → isRefused a ≡ false → isEnd a ≡ false
     → GoesOn (upd js d (job-after x (suc n) b t a)) d x (n + 1) b
 unfolding isRefused isEnd job-after
 went-on js d x n b t (refused m) r f = absurd (true≢false r)
@@ -171,48 +171,48 @@ went-on js d x n b t long r f = absurd (true≢false f)
 went-on js d x n b t (ended c) r f = absurd (true≢false f)
 went-on js d x n b t full r f = absurd (true≢false f)
 
-step-on : (B : Book) (e d : ℕ) (j : Job) (a : Result) (T : Table) (x : Act) (n b t : ℕ) → B .jobs e ≡ j → B .jobs d ≡ job x n b t
+step-on : (B : Trace) (e d : ℕ) (j : Job) (a : Response) (T : Table) (x : Act) (n b t : ℕ) → B .jobs e ≡ j → B .jobs d ≡ job x n b t
     → isRefused a ≡ false
-    → (eqb e d && isEnd a) ≡ false → GoesOn (step-book B e j a T .jobs) d x (n + cond (eqb e d && not (isRefused a)) 1 0) b
-unfolding step-book tick turn
+    → (eqb e d && isEnd a) ≡ false → GoesOn (step-trace B e j a T .jobs) d x (n + cond (eqb e d && not (isRefused a)) 1 0) b
+unfolding step-trace tick turn
 step-on B e d j a T x n b t k i r f = byTest (eqb e d)
     (λ y. let y′ = eqb-true e d y in
     let w : j ≡ job x n b t = sym k ∙ ap (B .jobs) y′ ∙ i in
     rw (w, y, r, y′) (went-on (B .jobs) d x n b (tabled-at x (suc n) (suc (B .now)) t) a r (rw y at f)))
     (λ y. rw y (other-on j y))
   where
-    other-on : (j : Job) → eqb e d ≡ false → GoesOn (step-book B e j a T .jobs) d x (n + 0) b
+    other-on : (j : Job) → eqb e d ≡ false → GoesOn (step-trace B e j a T .jobs) d x (n + 0) b
     other-on no-job y = still-on (B .jobs) d x n b t i
     other-on (job x′ n′ b′ t′) y = upd-on (B .jobs) d e _ x n b t y i
 
-abandon-on : (B : Book) (e d : ℕ) (j : Job) (a : Result) (T : Table) (x : Act) (n b t : ℕ) → B .jobs d ≡ job x n b t → isRefused a ≡ false
-    → (eqb e d && not (isRefused a)) ≡ false → GoesOn (abandon-book B e j a T .jobs) d x (n + 0) b
-unfolding abandon-book tick turn
+abandon-on : (B : Trace) (e d : ℕ) (j : Job) (a : Response) (T : Table) (x : Act) (n b t : ℕ) → B .jobs d ≡ job x n b t → isRefused a ≡ false
+    → (eqb e d && not (isRefused a)) ≡ false → GoesOn (abandon-trace B e j a T .jobs) d x (n + 0) b
+unfolding abandon-trace tick turn
 abandon-on B e d no-job a T x n b t i r f = still-on (B .jobs) d x n b t i
 abandon-on B e d (job x′ n′ b′ t′) a T x n b t i r f = byTest (eqb e d)
     (λ y. absurd (true≢false (rw (y, r) at f)))
     (λ y. upd-on (B .jobs) d e no-job x n b t y i)
 
-begin-on : (js : ℕ → Job) (d e : ℕ) (y : Job) (a : Result) (x : Act) (n b t : ℕ) → js d ≡ job x n b t → isRefused a ≡ false
+begin-on : (js : ℕ → Job) (d e : ℕ) (y : Job) (a : Response) (x : Act) (n b t : ℕ) → js d ≡ job x n b t → isRefused a ≡ false
     → (eqb e d && not (isRefused a)) ≡ false → GoesOn (upd js e y) d x (n + 0) b
 begin-on js d e y a x n b t i r f = byTest (eqb e d)
     (λ k. absurd (true≢false (rw (k, r) at f)))
     (λ k. upd-on js d e y x n b t k i)
 
-accepted-on : (B : Book) (c : Call) (a : Result) (T : Table) (d : ℕ) (x : Act) (n b t : ℕ) → B .jobs d ≡ job x n b t → isRefused a ≡ false
-    → ends d c a ≡ false → startsAt d c a ≡ false → GoesOn (accepted-book B c a T .jobs) d x (n + stepped d c a) b
-unfolding accepted-book begin-book tick turn ends startsAt stepped
+accepted-on : (B : Trace) (c : Call) (a : Response) (T : Table) (d : ℕ) (x : Act) (n b t : ℕ) → B .jobs d ≡ job x n b t → isRefused a ≡ false
+    → ends d c a ≡ false → startsAt d c a ≡ false → GoesOn (accepted-trace B c a T .jobs) d x (n + stepped d c a) b
+unfolding accepted-trace begin-trace tick turn ends startsAt stepped
 accepted-on B (begin-read e q) a T d x n b t i r f g = begin-on (B .jobs) d e _ a x n b t i r g
 accepted-on B (begin-write e w) a T d x n b t i r f g = begin-on (B .jobs) d e _ a x n b t i r g
 accepted-on B (step e) a T d x n b t i r f g = step-on B e d (B .jobs e) a T x n b t refl i r f
 accepted-on B (abandon e) a T d x n b t i r f g = abandon-on B e d (B .jobs e) a T x n b t i r f
-accepted-on B (out-answer j) a T d x n b t i r f g = still-on (B .jobs) d x n b t i
-accepted-on B (out-node j) a T d x n b t i r f g = still-on (B .jobs) d x n b t i
+accepted-on B (evict-answer j) a T d x n b t i r f g = still-on (B .jobs) d x n b t i
+accepted-on B (evict-node j) a T d x n b t i r f g = still-on (B .jobs) d x n b t i
 accepted-on B renew a T d x n b t i r f g = still-on (B .jobs) d x n b t i
 
-next-on : (B : Book) (c : Call) (a : Result) (T : Table) (d : ℕ) (x : Act) (n b t : ℕ) → B .jobs d ≡ job x n b t
-    → ends d c a ≡ false → startsAt d c a ≡ false → GoesOn (next-book B c a T .jobs) d x (n + stepped d c a) b
-unfolding next-book isRefused tick turn
+next-on : (B : Trace) (c : Call) (a : Response) (T : Table) (d : ℕ) (x : Act) (n b t : ℕ) → B .jobs d ≡ job x n b t
+    → ends d c a ≡ false → startsAt d c a ≡ false → GoesOn (next-trace B c a T .jobs) d x (n + stepped d c a) b
+unfolding next-trace isRefused tick turn
 next-on B c (refused m) T d x n b t i f g = rw (refused-on d c m .1) (still-on (B .jobs) d x n b t i)
 next-on B c went T d x n b t i f g = accepted-on B c went T d x n b t i refl f g
 next-on B c (answered v y) T d x n b t i f g = accepted-on B c (answered v y) T d x n b t i refl f g
@@ -221,14 +221,14 @@ next-on B c (ended y) T d x n b t i f g = accepted-on B c (ended y) T d x n b t 
 next-on B c full T d x n b t i f g = accepted-on B c full T d x n b t i refl f g
 
 -- and over a whole run that does not end it
-run-on : (l : List Entry) (s t : State) (h : Hist) (d : ℕ) (x : Act) (n b i : ℕ) → Good s h → Run s l t → h .book .jobs d ≡ job x n b i
-    → goesOn d l ≡ true → GoesOn (after h l .book .jobs) d x (n + stepsOf d l) b
+run-on : (l : List Entry) (s t : State) (h : Hist) (d : ℕ) (x : Act) (n b i : ℕ) → Good s h → Run s l t → h .trace .jobs d ≡ job x n b i
+    → goesOn d l ≡ true → GoesOn (after h l .trace .jobs) d x (n + stepsOf d l) b
 unfolding after goesOn stepsOf next
-run-on [] s t h d x n b i g r e f = still-on (h .book .jobs) d x n b i e
+run-on [] s t h d x n b i g r e f = still-on (h .trace .jobs) d x n b i e
 run-on (c ∷ l) s t h d x n b i g r e f =
     let no = not-true (ends d (c .call) (c .result)) (and-left (not (ends d (c .call) (c .result))) _ f) in
-    let st = did-starts s d (r .1) (busy (h .book) d (h .book .jobs d) (s .desks d) (rw e refl) (g .book .job d)) in
-    let o = next-on (h .book) (c .call) (c .result) (next h (c .call) (c .result) .plain .table) d x n b i e no st in
+    let st = transition-starts s d (r .1) (busy (h .trace) d (h .trace .jobs d) (s .clients d) (rw e refl) (g .trace .job d)) in
+    let o = next-on (h .trace) (c .call) (c .result) (next h (c .call) (c .result) .plain .table) d x n b i e no st in
     let p = run-on l (r .0) t (next h (c .call) (c .result)) d x (n + stepped d (c .call) (c .result)) b (o .0) (good-next s h g (r .1)) (r .2) (o .1)
     (and-right (not (ends d (c .call) (c .result))) _ f) in
     let z : n + stepped d (c .call) (c .result) + stepsOf d l ≡ n + (stepped d (c .call) (c .result) + stepsOf d l) = omega arith in
@@ -238,9 +238,9 @@ run-split : (p l : List Entry) (s t : State) → Run s (p ++ l) t → (m : State
 run-split [] l s t r = (s, refl, r)
 run-split (e ∷ p) l s t r = let z = run-split p l (r .0) t (r .2) in (z .0, (r .0, r .1, z .1), z .2)
 
-begin-jobs : (B : Book) (x : Act) (d : ℕ) (a : Result) (T : Table) → isRefused a ≡ false
-    → next-book B (startOf x d) a T .jobs d ≡ job x 0 (suc (B .now)) 0
-unfolding next-book accepted-book begin-book turn startOf
+begin-jobs : (B : Trace) (x : Act) (d : ℕ) (a : Response) (T : Table) → isRefused a ≡ false
+    → next-trace B (startOf x d) a T .jobs d ≡ job x 0 (suc (B .now)) 0
+unfolding next-trace accepted-trace begin-trace turn startOf
 begin-jobs B (reads q) d a T r = rw r (upd-same (B .jobs) d (job (reads q) 0 (suc (B .now)) 0))
 begin-jobs B (writes w) d a T r = rw r (upd-same (B .jobs) d (job (writes w) 0 (suc (B .now)) 0))
 
@@ -265,41 +265,41 @@ limits k b l s r d x u =
     let m = next h (startOf x d) (u .result) in
     let r2 = z .2 in
     let g2 = good-next (z .0) h g (r2 .1) in
-    let j : m .book .jobs d ≡ job x 0 (suc (h .book .now)) 0 = begin-jobs (h .book) x d (u .result) (m .plain .table) (u .taken) in
-    let o = run-on (u .since) (r2 .0) s m d x 0 (suc (h .book .now)) 0 g2 (r2 .2) j (u .on) in
+    let j : m .trace .jobs d ≡ job x 0 (suc (h .trace .now)) 0 = begin-jobs (h .trace) x d (u .result) (m .plain .table) (u .taken) in
+    let o = run-on (u .since) (r2 .0) s m d x 0 (suc (h .trace .now)) 0 g2 (r2 .2) j (u .on) in
     let g3 = run-good (u .since) (r2 .0) s m g2 (r2 .2) in
-    let y = below-limit x (0 + stepsOf d (u .since)) (suc (h .book .now)) (o .0) (subst Limited (o .1) (good-limits s (after m (u .since)) g3 d)) in
+    let y = below-limit x (0 + stepsOf d (u .since)) (suc (h .trace .now)) (o .0) (subst Limited (o .1) (good-limits s (after m (u .since)) g3 d)) in
     omega arith
 
 -- ---- The table of a history
-run-table : (l : List Entry) (s t : State) → Tidy s → TableGood (s .cols) (s .tab) → Run s l t → TableGood (s .cols) (t .tab)
+run-table : (l : List Entry) (s t : State) → StateInv s → TableGood (s .cols) (s .tab) → Run s l t → TableGood (s .cols) (t .tab)
 run-table [] s t v g r = rw r g
 run-table (e ∷ l) s t v g r =
-    let w = did-tidy s v (r .1) in
-    subst (λ n. TableGood n (t .tab)) (did-cols s v (r .1)) (run-table l (r .0) t w (table-good s v (r .1) g) (r .2))
+    let w = transition-inv s v (r .1) in
+    subst (λ n. TableGood n (t .tab)) (transition-cols s v (r .1)) (run-table l (r .0) t w (table-good s v (r .1) g) (r .2))
 
 pub tables-good : (k : ℕ) → k ≤ 4 → (l : List Entry) (s : State) → Run (opened k) l s → TableGood k (s .tab)
 unfolding opened
-tables-good k b l s r = run-table l (opened k) s (opened-tidy k b) (opened-table k) r
+tables-good k b l s r = run-table l (opened k) s (opened-inv k b) (opened-table k) r
 
 -- ---- Demand 2's last sentence for every history
 -- the flags along a run
-unfoldable pub calm-after : (l : List Entry) (s t : State) → Run s l t → Calm → Calm
-calm-after [] s t r k = k
-calm-after (e ∷ l) s t r k = calm-after l (r .0) t (r .2) (calm-next s (e .call) (e .result) (r .0) k)
+unfoldable pub quiescent-after : (l : List Entry) (s t : State) → Run s l t → Quiescent → Quiescent
+quiescent-after [] s t r k = k
+quiescent-after (e ∷ l) s t r k = quiescent-after l (r .0) t (r .2) (quiescent-next s (e .call) (e .result) (r .0) k)
 
-run-calm : (l : List Entry) (s t : State) (r : Run s l t) (k : Calm) → Tidy s → CalmInv s k → Tidy t × CalmInv t (calm-after l s t r k)
-unfolding calm-after
-run-calm [] s t r k v u = rw r (v, u)
-run-calm (e ∷ l) s t r k v u =
-    let w = did-tidy s v (r .1) in
-    run-calm l (r .0) t (r .2) (calm-next s (e .call) (e .result) (r .0) k) w (did-calm s k v w u (r .1))
+run-quiescent : (l : List Entry) (s t : State) (r : Run s l t) (k : Quiescent) → StateInv s → QuiescenceInv s k → StateInv t × QuiescenceInv t (quiescent-after l s t r k)
+unfolding quiescent-after
+run-quiescent [] s t r k v u = rw r (v, u)
+run-quiescent (e ∷ l) s t r k v u =
+    let w = transition-inv s v (r .1) in
+    run-quiescent l (r .0) t (r .2) (quiescent-next s (e .call) (e .result) (r .0) k) w (transition-quiescent s k v w u (r .1))
 
-pub fetches : (k : ℕ) → k ≤ 4 → (l : List Entry) (s t : State) (r : Run (opened k) l s) (d : ℕ) (a : Result) → Did s (step d) a t
+pub fetches : (k : ℕ) → k ≤ 4 → (l : List Entry) (s t : State) (r : Run (opened k) l s) (d : ℕ) (a : Response) → Transition s (step d) a t
     → isRefused a ≡ false
-    → (q : Key) (ns : List ℕ) (saw : Bool) → s .desks d ≡ looking q ns saw → length (nodesOf q) ≤ length ns
+    → (q : Key) (ns : List ℕ) (saw : Bool) → s .clients d ≡ looking q ns saw → length (readLabels q) ≤ length ns
     → (x : Ans) → In x (s .filed) → x .query ≡ q
-    → calm-after l (opened k) s r calm-start .onDesk d ≡ true → calm-after l (opened k) s r calm-start .onFile q ≡ true → a ≡ answered (x .list) true
+    → quiescent-after l (opened k) s r quiescent-start .onClient d ≡ true → quiescent-after l (opened k) s r quiescent-start .onFile q ≡ true → a ≡ answered (x .list) true
 fetches k b l s t r d a o f q ns saw e n x i y m g =
-    let z = run-calm l (opened k) s r calm-start (opened-tidy k b) (opened-calm k) in
-    gets s (calm-after l (opened k) s r calm-start) (z .0) (z .1) o f q ns saw e n x i y m g
+    let z = run-quiescent l (opened k) s r quiescent-start (opened-inv k b) (opened-quiescent k) in
+    gets s (quiescent-after l (opened k) s r quiescent-start) (z .0) (z .1) o f q ns saw e n x i y m g

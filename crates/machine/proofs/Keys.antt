@@ -9,20 +9,20 @@ use native.Mathlib.Omega.{arith}
 use lib.Dec.{eqb, leb}
 use borrow.Author.Tests.{eqb-true, eq-eqb}
 use lib.ListN.{length}
-use Rattle.laws.proofs.Lists.{and-left, and-right, length-listed}
-use Rattle.laws.proofs.Tests.{byTest, clash}
+use Rattle.laws.proofs.ListLaws.{and-left, and-right, length-listed}
+use Rattle.laws.proofs.TestLaws.{byTest, clash}
 use Rattle.lists.specs.Lists.{flat}
 use Rattle.query.specs.declared.Column.{Column}
 use Rattle.query.specs.declared.Column.the-variants.{Is, Wildcard}
 use Rattle.query.specs.Query.{Query, Record, Meet, readNode, writeNode, readCount, writeCount, readNodes, writeNodes}
-use Rattle.query.specs.Words.{labelWords}
+use Rattle.query.specs.Encoding.{labelWords}
 use Rattle.rules.specs.Sizes.{maxList}
 use Rattle.rules.specs.Table.{Table, Write, target, listOf, effect}
-use Rattle.machine.proofs.Base.{Code, In}
+use Rattle.machine.proofs.Sums.{Words, In}
 use Rattle.query.specs.Graph.{meets}
-use Rattle.query.proofs.Nodes.{read-count-most, write-count-most, write-count-least}
+use Rattle.query.proofs.NodeLists.{read-count-most, write-count-most, write-count-least}
 use Rattle.query.proofs.Meet.{meets-is}
-use Rattle.machine.proofs.Sharing.{meet-codes, codes-meet, effect-list}
+use Rattle.machine.proofs.Sharing.{meet-words, words-meet, effect-list}
 
 -- ---- The interface
 -- what a read asks: the key of its answer
@@ -42,11 +42,11 @@ unfoldable pub short : Val → Bool
 short v = leb (v .count) maxList
 
 -- the labels of a read's and of a write's nodes, as a node keeps them
-unfoldable pub nodesOf : Key → List Code
-nodesOf k = map labelWords (readNodes (k .asked))
+unfoldable pub readLabels : Key → List Words
+readLabels k = map labelWords (readNodes (k .asked))
 
-unfoldable pub marksOf : Write → List Code
-marksOf w = map labelWords (writeNodes (target w))
+unfoldable pub writeLabels : Write → List Words
+writeLabels w = map labelWords (writeNodes (target w))
 
 unfoldable pub width : Key → ℕ
 width k = length (k .asked)
@@ -78,7 +78,7 @@ no-key = record { asked = [] }
 
 -- they share a node
 abbrev pub Shares : Key → Write → Type 0
-Shares k w = (p : Code) × In p (nodesOf k) × In p (marksOf w)
+Shares k w = (p : Words) × In p (readLabels k) × In p (writeLabels w)
 
 -- ---- Keys that are the same
 sameColumn-eq : (a b : Column) → sameColumn a b ≡ true → a ≡ b
@@ -125,24 +125,24 @@ length-map : {A B : Type 0} (f : A → B) (l : List A) → length (map f l) ≡ 
 length-map f [] = refl
 length-map f (x ∷ l) = ap suc (length-map f l)
 
-pub length-nodesOf : (k : Key) → length (nodesOf k) ≡ readCount (k .asked)
-unfolding nodesOf readNodes
-length-nodesOf k = length-map labelWords (readNodes (k .asked)) ∙ length-listed (readNode (k .asked)) 0 (readCount (k .asked))
+pub length-readLabels : (k : Key) → length (readLabels k) ≡ readCount (k .asked)
+unfolding readLabels readNodes
+length-readLabels k = length-map labelWords (readNodes (k .asked)) ∙ length-listed (readNode (k .asked)) 0 (readCount (k .asked))
 
-pub length-marksOf : (w : Write) → length (marksOf w) ≡ writeCount (target w)
-unfolding marksOf writeNodes
-length-marksOf w = length-map labelWords (writeNodes (target w)) ∙ length-listed (writeNode (target w)) 0 (writeCount (target w))
+pub length-writeLabels : (w : Write) → length (writeLabels w) ≡ writeCount (target w)
+unfolding writeLabels writeNodes
+length-writeLabels w = length-map labelWords (writeNodes (target w)) ∙ length-listed (writeNode (target w)) 0 (writeCount (target w))
 
-pub read-few : (q : Key) (k : ℕ) → width q ≡ k → k ≤ 4 → length (nodesOf q) ≤ 16
+pub read-few : (q : Key) (k : ℕ) → width q ≡ k → k ≤ 4 → length (readLabels q) ≤ 16
 unfolding width
-read-few q k e l = rw (length-nodesOf q) (read-count-most (q .asked) (omega arith))
+read-few q k e l = rw (length-readLabels q) (read-count-most (q .asked) (omega arith))
 
-pub write-few : (w : Write) (k : ℕ) → widthOf w ≡ k → k ≤ 4 → length (marksOf w) ≤ 16
+pub write-few : (w : Write) (k : ℕ) → widthOf w ≡ k → k ≤ 4 → length (writeLabels w) ≤ 16
 unfolding widthOf
-write-few w k e l = rw (length-marksOf w) (write-count-most (target w) (omega arith))
+write-few w k e l = rw (length-writeLabels w) (write-count-most (target w) (omega arith))
 
-pub marks-some : (w : Write) → 0 < length (marksOf w)
-marks-some w = rw (length-marksOf w) (write-count-least (target w))
+pub write-labels-some : (w : Write) → 0 < length (writeLabels w)
+write-labels-some w = rw (length-writeLabels w) (write-count-least (target w))
 
 -- ---- Reads and writes
 value-eq : (a b : List Record) → a ≡ b → _≡_ {A = Val} (record { count = length a; numbers = flat a }) (record { count = length b; numbers = flat b })
@@ -150,14 +150,14 @@ value-eq a b e = rw e refl
 
 -- of one hall: a write leaves an answer alone, or shares a node with its key
 pub effect-value : (w : Write) (k : Key) (t : Table) → width k ≡ widthOf w → (valueOf k (effect w t) ≡ valueOf k t) ⊎ Shares k w
-unfolding valueOf nodesOf marksOf
+unfolding valueOf readLabels writeLabels
 effect-value w k t f = elim (effect-list w (k .asked) t)
-    [ inl e ↦ inl (value-eq (listOf (k .asked) (effect w t)) (listOf (k .asked) t) e) | inr e ↦ inr (meet-codes (k .asked) (target w) e) ]
+    [ inl e ↦ inl (value-eq (listOf (k .asked) (effect w t)) (listOf (k .asked) t) e) | inr e ↦ inr (meet-words (k .asked) (target w) e) ]
 
 -- and one that shares a node counts
-pub shared-touches : (k : Key) (w : Write) {p : Code} → In p (nodesOf k) → In p (marksOf w) → touches k w ≡ true
-unfolding nodesOf marksOf touches
-shared-touches k w i j = codes-meet (k .asked) (target w) i j
+pub shared-touches : (k : Key) (w : Write) {p : Words} → In p (readLabels k) → In p (writeLabels w) → touches k w ≡ true
+unfolding readLabels writeLabels touches
+shared-touches k w i j = words-meet (k .asked) (target w) i j
 
 -- that is: its query meets the key's
 pub touches-meets : (k : Key) (w : Write) → touches k w ≡ true → Meet (k .asked) (target w)

@@ -1,5 +1,5 @@
--- A history as its list of calls and results, and what the books say told by places in that list: the plain table after so many calls,
--- and which begin the job at a desk goes back to. Nothing of the state here. Leans on Book and Claims. Assumes nothing.
+-- A history as its list of calls and results, and what the trace say told by places in that list: the plain table after so many calls,
+-- and which begin the job at a desk goes back to. Nothing of the state here. Leans on Trace and Claims. Assumes nothing.
 use mathlib.Core.Path.{_≡_, refl, sym, ap, _∙_, subst}
 use mathlib.Core.Bool.{Bool, true, false, _&&_, not, cond, true≢false, and-false}
 use mathlib.Core.List.{List, [], _∷_, _++_, append-assoc, append-nil}
@@ -8,25 +8,25 @@ use native.Mathlib.Omega.{arith}
 use lib.Dec.{eqb}
 use borrow.Author.Tests.{eqb-true, eqb-false, eq-eqb, ne-eqb}
 use lib.ListN.{length, take, length-append}
-use Rattle.laws.proofs.Lists.{and-left, and-right}
-use Rattle.laws.proofs.Tests.{byTest}
+use Rattle.laws.proofs.ListLaws.{and-left, and-right}
+use Rattle.laws.proofs.TestLaws.{byTest}
 use Rattle.rules.specs.Table.{Table}
 use Rattle.rules.specs.History.{plainAtOpening}
-use Rattle.machine.proofs.Base.{upd, upd-same, upd-other}
-use Rattle.machine.proofs.Machine.{Call, begin-read, begin-write, step, abandon, out-answer, out-node, renew}
-use Rattle.machine.proofs.Machine.{Result, refused, went, answered, long, ended, full}
-use Rattle.machine.proofs.Book.{Act, reads, writes, Job, no-job, job, Book, next-book, accepted-book, step-book, begin-book, abandon-book}
-use Rattle.machine.proofs.Book.{tick, turn, job-after, tabled-at, isRefused, blank-book}
-use Rattle.machine.proofs.BookInv.{Ext, turn-ext}
+use Rattle.machine.proofs.Sums.{upd, upd-same, upd-other}
+use Rattle.machine.proofs.Machine.{Call, begin-read, begin-write, step, abandon, evict-answer, evict-node, renew}
+use Rattle.machine.proofs.Machine.{Response, refused, went, answered, long, ended, full}
+use Rattle.machine.proofs.Trace.{Act, reads, writes, Job, no-job, job, Trace, next-trace, accepted-trace, step-trace, begin-trace, abandon-trace}
+use Rattle.machine.proofs.Trace.{tick, turn, job-after, tabled-at, isRefused, empty-trace}
+use Rattle.machine.proofs.TraceInv.{Ext, turn-ext}
 use Rattle.machine.proofs.Claims.{Hist, next, fresh}
 
 -- ---- The log
 -- a call and what it answered
 pub record Entry : Type 0 where
   pub call : Call
-  pub result : Result
+  pub result : Response
 
-abbrev pub entry : Call → Result → Entry
+abbrev pub entry : Call → Response → Entry
 entry c a = record { call = c; result = a }
 
 unfoldable pub after : Hist → List Entry → Hist
@@ -37,65 +37,65 @@ after h (e ∷ l) = after (next h (e .call) (e .result)) l
 unfoldable pub plainTable : List Entry → Table
 plainTable l = after fresh l .plain .table
 
--- ---- The books by places
-step-ext : (B : Book) (d : ℕ) (j : Job) (a : Result) (T : Table) → Ext B (step-book B d j a T) T
-unfolding step-book tick
+-- ---- The trace by places
+step-ext : (B : Trace) (d : ℕ) (j : Job) (a : Response) (T : Table) → Ext B (step-trace B d j a T) T
+unfolding step-trace tick
 step-ext B d no-job a T = turn-ext B T 0 0 (B .jobs) (B .filings) (B .ops)
 step-ext B d (job x n b t) a T = turn-ext B T 0 b _ _ _
 
-abandon-ext : (B : Book) (d : ℕ) (j : Job) (a : Result) (T : Table) → Ext B (abandon-book B d j a T) T
-unfolding abandon-book tick
+abandon-ext : (B : Trace) (d : ℕ) (j : Job) (a : Response) (T : Table) → Ext B (abandon-trace B d j a T) T
+unfolding abandon-trace tick
 abandon-ext B d no-job a T = turn-ext B T 0 0 (B .jobs) (B .filings) (B .ops)
 abandon-ext B d (job x n b t) a T = turn-ext B T 0 b _ _ _
 
-accepted-ext : (B : Book) (c : Call) (a : Result) (T : Table) → Ext B (accepted-book B c a T) T
-unfolding accepted-book begin-book tick
+accepted-ext : (B : Trace) (c : Call) (a : Response) (T : Table) → Ext B (accepted-trace B c a T) T
+unfolding accepted-trace begin-trace tick
 accepted-ext B (begin-read d q) a T = turn-ext B T d 0 _ _ _
 accepted-ext B (begin-write d w) a T = turn-ext B T d 0 _ _ _
 accepted-ext B (step d) a T = step-ext B d (B .jobs d) a T
 accepted-ext B (abandon d) a T = abandon-ext B d (B .jobs d) a T
-accepted-ext B (out-answer i) a T = turn-ext B T 0 0 _ _ _
-accepted-ext B (out-node i) a T = turn-ext B T 0 0 _ _ _
+accepted-ext B (evict-answer i) a T = turn-ext B T 0 0 _ _ _
+accepted-ext B (evict-node i) a T = turn-ext B T 0 0 _ _ _
 accepted-ext B renew a T = turn-ext B T 0 0 _ _ _
 
 -- one call more: what was at earlier numbers stays, and the new number has the plain table after the call
-pub book-ext : (B : Book) (c : Call) (a : Result) (T : Table) → Ext B (next-book B c a T) T
-unfolding next-book tick
-book-ext B c a T = byTest (isRefused a) (λ r. rw r (turn-ext B T 0 0 (B .jobs) (B .filings) (B .ops))) (λ r. rw r (accepted-ext B c a T))
+pub trace-ext : (B : Trace) (c : Call) (a : Response) (T : Table) → Ext B (next-trace B c a T) T
+unfolding next-trace tick
+trace-ext B c a T = byTest (isRefused a) (λ r. rw r (turn-ext B T 0 0 (B .jobs) (B .filings) (B .ops))) (λ r. rw r (accepted-ext B c a T))
 
-pub now-after : (l : List Entry) (h : Hist) → after h l .book .now ≡ h .book .now + length l
+pub now-after : (l : List Entry) (h : Hist) → after h l .trace .now ≡ h .trace .now + length l
 unfolding after next
 now-after [] h = omega arith
 now-after (e ∷ l) h =
     let T = next h (e .call) (e .result) .plain .table in
     let a = now-after l (next h (e .call) (e .result)) in
-    let b = book-ext (h .book) (e .call) (e .result) T .now in
+    let b = trace-ext (h .trace) (e .call) (e .result) T .now in
     omega arith
 
-tabs-stay : (l : List Entry) (h : Hist) (j : ℕ) → j ≤ h .book .now → after h l .book .tabs j ≡ h .book .tabs j
+tabs-stay : (l : List Entry) (h : Hist) (j : ℕ) → j ≤ h .trace .now → after h l .trace .tabs j ≡ h .trace .tabs j
 unfolding after next
 tabs-stay [] h j k = refl
 tabs-stay (e ∷ l) h j k =
-    let x = book-ext (h .book) (e .call) (e .result) (next h (e .call) (e .result) .plain .table) in
+    let x = trace-ext (h .trace) (e .call) (e .result) (next h (e .call) (e .result) .plain .table) in
     let n = x .now in
     tabs-stay l (next h (e .call) (e .result)) j (omega arith) ∙ x .tabs j k
 
-tabs-from : (l : List Entry) (h : Hist) (j : ℕ) → j ≤ length l → h .book .tabs (h .book .now) ≡ h .plain .table
-    → after h l .book .tabs (h .book .now + j) ≡ after h (take j l) .plain .table
+tabs-from : (l : List Entry) (h : Hist) (j : ℕ) → j ≤ length l → h .trace .tabs (h .trace .now) ≡ h .plain .table
+    → after h l .trace .tabs (h .trace .now + j) ≡ after h (take j l) .plain .table
 unfolding after next
 tabs-from l h zero k e =
-    let z : h .book .now + 0 ≡ h .book .now = omega arith in
-    rw z (tabs-stay l h (h .book .now) (omega arith) ∙ e)
+    let z : h .trace .now + 0 ≡ h .trace .now = omega arith in
+    rw z (tabs-stay l h (h .trace .now) (omega arith) ∙ e)
 tabs-from [] h (suc j) k e = absurd (omega arith)
 tabs-from (c ∷ l) h (suc j) k e =
     let g = next h (c .call) (c .result) in
-    let x = book-ext (h .book) (c .call) (c .result) (g .plain .table) in
-    let n : h .book .now + suc j ≡ g .book .now + j = let y = x .now in omega arith in
-    rw n (tabs-from l g j (omega arith) (ap (g .book .tabs) (x .now) ∙ x .last))
+    let x = trace-ext (h .trace) (c .call) (c .result) (g .plain .table) in
+    let n : h .trace .now + suc j ≡ g .trace .now + j = let y = x .now in omega arith in
+    rw n (tabs-from l g j (omega arith) (ap (g .trace .tabs) (x .now) ∙ x .last))
 
--- the books' table at call j is the plain table after the first j calls
-pub tabs-are : (l : List Entry) (j : ℕ) → j ≤ length l → after fresh l .book .tabs j ≡ plainTable (take j l)
-unfolding plainTable fresh blank-book plainAtOpening
+-- the trace's table at call j is the plain table after the first j calls
+pub tabs-are : (l : List Entry) (j : ℕ) → j ≤ length l → after fresh l .trace .tabs j ≡ plainTable (take j l)
+unfolding plainTable fresh empty-trace plainAtOpening
 tabs-are l j k =
     let z : 0 + j ≡ j = omega arith in
     rw z at (tabs-from l fresh j k refl)
@@ -106,7 +106,7 @@ startOf (reads q) d = begin-read d q
 startOf (writes w) d = begin-write d w
 
 -- "one that answers, gives 12, reports the write's end"
-unfoldable pub isEnd : Result → Bool
+unfoldable pub isEnd : Response → Bool
 isEnd (refused n) = false
 isEnd went = false
 isEnd (answered l b) = true
@@ -115,13 +115,13 @@ isEnd (ended c) = true
 isEnd full = true
 
 -- the call ends what is under way at desk d: such a step, "or an accepted abandoning"
-unfoldable pub ends : ℕ → Call → Result → Bool
+unfoldable pub ends : ℕ → Call → Response → Bool
 ends d (begin-read e q) a = false
 ends d (begin-write e w) a = false
 ends d (step e) a = eqb e d && isEnd a
 ends d (abandon e) a = eqb e d && not (isRefused a)
-ends d (out-answer i) a = false
-ends d (out-node i) a = false
+ends d (evict-answer i) a = false
+ends d (evict-node i) a = false
 ends d renew a = false
 
 unfoldable pub goesOn : ℕ → List Entry → Bool
@@ -129,13 +129,13 @@ goesOn d [] = true
 goesOn d (e ∷ l) = not (ends d (e .call) (e .result)) && goesOn d l
 
 -- 1 for an accepted step of desk d
-unfoldable pub stepped : ℕ → Call → Result → ℕ
+unfoldable pub stepped : ℕ → Call → Response → ℕ
 stepped d (begin-read e q) a = 0
 stepped d (begin-write e w) a = 0
 stepped d (step e) a = cond (eqb e d && not (isRefused a)) 1 0
 stepped d (abandon e) a = 0
-stepped d (out-answer i) a = 0
-stepped d (out-node i) a = 0
+stepped d (evict-answer i) a = 0
+stepped d (evict-node i) a = 0
 stepped d renew a = 0
 
 unfoldable pub stepsOf : ℕ → List Entry → ℕ
@@ -145,13 +145,13 @@ stepsOf d (e ∷ l) = stepped d (e .call) (e .result) + stepsOf d l
 -- an accepted begin, and no call since that ends it
 pub record UnderWay (l : List Entry) (d : ℕ) (x : Act) : Type 0 where
   pub earlier : List Entry
-  pub result : Result
+  pub result : Response
   pub since : List Entry
   pub split : l ≡ earlier ++ (entry (startOf x d) result ∷ since)
   pub taken : isRefused result ≡ false
   pub on : goesOn d since ≡ true
 
--- ---- The jobs of the books are under way
+-- ---- The jobs of the trace are under way
 abbrev pub JobFrom : List Entry → ℕ → Job → Type 0
 JobFrom l d no-job = Unit
 JobFrom l d (job x n b t) = (u : UnderWay l d x) × (b ≡ suc (length (u .earlier))) × (n ≡ stepsOf d (u .since))
@@ -179,7 +179,7 @@ on-append l d x e k u = record {
 }
 
 -- a job that the call leaves alone, or steps on
-from-append : (l : List Entry) (d : ℕ) (j : Job) (c : Call) (a : Result) → ends d c a ≡ false → stepped d c a ≡ 0 → JobFrom l d j
+from-append : (l : List Entry) (d : ℕ) (j : Job) (c : Call) (a : Response) → ends d c a ≡ false → stepped d c a ≡ 0 → JobFrom l d j
     → JobFrom (l ++ (entry c a ∷ [])) d j
 unfolding on-append
 from-append l d no-job c a k s f = tt
@@ -188,7 +188,7 @@ from-append l d (job x n b t) c a k s f =
     let y : n ≡ stepsOf d (f .0 .since ++ (entry c a ∷ [])) = let w = f .2 in omega arith in
     (on-append l d x (entry c a) k (f .0), f .1, y)
 
-from-step : (l : List Entry) (d : ℕ) (x : Act) (n b t t′ : ℕ) (a : Result) → isRefused a ≡ false → JobFrom l d (job x n b t)
+from-step : (l : List Entry) (d : ℕ) (x : Act) (n b t t′ : ℕ) (a : Response) → isRefused a ≡ false → JobFrom l d (job x n b t)
     → JobFrom (l ++ (entry (step d) a ∷ [])) d (job-after x (suc n) b t′ a)
 unfolding job-after isRefused ends isEnd stepped on-append
 from-step l d x n b t t′ (refused m) r f = absurd (true≢false r)
@@ -209,19 +209,19 @@ refused-on d (begin-read e q) n = (refl, refl)
 refused-on d (begin-write e w) n = (refl, refl)
 refused-on d (step e) n = (and-false (eqb e d), rw (and-false (eqb e d)) refl)
 refused-on d (abandon e) n = (and-false (eqb e d), refl)
-refused-on d (out-answer i) n = (refl, refl)
-refused-on d (out-node i) n = (refl, refl)
+refused-on d (evict-answer i) n = (refl, refl)
+refused-on d (evict-node i) n = (refl, refl)
 refused-on d renew n = (refl, refl)
 
 -- a step, an abandoning at another desk
-elsewhere : (l : List Entry) (d e : ℕ) (j : Job) (a : Result) → (d ≡ e → ⊥) → JobFrom l d j
+elsewhere : (l : List Entry) (d e : ℕ) (j : Job) (a : Response) → (d ≡ e → ⊥) → JobFrom l d j
     → JobFrom (l ++ (entry (step e) a ∷ [])) d j × JobFrom (l ++ (entry (abandon e) a ∷ [])) d j
 unfolding ends stepped
 elsewhere l d e j a ne f =
     let k = ne-eqb e d (λ y. ne (sym y)) in
     (from-append l d j (step e) a (rw k refl) (rw k refl) f, from-append l d j (abandon e) a (rw k refl) refl f)
 
-begun-from : (l : List Entry) (d : ℕ) (x : Act) (a : Result) (b : ℕ) → isRefused a ≡ false → b ≡ length l
+begun-from : (l : List Entry) (d : ℕ) (x : Act) (a : Response) (b : ℕ) → isRefused a ≡ false → b ≡ length l
     → JobFrom (l ++ (entry (startOf x d) a ∷ [])) d (job x 0 (suc b) 0)
 unfolding goesOn stepsOf
 begun-from l d x a b r e = (record { earlier = l; result = a; since = []; split = refl; taken = r; on = refl }, ap suc e, refl)
@@ -237,38 +237,38 @@ changed js l e j f g d = byTest (eqb d e)
 unchanged : (js : ℕ → Job) (l : List Entry) (e : ℕ) → js e ≡ no-job → ((d : ℕ) → (d ≡ e → ⊥) → JobFrom l d (js d)) → (d : ℕ) → JobFrom l d (js d)
 unchanged js l e k g d = byTest (eqb d e) (λ i. rw (eqb-true d e i, k) tt) (λ i. g d (eqb-false d e i))
 
-step-linked : (l : List Entry) (B : Book) (e : ℕ) (j : Job) (a : Result) (T : Table) → B .jobs e ≡ j → isRefused a ≡ false
+step-linked : (l : List Entry) (B : Trace) (e : ℕ) (j : Job) (a : Response) (T : Table) → B .jobs e ≡ j → isRefused a ≡ false
     → ((d : ℕ) → JobFrom l d (B .jobs d))
-    → (d : ℕ) → JobFrom (l ++ (entry (step e) a ∷ [])) d (step-book B e j a T .jobs d)
-unfolding step-book tick turn
+    → (d : ℕ) → JobFrom (l ++ (entry (step e) a ∷ [])) d (step-trace B e j a T .jobs d)
+unfolding step-trace tick turn
 step-linked l B e no-job a T k r f = unchanged (B .jobs) _ e k (λ d ne. elsewhere l d e (B .jobs d) a ne (f d) .0)
 step-linked l B e (job x n b t) a T k r f =
     changed (B .jobs) _ e _ (from-step l e x n b t (tabled-at x (suc n) (suc (B .now)) t) a r (subst (λ j. JobFrom l e j) k (f e)))
     (λ d ne. elsewhere l d e (B .jobs d) a ne (f d) .0)
 
-abandon-linked : (l : List Entry) (B : Book) (e : ℕ) (j : Job) (a : Result) (T : Table) → B .jobs e ≡ j → ((d : ℕ) → JobFrom l d (B .jobs d))
-    → (d : ℕ) → JobFrom (l ++ (entry (abandon e) a ∷ [])) d (abandon-book B e j a T .jobs d)
-unfolding abandon-book tick turn
+abandon-linked : (l : List Entry) (B : Trace) (e : ℕ) (j : Job) (a : Response) (T : Table) → B .jobs e ≡ j → ((d : ℕ) → JobFrom l d (B .jobs d))
+    → (d : ℕ) → JobFrom (l ++ (entry (abandon e) a ∷ [])) d (abandon-trace B e j a T .jobs d)
+unfolding abandon-trace tick turn
 abandon-linked l B e no-job a T k f = unchanged (B .jobs) _ e k (λ d ne. elsewhere l d e (B .jobs d) a ne (f d) .1)
 abandon-linked l B e (job x n b t) a T k f = changed (B .jobs) _ e no-job tt (λ d ne. elsewhere l d e (B .jobs d) a ne (f d) .1)
 
-accepted-linked : (l : List Entry) (B : Book) (c : Call) (a : Result) (T : Table) → B .now ≡ length l → isRefused a ≡ false
+accepted-linked : (l : List Entry) (B : Trace) (c : Call) (a : Response) (T : Table) → B .now ≡ length l → isRefused a ≡ false
     → ((d : ℕ) → JobFrom l d (B .jobs d))
-    → (d : ℕ) → JobFrom (l ++ (entry c a ∷ [])) d (accepted-book B c a T .jobs d)
-unfolding accepted-book begin-book tick turn startOf ends stepped
+    → (d : ℕ) → JobFrom (l ++ (entry c a ∷ [])) d (accepted-trace B c a T .jobs d)
+unfolding accepted-trace begin-trace tick turn startOf ends stepped
 accepted-linked l B (begin-read e q) a T n r f =
     changed (B .jobs) _ e _ (begun-from l e (reads q) a (B .now) r n) (λ d ne. from-append l d (B .jobs d) (begin-read e q) a refl refl (f d))
 accepted-linked l B (begin-write e w) a T n r f =
     changed (B .jobs) _ e _ (begun-from l e (writes w) a (B .now) r n) (λ d ne. from-append l d (B .jobs d) (begin-write e w) a refl refl (f d))
 accepted-linked l B (step e) a T n r f = step-linked l B e (B .jobs e) a T refl r f
 accepted-linked l B (abandon e) a T n r f = abandon-linked l B e (B .jobs e) a T refl f
-accepted-linked l B (out-answer i) a T n r f = λ d. from-append l d (B .jobs d) (out-answer i) a refl refl (f d)
-accepted-linked l B (out-node i) a T n r f = λ d. from-append l d (B .jobs d) (out-node i) a refl refl (f d)
+accepted-linked l B (evict-answer i) a T n r f = λ d. from-append l d (B .jobs d) (evict-answer i) a refl refl (f d)
+accepted-linked l B (evict-node i) a T n r f = λ d. from-append l d (B .jobs d) (evict-node i) a refl refl (f d)
 accepted-linked l B renew a T n r f = λ d. from-append l d (B .jobs d) renew a refl refl (f d)
 
-next-linked : (l : List Entry) (B : Book) (c : Call) (a : Result) (T : Table) → B .now ≡ length l → ((d : ℕ) → JobFrom l d (B .jobs d))
-    → (d : ℕ) → JobFrom (l ++ (entry c a ∷ [])) d (next-book B c a T .jobs d)
-unfolding next-book isRefused tick turn
+next-linked : (l : List Entry) (B : Trace) (c : Call) (a : Response) (T : Table) → B .now ≡ length l → ((d : ℕ) → JobFrom l d (B .jobs d))
+    → (d : ℕ) → JobFrom (l ++ (entry c a ∷ [])) d (next-trace B c a T .jobs d)
+unfolding next-trace isRefused tick turn
 next-linked l B c (refused n) T e f = λ d. let z = refused-on d c n in from-append l d (B .jobs d) c (refused n) (z .0) (z .1) (f d)
 next-linked l B c went T e f = accepted-linked l B c went T e refl f
 next-linked l B c (answered v b) T e f = accepted-linked l B c (answered v b) T e refl f
@@ -276,19 +276,19 @@ next-linked l B c long T e f = accepted-linked l B c long T e refl f
 next-linked l B c (ended b) T e f = accepted-linked l B c (ended b) T e refl f
 next-linked l B c full T e f = accepted-linked l B c full T e refl f
 
-after-linked : (l p : List Entry) (h : Hist) → h .book .now ≡ length p → ((d : ℕ) → JobFrom p d (h .book .jobs d))
-    → (d : ℕ) → JobFrom (p ++ l) d (after h l .book .jobs d)
+after-linked : (l p : List Entry) (h : Hist) → h .trace .now ≡ length p → ((d : ℕ) → JobFrom p d (h .trace .jobs d))
+    → (d : ℕ) → JobFrom (p ++ l) d (after h l .trace .jobs d)
 unfolding after next
-after-linked [] p h e f d = subst (λ z. JobFrom z d (h .book .jobs d)) (sym (append-nil p)) (f d)
+after-linked [] p h e f d = subst (λ z. JobFrom z d (h .trace .jobs d)) (sym (append-nil p)) (f d)
 after-linked (c ∷ l) p h e f d =
     let g = next h (c .call) (c .result) in
-    let x = book-ext (h .book) (c .call) (c .result) (g .plain .table) in
-    let n : g .book .now ≡ length (p ++ (c ∷ [])) = let y = x .now in let z = length-append p (c ∷ []) in omega arith in
-    subst (λ z. JobFrom z d (after g l .book .jobs d)) (append-assoc p (c ∷ []) l)
-    (after-linked l (p ++ (c ∷ [])) g n (next-linked p (h .book) (c .call) (c .result) (g .plain .table) e f) d)
+    let x = trace-ext (h .trace) (c .call) (c .result) (g .plain .table) in
+    let n : g .trace .now ≡ length (p ++ (c ∷ [])) = let y = x .now in let z = length-append p (c ∷ []) in omega arith in
+    subst (λ z. JobFrom z d (after g l .trace .jobs d)) (append-assoc p (c ∷ []) l)
+    (after-linked l (p ++ (c ∷ [])) g n (next-linked p (h .trace) (c .call) (c .result) (g .plain .table) e f) d)
 
-pub linked : (l : List Entry) (d : ℕ) → JobFrom l d (after fresh l .book .jobs d)
-linked l d = after-linked l [] fresh (unfold fresh in unfold blank-book in refl) (λ d. none-linked d) d
+pub linked : (l : List Entry) (d : ℕ) → JobFrom l d (after fresh l .trace .jobs d)
+linked l d = after-linked l [] fresh (unfold fresh in unfold empty-trace in refl) (λ d. none-linked d) d
   where
-    none-linked : (d : ℕ) → JobFrom [] d (fresh .book .jobs d)
-    none-linked d = unfold fresh in unfold blank-book in tt
+    none-linked : (d : ℕ) → JobFrom [] d (fresh .trace .jobs d)
+    none-linked d = unfold fresh in unfold empty-trace in tt

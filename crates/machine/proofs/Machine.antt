@@ -9,19 +9,19 @@ use Rattle.lists.specs.Lists.{place, without, allBelow}
 use Rattle.rules.specs.Sizes.{maxAnswers}
 use Rattle.rules.specs.Table.{Table, Write}
 use Rattle.rules.specs.Nodes.{Store, store}
-use Rattle.machine.proofs.Base.{Code, upd}
-use Rattle.machine.proofs.Keys.{Key, Val, nodesOf, sameKey}
+use Rattle.machine.proofs.Sums.{Words, upd}
+use Rattle.machine.proofs.Keys.{Key, Val, readLabels, sameKey}
 
 -- ---- The state
 -- A constructor for each phase. A reader has noted revisions, and whether a look saw a mark; a writer has set so many marks, or
 -- made so many raises and found the table changed or full.
-pub data Desk : Type 0 where
-  idle : Desk
-  looking : Key → List ℕ → Bool → Desk
-  tabling : Key → List ℕ → Bool → Desk
-  filing : Key → List ℕ → Val → Desk
-  marking : Write → ℕ → Desk
-  raising : Write → ℕ → Bool → Bool → Desk
+pub data Phase : Type 0 where
+  idle : Phase
+  looking : Key → List ℕ → Bool → Phase
+  tabling : Key → List ℕ → Bool → Phase
+  filing : Key → List ℕ → Val → Phase
+  announcing : Write → ℕ → Phase
+  raising : Write → ℕ → Bool → Bool → Phase
 
 -- a filed answer
 pub record Ans : Type 0 where
@@ -34,11 +34,11 @@ pub record State : Type 0 where
   pub tab : Table
   pub store : Store
   pub filed : List Ans
-  pub desks : ℕ → Desk
+  pub clients : ℕ → Phase
 
 -- label j of a read
-unfoldable pub node : Key → ℕ → Code
-node q j = getD (nodesOf q) j []
+unfoldable pub node : Key → ℕ → Words
+node q j = getD (readLabels q) j []
 
 -- ---- The calls and their results
 pub data Call : Type 0 where
@@ -46,20 +46,20 @@ pub data Call : Type 0 where
   begin-write : ℕ → Write → Call
   step : ℕ → Call
   abandon : ℕ → Call
-  out-answer : ℕ → Call
-  out-node : ℕ → Call
+  evict-answer : ℕ → Call
+  evict-node : ℕ → Call
   renew : Call
 
-pub data Result : Type 0 where
-  refused : ℕ → Result
-  went : Result
-  answered : Val → Bool → Result
-  long : Result
-  ended : Bool → Result
-  full : Result
+pub data Response : Type 0 where
+  refused : ℕ → Response
+  went : Response
+  answered : Val → Bool → Response
+  long : Response
+  ended : Bool → Response
+  full : Response
 
 -- "the number each returned"
-unfoldable pub number : Result → ℕ
+unfoldable pub number : Response → ℕ
 number (refused n) = n
 number went = 0
 number (answered l b) = 0
@@ -68,31 +68,31 @@ number (ended b) = 0
 number full = 13
 
 -- a write's end, from what its table step found
-unfoldable pub write-end : Bool → Bool → Result
+unfoldable pub write-end : Bool → Bool → Response
 write-end c true = full
 write-end c false = ended c
 
 -- ---- States with a part changed
-unfoldable pub at-desk : State → ℕ → Desk → State
-at-desk s d x = record { cols = s .cols; tab = s .tab; store = s .store; filed = s .filed; desks = upd (s .desks) d x }
+unfoldable pub at-client : State → ℕ → Phase → State
+at-client s d x = record { cols = s .cols; tab = s .tab; store = s .store; filed = s .filed; clients = upd (s .clients) d x }
 
 unfoldable pub with-store : State → Store → State
-with-store s t = record { cols = s .cols; tab = s .tab; store = t; filed = s .filed; desks = s .desks }
+with-store s t = record { cols = s .cols; tab = s .tab; store = t; filed = s .filed; clients = s .clients }
 
 unfoldable pub with-filed : State → List Ans → State
-with-filed s f = record { cols = s .cols; tab = s .tab; store = s .store; filed = f; desks = s .desks }
+with-filed s f = record { cols = s .cols; tab = s .tab; store = s .store; filed = f; clients = s .clients }
 
 unfoldable pub with-tab : State → Table → State
-with-tab s t = record { cols = s .cols; tab = t; store = s .store; filed = s .filed; desks = s .desks }
+with-tab s t = record { cols = s .cols; tab = t; store = s .store; filed = s .filed; clients = s .clients }
 
 -- as an opening with k columns leaves it
 unfoldable pub opened : ℕ → State
-opened k = record { cols = k; tab = []; store = store 1 []; filed = []; desks = λ d. idle }
+opened k = record { cols = k; tab = []; store = store 1 []; filed = []; clients = λ d. idle }
 
 -- ---- The filed answers
 -- an answer that a fetch may take: of the same key, no revision below the one noted
 unfoldable pub holds-for : Key → List ℕ → Ans → Bool
-holds-for q ns a = sameKey (a .query) q && allBelow (length (nodesOf q)) (λ j. leb (getD ns j 0) (getD (a .revs) j 0))
+holds-for q ns a = sameKey (a .query) q && allBelow (length (readLabels q)) (λ j. leb (getD ns j 0) (getD (a .revs) j 0))
 
 unfoldable pub has-key : Key → Ans → Bool
 has-key q a = sameKey (a .query) q

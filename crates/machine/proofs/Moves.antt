@@ -1,6 +1,6 @@
--- The answers, filed or in a desk's hand, and what is true of them: a revision that has grown past an answer's, or will, makes it stale.
+-- The answers, filed or in a client's hand, and what is true of them: a revision that has grown past an answer's, or will, makes it stale.
 -- What every call but a renewal does to revisions, owed labels, the table and the answers (Move), and what any such move keeps.
--- Leans on Marks. Assumes nothing.
+-- Leans on PendingLabels. Assumes nothing.
 use mathlib.Core.Path.{_≡_, refl, sym, ap, _∙_, subst}
 use mathlib.Core.Logic.{_⊎_, inl, inr}
 use mathlib.Core.Bool.{Bool, true, false, _||_}
@@ -11,64 +11,64 @@ use lib.Dec.{eqb, ltb}
 use borrow.Author.Tests.{eqb-true, eqb-false, lt-ltb}
 use lib.ListN.{length, getD, length-append, List·getD-append}
 use lib.Seq.{getD-append-seam}
-use Rattle.laws.proofs.Tests.{byTest, clash, or-left, or-right}
+use Rattle.laws.proofs.TestLaws.{byTest, clash, or-left, or-right}
 use Rattle.rules.specs.Table.{Write, effect}
 use Rattle.rules.specs.Nodes.{Store}
-use Rattle.revisions.proofs.Effect.{eff, mrk, tally, Grew}
-use Rattle.machine.proofs.Base.{Code, upd, upd-same, upd-other, In, in-place}
-use Rattle.machine.proofs.Keys.{Key, Val, valueOf, width, widthOf, nodesOf, marksOf, Shares, effect-value}
-use Rattle.machine.proofs.Machine.{State, Desk, idle, looking, tabling, filing, marking, raising, node, with-filed, with-store, cut}
-use Rattle.machine.proofs.Filing.{in-cut}
-use Rattle.machine.proofs.Marks.{owes, owing, Owed, tally-in}
+use Rattle.revisions.proofs.EffectiveRevision.{effective, pendingOf, tally, Grew}
+use Rattle.machine.proofs.Sums.{Words, upd, upd-same, upd-other, In, in-place}
+use Rattle.machine.proofs.Keys.{Key, Val, valueOf, width, widthOf, readLabels, writeLabels, Shares, effect-value}
+use Rattle.machine.proofs.Machine.{State, Phase, idle, looking, tabling, filing, announcing, raising, node, with-filed, with-store, cut}
+use Rattle.machine.proofs.FiledAnswers.{in-cut}
+use Rattle.machine.proofs.PendingLabels.{owes, owing, Owed, tally-in}
 
 -- ---- Answers
 -- p's revision has passed x, or will
-abbrev pub Late : State → Code → ℕ → Type 0
-Late s p x = (x < eff (s .store) p) ⊎ Owed s p
+abbrev pub Late : State → Words → ℕ → Type 0
+Late s p x = (x < effective (s .store) p) ⊎ Owed s p
 
-abbrev pub BoundTo : ℕ → (Code → ℕ) → Key → List ℕ → Type 0
+abbrev pub BoundTo : ℕ → (Words → ℕ) → Key → List ℕ → Type 0
 BoundTo n e q r = (j : ℕ) → j < n → getD r j 0 ≤ e (node q j)
 
 abbrev pub Stale : State → Key → List ℕ → Type 0
-Stale s q r = (j : ℕ) × (j < length (nodesOf q)) × Late s (node q j) (getD r j 0)
+Stale s q r = (j : ℕ) × (j < length (readLabels q)) × Late s (node q j) (getD r j 0)
 
 -- an answer: filed, or held by a desk that has still to file it
 pub data IsAns (s : State) (q : Key) (r : List ℕ) (l : Val) : Type 0 where
   in-file : In (record { query = q; revs = r; list = l }) (s .filed) → IsAns s q r l
-  in-hand : (d : ℕ) → s .desks d ≡ filing q r l → IsAns s q r l
+  in-hand : (d : ℕ) → s .clients d ≡ filing q r l → IsAns s q r l
 
 pub record AnsOk (s : State) (q : Key) (r : List ℕ) (l : Val) : Type 0 where
   pub fits : width q ≡ s .cols
-  pub bound : BoundTo (length (nodesOf q)) (eff (s .store)) q r
+  pub bound : BoundTo (length (readLabels q)) (effective (s .store)) q r
   pub now : (l ≡ valueOf q (s .tab)) ⊎ Stale s q r
 
 -- an answer that a call has made
 abbrev pub New : State → Key → List ℕ → Val → Type 0
-New t q r l = BoundTo (length (nodesOf q)) (eff (t .store)) q r × (width q ≡ t .cols) × (l ≡ valueOf q (t .tab))
+New t q r l = BoundTo (length (readLabels q)) (effective (t .store)) q r × (width q ≡ t .cols) × (l ≡ valueOf q (t .tab))
 
 -- a read at q that has noted ns will not take an answer with the revisions r
 abbrev pub LateFor : State → Key → List ℕ → List ℕ → ℕ → Type 0
 LateFor s q ns r j = ((j < length ns) × (getD r j 0 < getD ns j 0)) ⊎ ((length ns ≤ j) × Late s (node q j) (getD r j 0))
 
 abbrev pub Behind : State → Key → List ℕ → Bool → List ℕ → Type 0
-Behind s q ns saw r = (saw ≡ true) ⊎ ((j : ℕ) × (j < length (nodesOf q)) × LateFor s q ns r j)
+Behind s q ns saw r = (saw ≡ true) ⊎ ((j : ℕ) × (j < length (readLabels q)) × LateFor s q ns r j)
 
 -- ---- Moves
 pub record Move (s t : State) : Type 0 where
   pub cols : t .cols ≡ s .cols
-  pub mono : (p : Code) → eff (s .store) p ≤ eff (t .store) p
-  pub owed : (p : Code) → Owed s p → Owed t p ⊎ (eff (s .store) p < eff (t .store) p)
-  pub lists : (q : Key) → width q ≡ s .cols → (valueOf q (t .tab) ≡ valueOf q (s .tab)) ⊎ ((j : ℕ) × (j < length (nodesOf q)) × Owed t (node q j))
+  pub mono : (p : Words) → effective (s .store) p ≤ effective (t .store) p
+  pub owed : (p : Words) → Owed s p → Owed t p ⊎ (effective (s .store) p < effective (t .store) p)
+  pub lists : (q : Key) → width q ≡ s .cols → (valueOf q (t .tab) ≡ valueOf q (s .tab)) ⊎ ((j : ℕ) × (j < length (readLabels q)) × Owed t (node q j))
   pub answers : (q : Key) (r : List ℕ) (l : Val) → IsAns t q r l → IsAns s q r l ⊎ New t q r l
 
-late-moves : {s t : State} → Move s t → (p : Code) (x : ℕ) → x ≤ eff (s .store) p → Late s p x → Late t p x
+late-moves : {s t : State} → Move s t → (p : Words) (x : ℕ) → x ≤ effective (s .store) p → Late s p x → Late t p x
 late-moves m p x b (inl h) = let k = m .mono p in inl (omega arith)
 late-moves m p x b (inr o) = elim (m .owed p o) [ inl o′ ↦ inr o′ | inr k ↦ inl (omega arith) ]
 
-stale-moves : {s t : State} → Move s t → (q : Key) (r : List ℕ) → BoundTo (length (nodesOf q)) (eff (s .store)) q r → Stale s q r → Stale t q r
+stale-moves : {s t : State} → Move s t → (q : Key) (r : List ℕ) → BoundTo (length (readLabels q)) (effective (s .store)) q r → Stale s q r → Stale t q r
 stale-moves m q r b z = (z .0, z .1, late-moves m (node q (z .0)) (getD r (z .0) 0) (b (z .0) (z .1)) (z .2))
 
-pub bound-on : (n : ℕ) (e f : Code → ℕ) (q : Key) (r : List ℕ) → ((p : Code) → e p ≤ f p) → BoundTo n e q r → BoundTo n f q r
+pub bound-on : (n : ℕ) (e f : Words → ℕ) (q : Key) (r : List ℕ) → ((p : Words) → e p ≤ f p) → BoundTo n e q r → BoundTo n f q r
 bound-on n e f q r m b j l = let x = b j l in let y = m (node q j) in omega arith
 
 ans-now : {s t : State} → Move s t → (q : Key) (r : List ℕ) (l : Val) → AnsOk s q r l → (l ≡ valueOf q (t .tab)) ⊎ Stale t q r
@@ -81,12 +81,12 @@ pub ans-moves : {s t : State} → Move s t → ((q : Key) (r : List ℕ) (l : Va
     → (q : Key) (r : List ℕ) (l : Val) → IsAns t q r l → AnsOk t q r l
 ans-moves {s} {t} m h q r l i = elim (m .answers q r l i) [
   | inl i′ ↦ let a = h q r l i′ in
-      record { fits = a .fits ∙ sym (m .cols); bound = bound-on (length (nodesOf q)) (eff (s .store)) (eff (t .store)) q r (m .mono) (a .bound); now = ans-now m q r l a }
+      record { fits = a .fits ∙ sym (m .cols); bound = bound-on (length (readLabels q)) (effective (s .store)) (effective (t .store)) q r (m .mono) (a .bound); now = ans-now m q r l a }
   | inr n ↦ record { fits = n .1; bound = n .0; now = inl (n .2) }
 ]
 
 pub behind-moves : {s t : State} → Move s t → (q : Key) (ns : List ℕ) (saw : Bool) (r : List ℕ)
-    → BoundTo (length (nodesOf q)) (eff (s .store)) q r → Behind s q ns saw r → Behind t q ns saw r
+    → BoundTo (length (readLabels q)) (effective (s .store)) q r → Behind s q ns saw r → Behind t q ns saw r
 behind-moves m q ns saw r b (inl e) = inl e
 behind-moves m q ns saw r b (inr z) = inr (
   z .0,
@@ -98,57 +98,57 @@ behind-moves m q ns saw r b (inr z) = inr (
 )
 
 -- ---- A move by a change of one desk
-pub record MoveAt (s t : State) (d : ℕ) (x : Desk) : Type 0 where
+pub record MoveAt (s t : State) (d : ℕ) (x : Phase) : Type 0 where
   pub low : d < 12
-  pub desks : t .desks ≡ upd (s .desks) d x
+  pub clients : t .clients ≡ upd (s .clients) d x
   pub cols : t .cols ≡ s .cols
-  pub lists : (q : Key) → width q ≡ s .cols → (valueOf q (t .tab) ≡ valueOf q (s .tab)) ⊎ ((j : ℕ) × (j < length (nodesOf q)) × Owed t (node q j))
-  pub mono : (p : Code) → eff (s .store) p ≤ eff (t .store) p
-  pub owed : (p : Code) → 0 < tally p (owes (s .desks d)) → (0 < tally p (owes x)) ⊎ (eff (s .store) p < eff (t .store) p)
+  pub lists : (q : Key) → width q ≡ s .cols → (valueOf q (t .tab) ≡ valueOf q (s .tab)) ⊎ ((j : ℕ) × (j < length (readLabels q)) × Owed t (node q j))
+  pub mono : (p : Words) → effective (s .store) p ≤ effective (t .store) p
+  pub owed : (p : Words) → 0 < tally p (owes (s .clients d)) → (0 < tally p (owes x)) ⊎ (effective (s .store) p < effective (t .store) p)
   pub file : (q : Key) (r : List ℕ) (l : Val) → In (record { query = q; revs = r; list = l }) (t .filed) → IsAns s q r l ⊎ New t q r l
   pub hand : (q : Key) (r : List ℕ) (l : Val) → x ≡ filing q r l → IsAns s q r l ⊎ New t q r l
 
-desk-same : {s t : State} {d : ℕ} {x : Desk} → MoveAt s t d x → t .desks d ≡ x
-desk-same {s} {t} {d} {x} m = ap (λ f. f d) (m .desks) ∙ upd-same _ d x
+client-same : {s t : State} {d : ℕ} {x : Phase} → MoveAt s t d x → t .clients d ≡ x
+client-same {s} {t} {d} {x} m = ap (λ f. f d) (m .clients) ∙ upd-same _ d x
 
-desk-other : {s t : State} {d : ℕ} {x : Desk} → MoveAt s t d x → (e : ℕ) → (e ≡ d → ⊥) → t .desks e ≡ s .desks e
-desk-other {s} {t} {d} {x} m e ne = ap (λ f. f e) (m .desks) ∙ upd-other _ d x e ne
+client-other : {s t : State} {d : ℕ} {x : Phase} → MoveAt s t d x → (e : ℕ) → (e ≡ d → ⊥) → t .clients e ≡ s .clients e
+client-other {s} {t} {d} {x} m e ne = ap (λ f. f e) (m .clients) ∙ upd-other _ d x e ne
 
-pub move-at : {s t : State} {d : ℕ} {x : Desk} → MoveAt s t d x → Move s t
+pub move-at : {s t : State} {d : ℕ} {x : Phase} → MoveAt s t d x → Move s t
 move-at {s} {t} {d} {x} m = record {
   mono = m .mono;
   cols = m .cols;
   lists = m .lists;
   owed = λ p o. byTest (eqb (o .0) d)
       (λ e. elim (m .owed p (rw (eqb-true (o .0) d e) at (o .2)))
-      [ inl z ↦ inl (d, m .low, rw (desk-same m) z) | inr z ↦ inr z ])
-      (λ e. inl (o .0, o .1, rw (desk-other m (o .0) (eqb-false (o .0) d e)) (o .2)));
+      [ inl z ↦ inl (d, m .low, rw (client-same m) z) | inr z ↦ inr z ])
+      (λ e. inl (o .0, o .1, rw (client-other m (o .0) (eqb-false (o .0) d e)) (o .2)));
   answers = λ q r l a. elim a [
     | in-file i ↦ m .file q r l i
     | in-hand e i ↦ byTest (eqb e d)
-        (λ k. m .hand q r l (sym (desk-same m) ∙ (rw (eqb-true e d k) at i)))
-        (λ k. inl (in-hand e (sym (desk-other m e (eqb-false e d k)) ∙ i)))
+        (λ k. m .hand q r l (sym (client-same m) ∙ (rw (eqb-true e d k) at i)))
+        (λ k. inl (in-hand e (sym (client-other m e (eqb-false e d k)) ∙ i)))
   ];
 }
 
 -- ---- Desks told apart
-abbrev pub isFiling : Desk → Bool
+abbrev pub isFiling : Phase → Bool
 isFiling idle = false
 isFiling (looking q ns saw) = false
 isFiling (tabling q ns saw) = false
 isFiling (filing q ns l) = true
-isFiling (marking w i) = false
+isFiling (announcing w i) = false
 isFiling (raising w j c f) = false
 
-pub not-filing : {A : Type 0} (x : Desk) {q : Key} {r : List ℕ} {l : Val} → isFiling x ≡ false → x ≡ filing q r l → A
+pub not-filing : {A : Type 0} (x : Phase) {q : Key} {r : List ℕ} {l : Val} → isFiling x ≡ false → x ≡ filing q r l → A
 not-filing x e k = clash (ap isFiling k) e
 
-abbrev Filed : (Key → List ℕ → Val → Type 0) → Desk → Type 0
+abbrev Filed : (Key → List ℕ → Val → Type 0) → Phase → Type 0
 Filed P idle = Unit
 Filed P (looking q ns saw) = Unit
 Filed P (tabling q ns saw) = Unit
 Filed P (filing q ns l) = P q ns l
-Filed P (marking w i) = Unit
+Filed P (announcing w i) = Unit
 Filed P (raising w j c f) = Unit
 
 pub filing-of : (P : Key → List ℕ → Val → Type 0) {q q′ : Key} {ns ns′ : List ℕ} {l l′ : Val} → filing q ns l ≡ filing q′ ns′ l′ → P q ns l
@@ -157,16 +157,16 @@ filing-of P e x = subst (Filed P) e x
 
 -- ---- The moves of the calls
 pub same-lists : (s t : State) → t .tab ≡ s .tab → (q : Key) → width q ≡ s .cols
-    → (valueOf q (t .tab) ≡ valueOf q (s .tab)) ⊎ ((j : ℕ) × (j < length (nodesOf q)) × Owed t (node q j))
+    → (valueOf q (t .tab) ≡ valueOf q (s .tab)) ⊎ ((j : ℕ) × (j < length (readLabels q)) × Owed t (node q j))
 same-lists s t e q f = inl (ap (valueOf q) e)
 
 -- a desk that owes nothing becomes one that holds no list; table and answers stay
-pub quiet-move : (s t : State) (d : ℕ) (x : Desk) → d < 12 → t .desks ≡ upd (s .desks) d x → t .tab ≡ s .tab → t .filed ≡ s .filed → t .cols ≡ s .cols
-    → ((p : Code) → eff (s .store) p ≤ eff (t .store) p) → ((p : Code) → tally p (owes (s .desks d)) ≡ 0) → isFiling x ≡ false → MoveAt s t d x
+pub quiet-move : (s t : State) (d : ℕ) (x : Phase) → d < 12 → t .clients ≡ upd (s .clients) d x → t .tab ≡ s .tab → t .filed ≡ s .filed → t .cols ≡ s .cols
+    → ((p : Words) → effective (s .store) p ≤ effective (t .store) p) → ((p : Words) → tally p (owes (s .clients d)) ≡ 0) → isFiling x ≡ false → MoveAt s t d x
 quiet-move s t d x l e a f c m o n = record {
   low = l;
   cols = c;
-  desks = e;
+  clients = e;
   lists = same-lists s t a;
   mono = m;
   owed = λ p k. let z = o p in absurd (omega arith);
@@ -199,16 +199,16 @@ out-move s t g = record {
 }
 
 -- a write's table step: a list is as it was, or the write owes a node of its key
-shares-owed : (s : State) (d : ℕ) (w : Write) (c f : Bool) (q : Key) → d < 12 → s .desks d ≡ raising w 0 c f → Shares q w
-    → (j : ℕ) × (j < length (nodesOf q)) × Owed s (node q j)
+shares-owed : (s : State) (d : ℕ) (w : Write) (c f : Bool) (q : Key) → d < 12 → s .clients d ≡ raising w 0 c f → Shares q w
+    → (j : ℕ) × (j < length (readLabels q)) × Owed s (node q j)
 unfolding owes owing node
 shares-owed s d w c f q l e z =
     let i = in-place [] (z .1) in
-    (i .0, i .1, (d, l, rw (i .2, e) (tally-in (z .0) (marksOf w) (z .2))))
+    (i .0, i .1, (d, l, rw (i .2, e) (tally-in (z .0) (writeLabels w) (z .2))))
 
-pub wrote-lists : (s t : State) (d : ℕ) (w : Write) (c f : Bool) (q : Key) → width q ≡ widthOf w → d < 12 → t .desks d ≡ raising w 0 c f
+pub wrote-lists : (s t : State) (d : ℕ) (w : Write) (c f : Bool) (q : Key) → width q ≡ widthOf w → d < 12 → t .clients d ≡ raising w 0 c f
     → t .tab ≡ effect w (s .tab)
-    → (valueOf q (t .tab) ≡ valueOf q (s .tab)) ⊎ ((j : ℕ) × (j < length (nodesOf q)) × Owed t (node q j))
+    → (valueOf q (t .tab) ≡ valueOf q (s .tab)) ⊎ ((j : ℕ) × (j < length (readLabels q)) × Owed t (node q j))
 wrote-lists s t d w c f q z l e m = elim (effect-value w q (s .tab) z)
     [ inl a ↦ inl (ap (valueOf q) m ∙ a) | inr a ↦ inr (shares-owed t d w c f q l e a) ]
 
@@ -229,12 +229,12 @@ unfolding grown
 grown-new ns c = getD-append-seam ns c [] 0
 
 -- behind before the look, behind after it: what was to be looked at has been seen marked, or noted above
-pub look-behind : (s : State) (q : Key) (ns : List ℕ) (saw : Bool) (r : List ℕ) → ((p : Code) → Owed s p → 0 < mrk (s .store) p)
-    → Behind s q ns saw r → Behind s q (grown ns (eff (s .store) (node q (length ns)))) (saw || ltb 0 (mrk (s .store) (node q (length ns)))) r
+pub look-behind : (s : State) (q : Key) (ns : List ℕ) (saw : Bool) (r : List ℕ) → ((p : Words) → Owed s p → 0 < pendingOf (s .store) p)
+    → Behind s q ns saw r → Behind s q (grown ns (effective (s .store) (node q (length ns)))) (saw || ltb 0 (pendingOf (s .store) (node q (length ns)))) r
 look-behind s q ns saw r o (inl e) = inl (or-left saw _ e)
 look-behind s q ns saw r o (inr z) =
     let p = node q (length ns) in
-    let c = eff (s .store) p in
+    let c = effective (s .store) p in
     let g = length-grown ns c in
     elim (z .2) [
       | inl k ↦ inr (z .0, z .1, inl (omega arith, rw (grown-old ns c (z .0) (k .0)) (k .1)))
@@ -243,7 +243,7 @@ look-behind s q ns saw r o (inr z) =
           let late : Late s p (getD r (length ns) 0) = rw i at (k .1) in
           elim late [
             | inl a ↦ inr (length ns, rw i at (z .1), inl (omega arith, rw (grown-new ns c) a))
-            | inr a ↦ inl (or-right saw _ (lt-ltb 0 (mrk (s .store) p) (o p a)))
+            | inr a ↦ inl (or-right saw _ (lt-ltb 0 (pendingOf (s .store) p) (o p a)))
           ])
           (λ e. let ne : z .0 ≡ length ns → ⊥ = eqb-false (z .0) (length ns) e in
           let le = k .0 in

@@ -1,6 +1,6 @@
 -- The plain table over the machine's calls: fed with a call and the number that it returned, by the clauses of document 01.
--- The state's table is the plain table, and what the plain table notes at a desk is the job that the books have there.
--- Leans on rules' History (the notes) and on Books. Assumes nothing.
+-- The state's table is the plain table, and what the plain table notes at a desk is the job that the trace have there.
+-- Leans on rules' History (the notes) and on TraceKept. Assumes nothing.
 use mathlib.Core.Path.{_≡_, refl, sym, ap, _∙_, subst}
 use mathlib.Core.Bool.{Bool, true, false, cond}
 use Prim.Native.Nat.{ℕ, suc, _+_}
@@ -8,24 +8,24 @@ use native.Mathlib.Omega.{arith}
 use lib.Dec.{eqb}
 use borrow.Author.Tests.{eqb-true, eqb-false, eq-eqb, ne-eqb}
 use lib.ListN.{length}
-use Rattle.laws.proofs.Tests.{byTest}
+use Rattle.laws.proofs.TestLaws.{byTest}
 use Rattle.query.specs.Query.{writeCount}
 use Rattle.rules.specs.Table.{Table, Write, target, effect}
 use Rattle.rules.specs.History.{Note, nothing, reading, writing, Plain, noteAt, oneStep, isAccepted}
-use Rattle.machine.proofs.Base.{upd, upd-same, upd-other}
-use Rattle.machine.proofs.Keys.{Key, valueOf, marksOf, length-marksOf}
-use Rattle.machine.proofs.Machine.{State, looking, tabling, filing, marking, raising, write-end}
-use Rattle.machine.proofs.Machine.{at-desk, with-store, with-filed, with-tab}
-use Rattle.machine.proofs.Machine.{Call, begin-read, begin-write, step, abandon, out-answer, out-node, renew}
-use Rattle.machine.proofs.Machine.{Result, refused, went, answered, long, ended, full, number}
-use Rattle.machine.proofs.Did
-use Rattle.machine.proofs.Did.{Did}
-use Rattle.machine.proofs.Tidy.{Tidy, fit-at}
-use Rattle.machine.proofs.Book.{Act, reads, writes, tableStep, Job, no-job, job, Book, next-book, accepted-book, step-book, begin-book}
-use Rattle.machine.proofs.Book.{abandon-book, tick, turn, job-after, tabled-at, isRefused}
-use Rattle.machine.proofs.BookInv.{BookInv}
-use Rattle.machine.proofs.Stepped.{job-at}
-use Rattle.machine.proofs.BookReads.{reader-job}
+use Rattle.machine.proofs.Sums.{upd, upd-same, upd-other}
+use Rattle.machine.proofs.Keys.{Key, valueOf, writeLabels, length-writeLabels}
+use Rattle.machine.proofs.Machine.{State, looking, tabling, filing, announcing, raising, write-end}
+use Rattle.machine.proofs.Machine.{at-client, with-store, with-filed, with-tab}
+use Rattle.machine.proofs.Machine.{Call, begin-read, begin-write, step, abandon, evict-answer, evict-node, renew}
+use Rattle.machine.proofs.Machine.{Response, refused, went, answered, long, ended, full, number}
+use Rattle.machine.proofs.Transition
+use Rattle.machine.proofs.Transition.{Transition}
+use Rattle.machine.proofs.StateInv.{StateInv, fit-at}
+use Rattle.machine.proofs.Trace.{Act, reads, writes, tableStep, Job, no-job, job, Trace, next-trace, accepted-trace, step-trace, begin-trace}
+use Rattle.machine.proofs.Trace.{abandon-trace, tick, turn, job-after, tabled-at, isRefused}
+use Rattle.machine.proofs.TraceInv.{TraceInv}
+use Rattle.machine.proofs.TraceSteps.{job-at}
+use Rattle.machine.proofs.TraceReads.{reader-job}
 
 -- ---- The plain table
 unfoldable pub fedAccepted : Plain → Call → Plain
@@ -33,14 +33,14 @@ fedAccepted p (begin-read d q) = noteAt p d (reading (q .asked) 0)
 fedAccepted p (begin-write d w) = noteAt p d (writing w 0)
 fedAccepted p (step d) = oneStep p d (p .notes d)
 fedAccepted p (abandon d) = noteAt p d nothing
-fedAccepted p (out-answer i) = p
-fedAccepted p (out-node i) = p
+fedAccepted p (evict-answer i) = p
+fedAccepted p (evict-node i) = p
 fedAccepted p renew = p
 
 unfoldable pub fed : Plain → Call → ℕ → Plain
 fed p c n = cond (isAccepted n) (fedAccepted p c) p
 
--- ---- What it has in common with the state and the books
+-- ---- What it has in common with the state and the trace
 unfoldable pub note-of : Act → ℕ → Note
 note-of (reads q) n = reading (q .asked) n
 note-of (writes w) n = writing w n
@@ -49,7 +49,7 @@ abbrev pub NoteOk : Job → Note → Type 0
 NoteOk no-job m = Unit
 NoteOk (job x n b t) m = m ≡ note-of x n
 
-pub record PlainInv (s : State) (p : Plain) (B : Book) : Type 0 where
+pub record PlainInv (s : State) (p : Plain) (B : Trace) : Type 0 where
   pub table : s .tab ≡ p .table
   pub notes : (d : ℕ) → NoteOk (B .jobs d) (p .notes d)
 
@@ -67,7 +67,7 @@ unfolding oneStep noteAt note-of step-tab tableStep upd
 one-step p d (reads q) n = let e : n + 1 ≡ suc n = omega arith in rw e refl
 one-step p d (writes w) n =
     let e : n + 1 ≡ suc n = omega arith in
-    let k : writeCount (target w) + 1 ≡ suc (length (marksOf w)) = let a = length-marksOf w in omega arith in
+    let k : writeCount (target w) + 1 ≡ suc (length (writeLabels w)) = let a = length-writeLabels w in omega arith in
     rw (e, k) refl
 
 fed-step : (p : Plain) (d : ℕ) (x : Act) (n m : ℕ) → isAccepted m ≡ true → p .notes d ≡ note-of x n
@@ -75,7 +75,7 @@ fed-step : (p : Plain) (d : ℕ) (x : Act) (n m : ℕ) → isAccepted m ≡ true
 unfolding fed fedAccepted
 fed-step p d x n m a e = rw a (ap (oneStep p d) e ∙ one-step p d x n)
 
-note-after : (x : Act) (n b t : ℕ) (a : Result) → NoteOk (job-after x n b t a) (note-of x n)
+note-after : (x : Act) (n b t : ℕ) (a : Response) → NoteOk (job-after x n b t a) (note-of x n)
 unfolding job-after
 note-after x n b t (refused m) = refl
 note-after x n b t went = refl
@@ -84,22 +84,22 @@ note-after x n b t long = tt
 note-after x n b t (ended c) = tt
 note-after x n b t full = tt
 
-step-jobs : (B : Book) (d : ℕ) (x : Act) (n b t : ℕ) (a : Result) (T : Table) → B .jobs d ≡ job x n b t → isRefused a ≡ false
-    → next-book B (step d) a T .jobs ≡ upd (B .jobs) d (job-after x (suc n) b (tabled-at x (suc n) (suc (B .now)) t) a)
-unfolding next-book accepted-book step-book turn
+step-jobs : (B : Trace) (d : ℕ) (x : Act) (n b t : ℕ) (a : Response) (T : Table) → B .jobs d ≡ job x n b t → isRefused a ≡ false
+    → next-trace B (step d) a T .jobs ≡ upd (B .jobs) d (job-after x (suc n) b (tabled-at x (suc n) (suc (B .now)) t) a)
+unfolding next-trace accepted-trace step-trace turn
 step-jobs B d x n b t a T e r =
-    rw r (subst (λ y. step-book B d y a T .jobs ≡ upd (B .jobs) d (job-after x (suc n) b (tabled-at x (suc n) (suc (B .now)) t) a)) (sym e) refl)
+    rw r (subst (λ y. step-trace B d y a T .jobs ≡ upd (B .jobs) d (job-after x (suc n) b (tabled-at x (suc n) (suc (B .now)) t) a)) (sym e) refl)
 
 -- a note and a job changed at one desk
-desk-plain : (s : State) (p : Plain) (B : Book) (d : ℕ) (m : Note) (j : Job) → PlainInv s p B → NoteOk j m
+client-plain : (s : State) (p : Plain) (B : Trace) (d : ℕ) (m : Note) (j : Job) → PlainInv s p B → NoteOk j m
     → (e : ℕ) → NoteOk (upd (B .jobs) d j e) (upd (p .notes) d m e)
-desk-plain s p B d m j v k e = byTest (eqb e d)
+client-plain s p B d m j v k e = byTest (eqb e d)
     (λ y. rw (eqb-true e d y, upd-same (p .notes) d m, upd-same (B .jobs) d j) k)
     (λ y. let ne = eqb-false e d y in rw (upd-other (p .notes) d m e ne, upd-other (B .jobs) d j e ne) (v .notes e))
 
-step-plain : (s t : State) (p : Plain) (B : Book) (d : ℕ) (x : Act) (n b i : ℕ) (a : Result) → PlainInv s p B → B .jobs d ≡ job x n b i
+step-plain : (s t : State) (p : Plain) (B : Trace) (d : ℕ) (x : Act) (n b i : ℕ) (a : Response) → PlainInv s p B → B .jobs d ≡ job x n b i
     → isRefused a ≡ false → isAccepted (number a) ≡ true → t .tab ≡ step-tab x (suc n) (s .tab)
-    → PlainInv t (fed p (step d) (number a)) (next-book B (step d) a (t .tab))
+    → PlainInv t (fed p (step d) (number a)) (next-trace B (step d) a (t .tab))
 step-plain s t p B d x n b i a v e r c T =
     let k : p .notes d ≡ note-of x n = subst (λ j. NoteOk j (p .notes d)) e (v .notes d) in
     let f = fed-step p d x n (number a) c k in
@@ -107,7 +107,7 @@ step-plain s t p B d x n b i a v e r c T =
     record {
       table = T ∙ ap (step-tab x (suc n)) (v .table) ∙ sym (ap (λ q. q .table) f);
       notes = λ d′. rw (f, step-jobs B d x n b i a (t .tab) e r)
-          (desk-plain s p B d (note-of x (suc n)) j v (note-after x (suc n) b (tabled-at x (suc n) (suc (B .now)) i) a) d′);
+          (client-plain s p B d (note-of x (suc n)) j v (note-after x (suc n) b (tabled-at x (suc n) (suc (B .now)) i) a) d′);
     }
 
 tab-read : (q : Key) (n : ℕ) (T : Table) → T ≡ step-tab (reads q) n T
@@ -123,37 +123,37 @@ unfolding step-tab
 tab-wrote w n T e = rw (eq-eqb n (tableStep (writes w)) e) refl
 
 -- ---- The other calls
-begin-plain : (s t : State) (p : Plain) (B : Book) (d : ℕ) (x : Act) (c : Call) → PlainInv s p B → t .tab ≡ s .tab
+begin-plain : (s t : State) (p : Plain) (B : Trace) (d : ℕ) (x : Act) (c : Call) → PlainInv s p B → t .tab ≡ s .tab
     → fed p c 0 ≡ noted p (p .table) d (note-of x 0)
-    → next-book B c went (t .tab) .jobs ≡ upd (B .jobs) d (job x 0 (suc (B .now)) 0) → PlainInv t (fed p c 0) (next-book B c went (t .tab))
+    → next-trace B c went (t .tab) .jobs ≡ upd (B .jobs) d (job x 0 (suc (B .now)) 0) → PlainInv t (fed p c 0) (next-trace B c went (t .tab))
 begin-plain s t p B d x c v T e f = record {
   table = T ∙ v .table ∙ sym (ap (λ q. q .table) e);
-  notes = λ d′. rw (e, f) (desk-plain s p B d (note-of x 0) (job x 0 (suc (B .now)) 0) v refl d′);
+  notes = λ d′. rw (e, f) (client-plain s p B d (note-of x 0) (job x 0 (suc (B .now)) 0) v refl d′);
 }
 
-abandon-jobs : (B : Book) (d : ℕ) (x : Act) (n b t : ℕ) (a : Result) (T : Table) → B .jobs d ≡ job x n b t → isRefused a ≡ false
-    → next-book B (abandon d) a T .jobs ≡ upd (B .jobs) d no-job
-unfolding next-book accepted-book abandon-book turn
-abandon-jobs B d x n b t a T e r = rw r (subst (λ y. abandon-book B d y a T .jobs ≡ upd (B .jobs) d no-job) (sym e) refl)
+abandon-jobs : (B : Trace) (d : ℕ) (x : Act) (n b t : ℕ) (a : Response) (T : Table) → B .jobs d ≡ job x n b t → isRefused a ≡ false
+    → next-trace B (abandon d) a T .jobs ≡ upd (B .jobs) d no-job
+unfolding next-trace accepted-trace abandon-trace turn
+abandon-jobs B d x n b t a T e r = rw r (subst (λ y. abandon-trace B d y a T .jobs ≡ upd (B .jobs) d no-job) (sym e) refl)
 
-abandon-plain : (s t : State) (p : Plain) (B : Book) (d : ℕ) (x : Act) (n b i : ℕ) (a : Result) → PlainInv s p B → B .jobs d ≡ job x n b i
+abandon-plain : (s t : State) (p : Plain) (B : Trace) (d : ℕ) (x : Act) (n b i : ℕ) (a : Response) → PlainInv s p B → B .jobs d ≡ job x n b i
     → isRefused a ≡ false → isAccepted (number a) ≡ true → t .tab ≡ s .tab
-    → PlainInv t (fed p (abandon d) (number a)) (next-book B (abandon d) a (t .tab))
+    → PlainInv t (fed p (abandon d) (number a)) (next-trace B (abandon d) a (t .tab))
 unfolding fed fedAccepted noteAt upd
 abandon-plain s t p B d x n b i a v e r c T = record {
   table = rw c (T ∙ v .table);
-  notes = λ d′. rw (c, abandon-jobs B d x n b i a (t .tab) e r) (desk-plain s p B d nothing no-job v tt d′);
+  notes = λ d′. rw (c, abandon-jobs B d x n b i a (t .tab) e r) (client-plain s p B d nothing no-job v tt d′);
 }
 
-refused-plain : (s : State) (p : Plain) (B : Book) (c : Call) (n : ℕ) → isAccepted n ≡ false → PlainInv s p B
-    → PlainInv s (fed p c n) (next-book B c (refused n) (s .tab))
-unfolding fed next-book isRefused tick turn
+refused-plain : (s : State) (p : Plain) (B : Trace) (c : Call) (n : ℕ) → isAccepted n ≡ false → PlainInv s p B
+    → PlainInv s (fed p c n) (next-trace B c (refused n) (s .tab))
+unfolding fed next-trace isRefused tick turn
 refused-plain s p B c n e k = rw e (record { table = k .table; notes = k .notes })
 
-same-plain : (s t : State) (p : Plain) (B : Book) (c : Call) → PlainInv s p B → t .tab ≡ s .tab → fed p c 0 ≡ p
-    → accepted-book B c went (t .tab) ≡ tick B (t .tab)
-    → PlainInv t (fed p c 0) (next-book B c went (t .tab))
-unfolding next-book isRefused
+same-plain : (s t : State) (p : Plain) (B : Trace) (c : Call) → PlainInv s p B → t .tab ≡ s .tab → fed p c 0 ≡ p
+    → accepted-trace B c went (t .tab) ≡ tick B (t .tab)
+    → PlainInv t (fed p c 0) (next-trace B c went (t .tab))
+unfolding next-trace isRefused
 same-plain s t p B c k T e f = rw (e, f) (unfold tick in unfold turn in record { table = T ∙ k .table; notes = k .notes })
 
 end-accepted : (c f : Bool) → isAccepted (number (write-end c f)) ≡ true
@@ -167,42 +167,42 @@ end-not-refused c true = refl
 end-not-refused c false = refl
 
 -- ---- Every call
-pub did-plain : (s : State) (p : Plain) (B : Book) {c : Call} {a : Result} {t : State} → Tidy s → BookInv s B → PlainInv s p B → Did s c a t
-    → PlainInv t (fed p c (number a)) (next-book B c a (t .tab))
-unfolding at-desk with-store with-filed with-tab isRefused number isAccepted tableStep fed fedAccepted noteAt upd next-book accepted-book begin-book turn note-of
-did-plain s p B v u k (Did.nothing {c} {n} e) = refused-plain s p B c n e k
-did-plain s p B v u k (Did.began {d} {q} l e f) = begin-plain s _ p B d (reads q) (begin-read d q) k refl refl refl
-did-plain s p B v u k (Did.began-write {d} {w} l e f o) = begin-plain s _ p B d (writes w) (begin-write d w) k refl refl refl
-did-plain s p B v u k (Did.looked {d} {q} {ns} {saw} l e f m n) =
+pub transition-plain : (s : State) (p : Plain) (B : Trace) {c : Call} {a : Response} {t : State} → StateInv s → TraceInv s B → PlainInv s p B → Transition s c a t
+    → PlainInv t (fed p c (number a)) (next-trace B c a (t .tab))
+unfolding at-client with-store with-filed with-tab isRefused number isAccepted tableStep fed fedAccepted noteAt upd next-trace accepted-trace begin-trace turn note-of
+transition-plain s p B v u k (Transition.nothing {c} {n} e) = refused-plain s p B c n e k
+transition-plain s p B v u k (Transition.began {d} {q} l e f) = begin-plain s _ p B d (reads q) (begin-read d q) k refl refl refl
+transition-plain s p B v u k (Transition.began-write {d} {w} l e f o) = begin-plain s _ p B d (writes w) (begin-write d w) k refl refl refl
+transition-plain s p B v u k (Transition.looked {d} {q} {ns} {saw} l e f m n) =
     step-plain s _ p B d (reads q) (length ns) _ _ went k (job-at s B d (looking q ns saw) u e .is) refl refl (tab-read q _ (s .tab))
-did-plain s p B v u k (Did.missed {d} {q} {ns} {saw} l e f y) =
+transition-plain s p B v u k (Transition.missed {d} {q} {ns} {saw} l e f y) =
     step-plain s _ p B d (reads q) (length ns) _ _ went k (job-at s B d (looking q ns saw) u e .is) refl refl (tab-read q _ (s .tab))
-did-plain s p B v u k (Did.hit {d} {q} {ns} {a} l e f i g) =
+transition-plain s p B v u k (Transition.hit {d} {q} {ns} {a} l e f i g) =
     step-plain s _ p B d (reads q) (length ns) _ _ (answered (a .list) true) k (job-at s B d (looking q ns false) u e .is) refl refl (tab-read q _ (s .tab))
-did-plain s p B v u k (Did.too-long {d} {q} {ns} {saw} l e f) =
+transition-plain s p B v u k (Transition.too-long {d} {q} {ns} {saw} l e f) =
     step-plain s _ p B d (reads q) _ _ _ long k (job-at s B d (tabling q ns saw) u e .is) refl refl (tab-read q _ (s .tab))
-did-plain s p B v u k (Did.listed {d} {q} {ns} l e f) =
+transition-plain s p B v u k (Transition.listed {d} {q} {ns} l e f) =
     step-plain s _ p B d (reads q) _ _ _ (answered (valueOf q (s .tab)) false) k (job-at s B d (tabling q ns true) u e .is) refl refl (tab-read q _ (s .tab))
-did-plain s p B v u k (Did.took {d} {q} {ns} l e f) =
+transition-plain s p B v u k (Transition.took {d} {q} {ns} l e f) =
     step-plain s _ p B d (reads q) _ _ _ went k (job-at s B d (tabling q ns false) u e .is) refl refl (tab-read q _ (s .tab))
-did-plain s p B v u k (Did.filed {d} {q} {ns} {l = y} l e) =
+transition-plain s p B v u k (Transition.filed {d} {q} {ns} {l = y} l e) =
     step-plain s _ p B d (reads q) _ _ _ (answered y false) k (job-at s B d (filing q ns y) u e .has .is) refl refl (tab-read q _ (s .tab))
-did-plain s p B v u k (Did.marked {d} {w} {i} l e f m) =
-    step-plain s _ p B d (writes w) i _ _ went k (job-at s B d (marking w i) u e .has .is) refl refl (tab-write w (suc i) (s .tab) (λ y. omega arith))
-did-plain s p B v u k (Did.wrote {d} {w} {i} l e f) =
-    step-plain s _ p B d (writes w) i _ _ went k (job-at s B d (marking w i) u e .has .is) refl refl
-    (tab-wrote w (suc i) (s .tab) (let y = fit-at s d (marking w i) v e .1 in omega arith))
-did-plain s p B v u k (Did.raised {d} {w} {j} {c} {f = y} l e f m) =
+transition-plain s p B v u k (Transition.announced {d} {w} {i} l e f m) =
+    step-plain s _ p B d (writes w) i _ _ went k (job-at s B d (announcing w i) u e .has .is) refl refl (tab-write w (suc i) (s .tab) (λ y. omega arith))
+transition-plain s p B v u k (Transition.wrote {d} {w} {i} l e f) =
+    step-plain s _ p B d (writes w) i _ _ went k (job-at s B d (announcing w i) u e .has .is) refl refl
+    (tab-wrote w (suc i) (s .tab) (let y = fit-at s d (announcing w i) v e .1 in omega arith))
+transition-plain s p B v u k (Transition.raised {d} {w} {j} {c} {f = y} l e f m) =
     step-plain s _ p B d (writes w) (tableStep (writes w) + j) _ _ went k (job-at s B d (raising w j c y) u e .has .is) refl refl
     (tab-write w _ (s .tab) (λ y. omega arith))
-did-plain s p B v u k (Did.last {d} {w} {j} {c} {f = y} l e f m) =
+transition-plain s p B v u k (Transition.last {d} {w} {j} {c} {f = y} l e f m) =
     step-plain s _ p B d (writes w) (tableStep (writes w) + j) _ _ (write-end c y) k (job-at s B d (raising w j c y) u e .has .is) (end-not-refused c y) (end-accepted c y)
     (tab-write w _ (s .tab) (λ y. omega arith))
-did-plain s p B v u k (Did.gave-up {d} l e) =
-    let J = reader-job B d (B .jobs d) (s .desks d) e (u .job d) in
+transition-plain s p B v u k (Transition.abandoned-read {d} l e) =
+    let J = reader-job B d (B .jobs d) (s .clients d) e (u .job d) in
     abandon-plain s _ p B d (reads (J .0)) (J .1) _ _ went k (J .2 .is) refl refl refl
-did-plain s p B v u k (Did.took-back {d} {w} {i} l e m) =
-    abandon-plain s _ p B d (writes w) i _ _ went k (job-at s B d (marking w i) u e .has .is) refl refl refl
-did-plain s p B v u k (Did.put-out {i} l) = same-plain s _ p B (out-answer i) k refl refl refl
-did-plain s p B v u k (Did.node-out {i} l m) = same-plain s _ p B (out-node i) k refl refl refl
-did-plain s p B v u k (Did.renewed i) = same-plain s _ p B renew k refl refl refl
+transition-plain s p B v u k (Transition.abandoned-write {d} {w} {i} l e m) =
+    abandon-plain s _ p B d (writes w) i _ _ went k (job-at s B d (announcing w i) u e .has .is) refl refl refl
+transition-plain s p B v u k (Transition.evicted-answer {i} l) = same-plain s _ p B (evict-answer i) k refl refl refl
+transition-plain s p B v u k (Transition.evicted-node {i} l m) = same-plain s _ p B (evict-node i) k refl refl refl
+transition-plain s p B v u k (Transition.renewed i) = same-plain s _ p B renew k refl refl refl

@@ -9,56 +9,56 @@ use native.Mathlib.Omega.{arith}
 use lib.Dec.{leb}
 use borrow.Author.Tests.{eq-eqb}
 use lib.ListN.{length}
-use Rattle.laws.proofs.Tests.{byTest, clash}
+use Rattle.laws.proofs.TestLaws.{byTest, clash}
 use Rattle.lists.specs.Lists.{before, listed, keep}
 use Rattle.query.specs.Query.{Query, Record, admits, lies, naming, readNode, writeNode, readCount, writeCount, readNodes, writeNodes}
 use Rattle.query.specs.Graph.{meets, Shares}
-use Rattle.query.specs.Words.{labelWords}
+use Rattle.query.specs.Encoding.{labelWords}
 use Rattle.query.proofs.Meet.{meets-is, meet-meets, lemma-2}
-use Rattle.query.proofs.Words.{label-words-told}
+use Rattle.query.proofs.EncodingLaws.{label-words-injective}
 use Rattle.rules.specs.Sizes.{maxRecords}
 use Rattle.rules.specs.Table.{Table, Write, insert, delete, target, listOf, has, putIn, outside, effect}
-use Rattle.machine.proofs.Base.{Code, In, here, there, in-none}
+use Rattle.machine.proofs.Sums.{Words, In, here, there, in-none}
 
 -- ---- What stands in a list of codes, by its number
-in-codes : {A : Type 0} (f : A → Code) (g : ℕ → A) (i n : ℕ) {p : Code} → In p (map f (listed g i n)) → (j : ℕ) × (j < n) × (p ≡ f (g (i + j)))
+in-words : {A : Type 0} (f : A → Words) (g : ℕ → A) (i n : ℕ) {p : Words} → In p (map f (listed g i n)) → (j : ℕ) × (j < n) × (p ≡ f (g (i + j)))
 unfolding listed
-in-codes f g i zero m = in-none m
-in-codes f g i (suc n) (here e) = let z : i ≡ i + 0 = omega arith in (0, omega arith, e ∙ ap (λ j. f (g j)) z)
-in-codes f g i (suc n) (there m) =
-    let r = in-codes f g (suc i) n m in
+in-words f g i zero m = in-none m
+in-words f g i (suc n) (here e) = let z : i ≡ i + 0 = omega arith in (0, omega arith, e ∙ ap (λ j. f (g j)) z)
+in-words f g i (suc n) (there m) =
+    let r = in-words f g (suc i) n m in
     let z : suc i + r .0 ≡ i + suc (r .0) = omega arith in
     (suc (r .0), omega (arith, r .1), r .2 ∙ ap (λ j. f (g j)) z)
 
-codes-in : {A : Type 0} (f : A → Code) (g : ℕ → A) (i n j : ℕ) → j < n → In (f (g (i + j))) (map f (listed g i n))
+words-in : {A : Type 0} (f : A → Words) (g : ℕ → A) (i n j : ℕ) → j < n → In (f (g (i + j))) (map f (listed g i n))
 unfolding listed
-codes-in f g i zero j h = absurd (omega arith)
-codes-in f g i (suc n) zero h = let z : i + 0 ≡ i = omega arith in here (ap (λ j. f (g j)) z)
-codes-in f g i (suc n) (suc j) h =
+words-in f g i zero j h = absurd (omega arith)
+words-in f g i (suc n) zero h = let z : i + 0 ≡ i = omega arith in here (ap (λ j. f (g j)) z)
+words-in f g i (suc n) (suc j) h =
     let z : suc i + j ≡ i + suc j = omega arith in
-    there (subst (λ m. In (f (g m)) (map f (listed g (suc i) n))) z (codes-in f g (suc i) n j (omega arith)))
+    there (subst (λ m. In (f (g m)) (map f (listed g (suc i) n))) z (words-in f g (suc i) n j (omega arith)))
 
 -- ---- Lemma 2
-pub codes-meet : (q w : Query) {p : Code} → In p (map labelWords (readNodes q)) → In p (map labelWords (writeNodes w)) → meets q w ≡ true
+pub words-meet : (q w : Query) {p : Words} → In p (map labelWords (readNodes q)) → In p (map labelWords (writeNodes w)) → meets q w ≡ true
 unfolding readNodes writeNodes Shares
-codes-meet q w i j =
-    let a = in-codes labelWords (readNode q) 0 (readCount q) i in
-    let b = in-codes labelWords (writeNode w) 0 (writeCount w) j in
+words-meet q w i j =
+    let a = in-words labelWords (readNode q) 0 (readCount q) i in
+    let b = in-words labelWords (writeNode w) 0 (writeCount w) j in
     let x : 0 + a .0 ≡ a .0 = omega arith in
     let y : 0 + b .0 ≡ b .0 = omega arith in
     let e : readNode q (a .0) ≡ writeNode w (b .0) =
-    label-words-told _ _ (ap (λ n. labelWords (readNode q n)) (sym x) ∙ sym (a .2) ∙ b .2 ∙ ap (λ n. labelWords (writeNode w n)) y) in
+    label-words-injective _ _ (ap (λ n. labelWords (readNode q n)) (sym x) ∙ sym (a .2) ∙ b .2 ∙ ap (λ n. labelWords (writeNode w n)) y) in
     meets-is q w .1 (lemma-2 q w .0 (a .0, b .0, a .1, b .1, e))
 
-pub meet-codes : (q w : Query) → meets q w ≡ true → (p : Code) × In p (map labelWords (readNodes q)) × In p (map labelWords (writeNodes w))
+pub meet-words : (q w : Query) → meets q w ≡ true → (p : Words) × In p (map labelWords (readNodes q)) × In p (map labelWords (writeNodes w))
 unfolding readNodes writeNodes Shares
-meet-codes q w e =
+meet-words q w e =
     let s = lemma-2 q w .1 (meets-is q w .0 e) in
     let x : 0 + s .0 ≡ s .0 = omega arith in
     let y : 0 + s .1 ≡ s .1 = omega arith in (
       labelWords (readNode q (s .0)),
-      rw x at (codes-in labelWords (readNode q) 0 (readCount q) (s .0) (s .2)),
-      rw (s .4) (rw y at (codes-in labelWords (writeNode w) 0 (writeCount w) (s .1) (s .3))),
+      rw x at (words-in labelWords (readNode q) 0 (readCount q) (s .0) (s .2)),
+      rw (s .4) (rw y at (words-in labelWords (writeNode w) 0 (writeCount w) (s .1) (s .3))),
     )
 
 -- ---- A write whose query does not meet the read's leaves the list alone

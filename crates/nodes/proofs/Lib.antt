@@ -1,7 +1,7 @@
 -- The laws of the nodes memory, by concern.
-pub mod Stores
-pub mod Scans
-pub mod Places
-pub mod Sizes
-pub mod Present
-pub mod Kept
+pub mod NodeStores
+pub mod NodeScans
+pub mod NodePlaces
+pub mod NodeSizes
+pub mod NodePresent
+pub mod NodesKept

@@ -1,2 +1,2 @@
 -- The definitions that the contracts over the nodes memory cite. Definitions only.
-pub mod Nodes
+pub mod NodeContracts

@@ -7,9 +7,9 @@ ghost use mathlib.Core.List.{[]};
 ghost use Prim.Native.Nat.{_+_, _≤_, _<_, max};
 ghost use lib.ListN.{length, getD, take, drop};
 ghost use Rattle.lists.specs.Lists.{same};
-ghost use Rattle.rules.specs.Nodes.{store, nodePlace, oldestFree, evictNode, added, makeRoom, ensured, marked, raised, pending, isWorn};
+ghost use Rattle.rules.specs.Nodes.{store, nodePlace, oldestFree, evictNode, added, makeRoom, ensured, announced, raised, pending, isWorn};
 ghost use Rattle.rules.specs.Memory.{storeIn, withStore};
-ghost use Rattle.nodes.specs.Nodes.{Fit, did, tried, saw, looked, put, placed, pendingSpot, unmarkedAt};
+ghost use Rattle.nodes.specs.NodeContracts.{Fit, attempt, tried, saw, looked, put, placed, pendingSpot, releasedAt};
 
 // The most nodes that are kept.
 const NODES: usize = Hall::NODES as usize;
@@ -117,7 +117,7 @@ pub fn add(nodes: &mut [u32], label: &[u32])
 // Makes room for one node more: where 1,024 are there, the oldest with no pending write leaves. False: there is none.
 fn make_room(nodes: &mut [u32]) -> bool
     requires { ⌜ Fit (now nodes) ⌝ }
-    ensures { λ r. ⌜ did r (now (nodes .exit)) ≡ tried (now (nodes .entry)) (makeRoom (storeIn (now (nodes .entry)))) ⌝ }
+    ensures { λ r. ⌜ attempt r (now (nodes .exit)) ≡ tried (now (nodes .entry)) (makeRoom (storeIn (now (nodes .entry)))) ⌝ }
 {
     let n = nodes[1] as usize;
     if n < NODES {
@@ -167,9 +167,9 @@ pub fn look(nodes: &mut [u32], label: &[u32]) -> Sight
 }
 
 // One pending write more at the label's node, which is added where it is missing. False: no room, or 12 pending already.
-pub fn mark(nodes: &mut [u32], label: &[u32]) -> bool
+pub fn announce(nodes: &mut [u32], label: &[u32]) -> bool
     requires { ⌜ Fit (now nodes) × (length (now label) ≡ 5) ⌝ }
-    ensures { λ r. ⌜ did r (now (nodes .exit)) ≡ tried (now (nodes .entry)) (marked (now (label .entry)) (storeIn (now (nodes .entry)))) ⌝ }
+    ensures { λ r. ⌜ attempt r (now (nodes .exit)) ≡ tried (now (nodes .entry)) (announced (now (label .entry)) (storeIn (now (nodes .entry)))) ⌝ }
 {
     let spot = ensure(nodes, label);
     let Spot::At(i) = spot else {
@@ -201,9 +201,9 @@ pub fn find_pending(nodes: &[u32], label: &[u32]) -> Spot
 }
 
 // One pending write fewer at node i.
-pub fn unmark(nodes: &mut [u32], i: usize)
+pub fn release(nodes: &mut [u32], i: usize)
     requires { ⌜ Fit (now nodes) × ((i < getD (now nodes) 1 0) × (0 < pending (getD (storeIn (now nodes) .nodes) i []))) ⌝ }
-    ensures { λ _. ⌜ now (nodes .exit) ≡ withStore (now (nodes .entry)) (unmarkedAt i (storeIn (now (nodes .entry)))) ⌝ }
+    ensures { λ _. ⌜ now (nodes .exit) ≡ withStore (now (nodes .entry)) (releasedAt i (storeIn (now (nodes .entry)))) ⌝ }
 {
     let at = 8 + i * 8 + 5;
     let pending = nodes[at];
@@ -214,7 +214,7 @@ pub fn unmark(nodes: &mut [u32], i: usize)
 // The label's node: revision up by one, pending writes down by one. False: it is missing, has none pending, or its revision is the largest.
 pub fn raise(nodes: &mut [u32], label: &[u32]) -> bool
     requires { ⌜ Fit (now nodes) × (length (now label) ≡ 5) ⌝ }
-    ensures { λ r. ⌜ did r (now (nodes .exit)) ≡ tried (now (nodes .entry)) (raised (now (label .entry)) (storeIn (now (nodes .entry)))) ⌝ }
+    ensures { λ r. ⌜ attempt r (now (nodes .exit)) ≡ tried (now (nodes .entry)) (raised (now (label .entry)) (storeIn (now (nodes .entry)))) ⌝ }
 {
     let i = find(nodes, label);
     if nodes[1] as usize <= i {

@@ -1,4 +1,4 @@
--- Laws of the fetch and of the file step: which filed answer is given, and what is filed. Leans on rules and on Base. Assumes nothing.
+-- Laws of the fetch and of the file step: which filed answer is given, and what is filed. Leans on rules and on ReadClient. Assumes nothing.
 use mathlib.Core.Path.{_≡_, refl, sym, _∙_}
 use mathlib.Core.Bool.{Bool, true, false, cond, not, _&&_}
 use mathlib.Core.List.{List, []}
@@ -10,16 +10,16 @@ use borrow.Author.Tests.{lt-ltb, le-ltb}
 use Rattle.lists.specs.Lists.{written}
 use Rattle.rules.specs.declared.Outcome.the-variants.{Accepted, Answered}
 use Rattle.rules.specs.Answers.{lengthIn, listIn, fetchPlace, filed}
-use Rattle.rules.specs.Client.{sawMark, entryOf, idle, queryAt, stepped}
+use Rattle.rules.specs.Client.{sawPending, entryOf, idle, queryAt, stepped}
 use Rattle.rules.specs.Memory.{mem, clientIn, withClient, answersIn, withAnswers}
-use Rattle.rules.specs.Outcome.{didWith}
+use Rattle.rules.specs.Outcome.{resultWith}
 use Rattle.rules.specs.Refusals.{columns, client}
-use Rattle.rules.specs.Steps.{nowAt, answered, fetchDid, fileDid, readDid}
-use Rattle.clients.specs.Clients as clients
-use Rattle.answers.specs.Answers as answers
-use Rattle.answers.proofs.Scan.{count-is}
-use Rattle.reading.specs.Reading.{Reads, looks, made, foundFor}
-use Rattle.reading.proofs.Base.{fit-desks, entry-part, fetch-is, file-is}
+use Rattle.rules.specs.Steps.{nowAt, answered, fetchResult, fileResult, readResult}
+use Rattle.clients.specs.ClientContracts as client-contracts
+use Rattle.answers.specs.AnswerContracts as answers
+use Rattle.answers.proofs.AnswerScan.{count-is}
+use Rattle.reading.specs.ReadContracts.{Reads, looks, made, foundFor}
+use Rattle.reading.proofs.ReadClient.{fit-clients, entry-part, fetch-is, file-is}
 
 -- ---- the fetch
 -- a search that is made only where no mark was seen
@@ -31,43 +31,43 @@ opened : (b : Bool) (count place r : ℕ) → r ≡ cond b count place → r < c
 opened true count place r e h = absurd (omega arith)
 opened false count place r e h = (lt-ltb place count (omega arith), sym e)
 
-module _ (s desks tray : List ℕ) (d k : ℕ) (r : Reads desks d k) (h : made desks d ≡ looks desks d k) (i : ℕ) (e : i ≡ foundFor s (clientIn desks d)) where
-  found : i ≡ cond (sawMark (clientIn desks d)) (length (answersIn s)) (fetchPlace (looks desks d k) (entryOf (clientIn desks d)) (answersIn s))
+module _ (s clients tray : List ℕ) (d k : ℕ) (r : Reads clients d k) (h : made clients d ≡ looks clients d k) (i : ℕ) (e : i ≡ foundFor s (clientIn clients d)) where
+  found : i ≡ cond (sawPending (clientIn clients d)) (length (answersIn s)) (fetchPlace (looks clients d k) (entryOf (clientIn clients d)) (answersIn s))
   unfolding foundFor
   found = e ∙ rw (← count-is s, h)
 
-  pub fetch-not : getD s 0 0 ≤ i → (desks′ : List ℕ) → desks′ ≡ withClient desks d (stepped (clientIn desks d)) → (t n : List ℕ)
-      → didWith Accepted (mem t n s desks′) tray ≡ readDid (mem t n s desks) tray d (queryAt k (clientIn desks d)) (made desks d)
-  unfolding fetchDid nowAt client
-  fetch-not g desks′ u t n =
+  pub fetch-not : getD s 0 0 ≤ i → (clients′ : List ℕ) → clients′ ≡ withClient clients d (stepped (clientIn clients d)) → (t n : List ℕ)
+      → resultWith Accepted (mem t n s clients′) tray ≡ readResult (mem t n s clients) tray d (queryAt k (clientIn clients d)) (made clients d)
+  unfolding fetchResult nowAt client
+  fetch-not g clients′ u t n =
       let l = count-is s in
-      rw (fetch-is (mem t n s desks) tray d (queryAt k (clientIn desks d)) (made desks d) h, closed (sawMark (clientIn desks d)) (length (answersIn s)) (fetchPlace (looks desks d k) (entryOf (clientIn desks d)) (answersIn s)) i found (omega arith), u)
+      rw (fetch-is (mem t n s clients) tray d (queryAt k (clientIn clients d)) (made clients d) h, closed (sawPending (clientIn clients d)) (length (answersIn s)) (fetchPlace (looks clients d k) (entryOf (clientIn clients d)) (answersIn s)) i found (omega arith), u)
 
-  pub fetch-given : i < getD s 0 0 → (count : ℕ) (tray′ desks′ : List ℕ) → answers.Gave k (getD (answersIn s) i []) tray count tray′ → desks′ ≡ withClient desks d idle → (t n : List ℕ)
-      → didWith (Answered count true) (mem t n s desks′) tray′ ≡ readDid (mem t n s desks) tray d (queryAt k (clientIn desks d)) (made desks d)
-  unfolding fetchDid answered nowAt client columns
-  fetch-given g count tray′ desks′ w u t n =
+  pub fetch-given : i < getD s 0 0 → (count : ℕ) (tray′ clients′ : List ℕ) → answers.Gave k (getD (answersIn s) i []) tray count tray′ → clients′ ≡ withClient clients d idle → (t n : List ℕ)
+      → resultWith (Answered count true) (mem t n s clients′) tray′ ≡ readResult (mem t n s clients) tray d (queryAt k (clientIn clients d)) (made clients d)
+  unfolding fetchResult answered nowAt client columns
+  fetch-given g count tray′ clients′ w u t n =
       let l = count-is s in
-      let o = opened (sawMark (clientIn desks d)) (length (answersIn s)) (fetchPlace (looks desks d k) (entryOf (clientIn desks d)) (answersIn s)) i found (omega arith) in
-      rw (fetch-is (mem t n s desks) tray d (queryAt k (clientIn desks d)) (made desks d) h, o .0, o .1, u, w .count, w .list, ← r .columns)
+      let o = opened (sawPending (clientIn clients d)) (length (answersIn s)) (fetchPlace (looks clients d k) (entryOf (clientIn clients d)) (answersIn s)) i found (omega arith) in
+      rw (fetch-is (mem t n s clients) tray d (queryAt k (clientIn clients d)) (made clients d) h, o .0, o .1, u, w .count, w .list, ← r .columns)
 
 -- ---- the search
-module _ (s desks : List ℕ) (d i : ℕ) where
-  pub found-mark : (b : Bool) → b ≡ sawMark (clientIn desks d) → b ≡ true → i ≡ getD s 0 0 → i ≡ foundFor s (clientIn desks d)
+module _ (s clients : List ℕ) (d i : ℕ) where
+  pub found-pending : (b : Bool) → b ≡ sawPending (clientIn clients d) → b ≡ true → i ≡ getD s 0 0 → i ≡ foundFor s (clientIn clients d)
   unfolding foundFor
-  found-mark b e h g = rw (← e, h) g
+  found-pending b e h g = rw (← e, h) g
 
-  pub found-search : (b : Bool) (n : ℕ) → b ≡ sawMark (clientIn desks d) → b ≡ false → n ≡ made desks d → clients.Fit desks d
-      → i ≡ fetchPlace n (take (8 + d * 157 + 5 + 152 - (8 + d * 157 + 5)) (drop (8 + d * 157 + 5) desks)) (answersIn s) → i ≡ foundFor s (clientIn desks d)
+  pub found-search : (b : Bool) (n : ℕ) → b ≡ sawPending (clientIn clients d) → b ≡ false → n ≡ made clients d → client-contracts.Fit clients d
+      → i ≡ fetchPlace n (take (8 + d * 157 + 5 + 152 - (8 + d * 157 + 5)) (drop (8 + d * 157 + 5) clients)) (answersIn s) → i ≡ foundFor s (clientIn clients d)
   unfolding foundFor
-  found-search b n e h l f g = rw (← e, h, ← l, ← entry-part desks d f) g
+  found-search b n e h l f g = rw (← e, h, ← l, ← entry-part clients d f) g
 
 -- ---- the file step
-module _ (s desks tray : List ℕ) (d k : ℕ) (r : Reads desks d k) (h : made desks d ≡ looks desks d k + 2) where
-  pub file-left : (s′ tray′ desks′ : List ℕ) (count : ℕ)
-      → s′ ≡ withAnswers s (filed (take (8 + d * 157 + 5 + 152 - (8 + d * 157 + 5)) (drop (8 + d * 157 + 5) desks)) (answersIn s))
-      → (count ≡ lengthIn (entryOf (clientIn desks d))) × (tray′ ≡ written tray 0 (listIn k (entryOf (clientIn desks d)))) → desks′ ≡ withClient desks d idle → (t n : List ℕ)
-      → didWith (Answered count false) (mem t n s′ desks′) tray′ ≡ readDid (mem t n s desks) tray d (queryAt k (clientIn desks d)) (made desks d)
-  unfolding fileDid answered nowAt client columns
-  file-left s′ tray′ desks′ count e g u t n =
-      rw (file-is (mem t n s desks) tray d (queryAt k (clientIn desks d)) (made desks d) h, e, g .0, g .1, u, ← r .columns, entry-part desks d (fit-desks desks d k r))
+module _ (s clients tray : List ℕ) (d k : ℕ) (r : Reads clients d k) (h : made clients d ≡ looks clients d k + 2) where
+  pub file-left : (s′ tray′ clients′ : List ℕ) (count : ℕ)
+      → s′ ≡ withAnswers s (filed (take (8 + d * 157 + 5 + 152 - (8 + d * 157 + 5)) (drop (8 + d * 157 + 5) clients)) (answersIn s))
+      → (count ≡ lengthIn (entryOf (clientIn clients d))) × (tray′ ≡ written tray 0 (listIn k (entryOf (clientIn clients d)))) → clients′ ≡ withClient clients d idle → (t n : List ℕ)
+      → resultWith (Answered count false) (mem t n s′ clients′) tray′ ≡ readResult (mem t n s clients) tray d (queryAt k (clientIn clients d)) (made clients d)
+  unfolding fileResult answered nowAt client columns
+  file-left s′ tray′ clients′ count e g u t n =
+      rw (file-is (mem t n s clients) tray d (queryAt k (clientIn clients d)) (made clients d) h, e, g .0, g .1, u, ← r .columns, entry-part clients d (fit-clients clients d k r))

@@ -1,5 +1,5 @@
-pub mod Base
+pub mod ReadClient
 pub mod Looking
 pub mod Filing
 pub mod Listing
-pub mod Passed
+pub mod PassedRead

@@ -9,10 +9,10 @@ ghost use Rattle.lists.specs.Lists.{written, flat};
 ghost use Rattle.rules.specs.Table.{listOf};
 ghost use Rattle.rules.specs.Client.{queryAt};
 ghost use Rattle.rules.specs.Memory.{mem, clientIn, recordsIn};
-ghost use Rattle.rules.specs.Outcome.{didWith};
-ghost use Rattle.rules.specs.Steps.{readDid};
-ghost use Rattle.table.specs.Table.{gathered};
-ghost use Rattle.reading.specs.Reading.{Reads, looks, made, Looks, Finds, foundFor, Fetches, Gathers, Lists, Files, Steps};
+ghost use Rattle.rules.specs.Outcome.{resultWith};
+ghost use Rattle.rules.specs.Steps.{readResult};
+ghost use Rattle.table.specs.TableContracts.{gathered};
+ghost use Rattle.reading.specs.ReadContracts.{Reads, looks, made, Looks, Finds, foundFor, Fetches, Gathers, Lists, Files, Steps};
 use nodes::Sight;
 use rules::Outcome;
 
@@ -20,54 +20,54 @@ use rules::Outcome;
 const LIST: usize = Hall::LIST as usize;
 
 // A look: the next node's revision is noted, and whether writes are pending there.
-pub fn look_step(nodes: &mut [u32], desks: &mut [u32], d: usize, k: usize) -> Outcome
-    requires { ⌜ Looks (now nodes) (now desks) d k ⌝ }
-    ensures { λ r. ⌜ ((t a y : List ℕ) → didWith r (mem t (now (nodes .exit)) a (now (desks .exit))) y ≡ readDid (mem t (now (nodes .entry)) a (now (desks .entry))) y d (queryAt k (clientIn (now (desks .entry)) d)) (made (now (desks .entry)) d)) ⌝ }
+pub fn look_step(nodes: &mut [u32], clients: &mut [u32], d: usize, k: usize) -> Outcome
+    requires { ⌜ Looks (now nodes) (now clients) d k ⌝ }
+    ensures { λ r. ⌜ ((t a y : List ℕ) → resultWith r (mem t (now (nodes .exit)) a (now (clients .exit))) y ≡ readResult (mem t (now (nodes .entry)) a (now (clients .entry))) y d (queryAt k (clientIn (now (clients .entry)) d)) (made (now (clients .entry)) d)) ⌝ }
 {
-    let cols = clients::columns_at(desks, d, k);
-    let look = clients::steps_of(desks, d) as usize;
+    let cols = clients::columns_at(clients, d, k);
+    let look = clients::steps_of(clients, d) as usize;
     let label = columns::labels::read_label(cols, k, look);
     let sight = nodes::look(nodes, &label);
     let Sight::Seen { revision, pending } = sight else {
         return Outcome::Refused(3);
     };
-    clients::note(desks, d, look, revision, pending);
+    clients::note(clients, d, look, revision, pending);
     Outcome::Accepted
 }
 
 // The place of the filed answer to answer with, or their count where there is none. Where a look saw a mark none may serve, and no search is made.
-fn find_filed(answers: &[u32], desks: &[u32], d: usize) -> usize
-    requires { ⌜ Finds (now answers) (now desks) d ⌝ }
-    ensures { λ r. ⌜ r ≡ foundFor (now (answers .entry)) (clientIn (now (desks .entry)) d) ⌝ }
+fn find_filed(answers: &[u32], clients: &[u32], d: usize) -> usize
+    requires { ⌜ Finds (now answers) (now clients) d ⌝ }
+    ensures { λ r. ⌜ r ≡ foundFor (now (answers .entry)) (clientIn (now (clients .entry)) d) ⌝ }
 {
-    if clients::saw_mark(desks, d) {
+    if clients::saw_pending(clients, d) {
         return answers[0] as usize;
     }
     // A read that comes to its fetch has made one step for each of its nodes.
-    let n = clients::steps_of(desks, d) as usize;
+    let n = clients::steps_of(clients, d) as usize;
     let at = 8 + d * 157 + 5;
     let end = at + 152;
-    answers::fetch(answers, &desks[at..end], n)
+    answers::fetch(answers, &clients[at..end], n)
 }
 
 // The fetch: a filed answer that is recent enough is answered with.
 pub fn fetch_step(
     answers: &[u32],
-    desks: &mut [u32],
+    clients: &mut [u32],
     tray: &mut [u32],
     d: usize,
     k: usize,
 ) -> Outcome
-    requires { ⌜ Fetches (now answers) (now desks) (now tray) d k ⌝ }
-    ensures { λ r. ⌜ ((t n : List ℕ) → didWith r (mem t n (now (answers .entry)) (now (desks .exit))) (now (tray .exit)) ≡ readDid (mem t n (now (answers .entry)) (now (desks .entry))) (now (tray .entry)) d (queryAt k (clientIn (now (desks .entry)) d)) (made (now (desks .entry)) d)) ⌝ }
+    requires { ⌜ Fetches (now answers) (now clients) (now tray) d k ⌝ }
+    ensures { λ r. ⌜ ((t n : List ℕ) → resultWith r (mem t n (now (answers .entry)) (now (clients .exit))) (now (tray .exit)) ≡ readResult (mem t n (now (answers .entry)) (now (clients .entry))) (now (tray .entry)) d (queryAt k (clientIn (now (clients .entry)) d)) (made (now (clients .entry)) d)) ⌝ }
 {
-    let i = find_filed(answers, desks, d);
+    let i = find_filed(answers, clients, d);
     if answers[0] as usize <= i {
-        clients::advance(desks, d);
+        clients::advance(clients, d);
         return Outcome::Accepted;
     }
     let count = answers::give(answers, i, k, tray);
-    clients::set_idle(desks, d);
+    clients::set_idle(clients, d);
     Outcome::Answered {
         count: count,
         cached: true,
@@ -75,35 +75,41 @@ pub fn fetch_step(
 }
 
 // Writes the query's list, at most 32 records, into the client's place for it, and says how many there are, or 33 of more than 32.
-fn gather_list(table: &[u32], desks: &mut [u32], d: usize, k: usize) -> usize
-    requires { ⌜ Gathers (now table) (now desks) d k ⌝ }
-    ensures { λ r. ⌜ r ≡ gathered (listOf (queryAt k (clientIn (now (desks .entry)) d)) (recordsIn k (now (table .entry)))) ⌝ }
-    ensures { λ _. ⌜ now (desks .exit) ≡ written (now (desks .entry)) (8 + d * 157 + 29) (flat (take 32 (listOf (queryAt k (clientIn (now (desks .entry)) d)) (recordsIn k (now (table .entry)))))) ⌝ }
+fn gather_list(table: &[u32], clients: &mut [u32], d: usize, k: usize) -> usize
+    requires { ⌜ Gathers (now table) (now clients) d k ⌝ }
+    ensures { λ r. ⌜ r ≡ gathered (listOf (queryAt k (clientIn (now (clients .entry)) d)) (recordsIn k (now (table .entry)))) ⌝ }
+    ensures { λ _. ⌜ now (clients .exit) ≡ written (now (clients .entry)) (8 + d * 157 + 29) (flat (take 32 (listOf (queryAt k (clientIn (now (clients .entry)) d)) (recordsIn k (now (table .entry)))))) ⌝ }
 {
-    let cols = clients::columns_at(desks, d, k);
+    let cols = clients::columns_at(clients, d, k);
     let at = 8 + d * 157 + 29;
     let end = at + 128;
-    table::gather(table, k, cols, &mut desks[at..end])
+    table::gather(table, k, cols, &mut clients[at..end])
 }
 
 // The table step: the list is taken. Where it is too long the read ends; where a look saw a mark it is answered with and not filed.
-pub fn table_step(table: &[u32], desks: &mut [u32], tray: &mut [u32], d: usize, k: usize) -> Outcome
-    requires { ⌜ Lists (now table) (now desks) (now tray) d k ⌝ }
-    ensures { λ r. ⌜ ((n a : List ℕ) → didWith r (mem (now (table .entry)) n a (now (desks .exit))) (now (tray .exit)) ≡ readDid (mem (now (table .entry)) n a (now (desks .entry))) (now (tray .entry)) d (queryAt k (clientIn (now (desks .entry)) d)) (made (now (desks .entry)) d)) ⌝ }
+pub fn table_step(
+    table: &[u32],
+    clients: &mut [u32],
+    tray: &mut [u32],
+    d: usize,
+    k: usize,
+) -> Outcome
+    requires { ⌜ Lists (now table) (now clients) (now tray) d k ⌝ }
+    ensures { λ r. ⌜ ((n a : List ℕ) → resultWith r (mem (now (table .entry)) n a (now (clients .exit))) (now (tray .exit)) ≡ readResult (mem (now (table .entry)) n a (now (clients .entry))) (now (tray .entry)) d (queryAt k (clientIn (now (clients .entry)) d)) (made (now (clients .entry)) d)) ⌝ }
 {
-    let n = gather_list(table, desks, d, k);
+    let n = gather_list(table, clients, d, k);
     if LIST < n {
-        clients::set_idle(desks, d);
+        clients::set_idle(clients, d);
         return Outcome::Long;
     }
-    if !clients::saw_mark(desks, d) {
-        clients::set_list(desks, d, n, k);
+    if !clients::saw_pending(clients, d) {
+        clients::set_list(clients, d, n, k);
         return Outcome::Accepted;
     }
     let at = 8 + d * 157 + 29;
     let end = at + n * k;
-    words::write(tray, 0, &desks[at..end]);
-    clients::set_idle(desks, d);
+    words::write(tray, 0, &clients[at..end]);
+    clients::set_idle(clients, d);
     Outcome::Answered {
         count: n as u32,
         cached: false,
@@ -113,19 +119,19 @@ pub fn table_step(table: &[u32], desks: &mut [u32], tray: &mut [u32], d: usize, 
 // The list taken at the table step is filed with the noted revisions, and answered with.
 pub fn file_step(
     answers: &mut [u32],
-    desks: &mut [u32],
+    clients: &mut [u32],
     tray: &mut [u32],
     d: usize,
     k: usize,
 ) -> Outcome
-    requires { ⌜ Files (now answers) (now desks) (now tray) d k ⌝ }
-    ensures { λ r. ⌜ ((t n : List ℕ) → didWith r (mem t n (now (answers .exit)) (now (desks .exit))) (now (tray .exit)) ≡ readDid (mem t n (now (answers .entry)) (now (desks .entry))) (now (tray .entry)) d (queryAt k (clientIn (now (desks .entry)) d)) (made (now (desks .entry)) d)) ⌝ }
+    requires { ⌜ Files (now answers) (now clients) (now tray) d k ⌝ }
+    ensures { λ r. ⌜ ((t n : List ℕ) → resultWith r (mem t n (now (answers .exit)) (now (clients .exit))) (now (tray .exit)) ≡ readResult (mem t n (now (answers .entry)) (now (clients .entry))) (now (tray .entry)) d (queryAt k (clientIn (now (clients .entry)) d)) (made (now (clients .entry)) d)) ⌝ }
 {
     let at = 8 + d * 157 + 5;
     let end = at + 152;
-    answers::file(answers, &desks[at..end]);
-    let count = clients::give_list(desks, d, k, tray);
-    clients::set_idle(desks, d);
+    answers::file(answers, &clients[at..end]);
+    let count = clients::give_list(clients, d, k, tray);
+    clients::set_idle(clients, d);
     Outcome::Answered {
         count: count,
         cached: false,
@@ -133,11 +139,11 @@ pub fn file_step(
 }
 
 // How many nodes a read has.
-fn looks_of(desks: &[u32], d: usize, k: usize) -> usize
-    requires { ⌜ Reads (now desks) d k ⌝ }
-    ensures { λ r. ⌜ r ≡ looks (now (desks .entry)) d k ⌝ }
+fn looks_of(clients: &[u32], d: usize, k: usize) -> usize
+    requires { ⌜ Reads (now clients) d k ⌝ }
+    ensures { λ r. ⌜ r ≡ looks (now (clients .entry)) d k ⌝ }
 {
-    let cols = clients::columns_at(desks, d, k);
+    let cols = clients::columns_at(clients, d, k);
     let named = columns::keys::named(cols, k);
     columns::keys::power(named) as usize
 }
@@ -147,24 +153,24 @@ pub fn read_step(
     table: &[u32],
     nodes: &mut [u32],
     answers: &mut [u32],
-    desks: &mut [u32],
+    clients: &mut [u32],
     tray: &mut [u32],
     d: usize,
     k: usize,
 ) -> Outcome
-    requires { ⌜ Steps (now table) (now nodes) (now answers) (now desks) (now tray) d k ⌝ }
-    ensures { λ r. ⌜ didWith r (mem (now (table .entry)) (now (nodes .exit)) (now (answers .exit)) (now (desks .exit))) (now (tray .exit)) ≡ readDid (mem (now (table .entry)) (now (nodes .entry)) (now (answers .entry)) (now (desks .entry))) (now (tray .entry)) d (queryAt k (clientIn (now (desks .entry)) d)) (made (now (desks .entry)) d) ⌝ }
+    requires { ⌜ Steps (now table) (now nodes) (now answers) (now clients) (now tray) d k ⌝ }
+    ensures { λ r. ⌜ resultWith r (mem (now (table .entry)) (now (nodes .exit)) (now (answers .exit)) (now (clients .exit))) (now (tray .exit)) ≡ readResult (mem (now (table .entry)) (now (nodes .entry)) (now (answers .entry)) (now (clients .entry))) (now (tray .entry)) d (queryAt k (clientIn (now (clients .entry)) d)) (made (now (clients .entry)) d) ⌝ }
 {
-    let count = looks_of(desks, d, k);
-    let step = clients::steps_of(desks, d) as usize;
+    let count = looks_of(clients, d, k);
+    let step = clients::steps_of(clients, d) as usize;
     if step < count {
-        return look_step(nodes, desks, d, k);
+        return look_step(nodes, clients, d, k);
     }
     if step == count {
-        return fetch_step(answers, desks, tray, d, k);
+        return fetch_step(answers, clients, tray, d, k);
     }
     if step == count + 1 {
-        return table_step(table, desks, tray, d, k);
+        return table_step(table, clients, tray, d, k);
     }
-    file_step(answers, desks, tray, d, k)
+    file_step(answers, clients, tray, d, k)
 }

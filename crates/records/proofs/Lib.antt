@@ -1,5 +1,5 @@
 -- The laws, by concern.
-pub mod Order
-pub mod Writes
-pub mod Sets
-pub mod Ascending
+pub mod RecordOrder
+pub mod RecordWrites
+pub mod RecordSets
+pub mod RecordsAscending

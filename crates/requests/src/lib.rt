@@ -4,10 +4,10 @@ use rules::Outcome;
 ghost use mathlib.Core.Path.{_≡_};
 ghost use Prim.Native.Nat.{_≤_};
 ghost use lib.ListN.{length};
-ghost use Rattle.query.specs.Words.{queryOf, keyWords};
+ghost use Rattle.query.specs.Encoding.{queryOf, keyWords};
 ghost use Rattle.rules.specs.Memory.{mem};
-ghost use Rattle.rules.specs.Outcome.{did};
-ghost use Rattle.rules.specs.Calls.{beginDid, evictAnswerDid, evictNodeDid, renewDid};
+ghost use Rattle.rules.specs.Outcome.{result};
+ghost use Rattle.rules.specs.Calls.{beginResult, evictAnswerResult, evictNodeResult, renewResult};
 
 // ---- Begins
 // The key of a query as it arrives.
@@ -25,19 +25,19 @@ fn begin(
     table: &mut [u32],
     nodes: &mut [u32],
     answers: &mut [u32],
-    desks: &mut [u32],
+    clients: &mut [u32],
     kind: u32,
     client: u32,
     asked: &[u32],
 ) -> Outcome
-    ensures { λ r. ⌜ did r (mem (now (table .exit)) (now (nodes .exit)) (now (answers .exit)) (now (desks .exit))) ≡ beginDid (mem (now (table .entry)) (now (nodes .entry)) (now (answers .entry)) (now (desks .entry))) kind client (now (asked .entry)) ⌝ }
+    ensures { λ r. ⌜ result r (mem (now (table .exit)) (now (nodes .exit)) (now (answers .exit)) (now (clients .exit))) ≡ beginResult (mem (now (table .entry)) (now (nodes .entry)) (now (answers .entry)) (now (clients .entry))) kind client (now (asked .entry)) ⌝ }
 {
-    let code = checks::begin_code(table, nodes, answers, desks, kind, client, asked);
+    let code = checks::begin_code(table, nodes, answers, clients, kind, client, asked);
     if code != 0 {
         return Outcome::Refused(code);
     }
     let key = key_of(asked);
-    clients::begin(desks, client as usize, kind, &key);
+    clients::begin(clients, client as usize, kind, &key);
     Outcome::Accepted
 }
 
@@ -45,39 +45,39 @@ pub fn begin_read(
     table: &mut [u32],
     nodes: &mut [u32],
     answers: &mut [u32],
-    desks: &mut [u32],
+    clients: &mut [u32],
     client: u32,
     asked: &[u32],
 ) -> Outcome
-    ensures { λ r. ⌜ did r (mem (now (table .exit)) (now (nodes .exit)) (now (answers .exit)) (now (desks .exit))) ≡ beginDid (mem (now (table .entry)) (now (nodes .entry)) (now (answers .entry)) (now (desks .entry))) 1 client (now (asked .entry)) ⌝ }
+    ensures { λ r. ⌜ result r (mem (now (table .exit)) (now (nodes .exit)) (now (answers .exit)) (now (clients .exit))) ≡ beginResult (mem (now (table .entry)) (now (nodes .entry)) (now (answers .entry)) (now (clients .entry))) 1 client (now (asked .entry)) ⌝ }
 {
-    begin(table, nodes, answers, desks, 1, client, asked)
+    begin(table, nodes, answers, clients, 1, client, asked)
 }
 
 pub fn begin_insert(
     table: &mut [u32],
     nodes: &mut [u32],
     answers: &mut [u32],
-    desks: &mut [u32],
+    clients: &mut [u32],
     client: u32,
     asked: &[u32],
 ) -> Outcome
-    ensures { λ r. ⌜ did r (mem (now (table .exit)) (now (nodes .exit)) (now (answers .exit)) (now (desks .exit))) ≡ beginDid (mem (now (table .entry)) (now (nodes .entry)) (now (answers .entry)) (now (desks .entry))) 2 client (now (asked .entry)) ⌝ }
+    ensures { λ r. ⌜ result r (mem (now (table .exit)) (now (nodes .exit)) (now (answers .exit)) (now (clients .exit))) ≡ beginResult (mem (now (table .entry)) (now (nodes .entry)) (now (answers .entry)) (now (clients .entry))) 2 client (now (asked .entry)) ⌝ }
 {
-    begin(table, nodes, answers, desks, 2, client, asked)
+    begin(table, nodes, answers, clients, 2, client, asked)
 }
 
 pub fn begin_delete(
     table: &mut [u32],
     nodes: &mut [u32],
     answers: &mut [u32],
-    desks: &mut [u32],
+    clients: &mut [u32],
     client: u32,
     asked: &[u32],
 ) -> Outcome
-    ensures { λ r. ⌜ did r (mem (now (table .exit)) (now (nodes .exit)) (now (answers .exit)) (now (desks .exit))) ≡ beginDid (mem (now (table .entry)) (now (nodes .entry)) (now (answers .entry)) (now (desks .entry))) 3 client (now (asked .entry)) ⌝ }
+    ensures { λ r. ⌜ result r (mem (now (table .exit)) (now (nodes .exit)) (now (answers .exit)) (now (clients .exit))) ≡ beginResult (mem (now (table .entry)) (now (nodes .entry)) (now (answers .entry)) (now (clients .entry))) 3 client (now (asked .entry)) ⌝ }
 {
-    begin(table, nodes, answers, desks, 3, client, asked)
+    begin(table, nodes, answers, clients, 3, client, asked)
 }
 
 // ---- Evictions
@@ -86,12 +86,12 @@ pub fn evict_answer(
     table: &mut [u32],
     nodes: &mut [u32],
     answers: &mut [u32],
-    desks: &mut [u32],
+    clients: &mut [u32],
     place: u32,
 ) -> Outcome
-    ensures { λ r. ⌜ did r (mem (now (table .exit)) (now (nodes .exit)) (now (answers .exit)) (now (desks .exit))) ≡ evictAnswerDid (mem (now (table .entry)) (now (nodes .entry)) (now (answers .entry)) (now (desks .entry))) place ⌝ }
+    ensures { λ r. ⌜ result r (mem (now (table .exit)) (now (nodes .exit)) (now (answers .exit)) (now (clients .exit))) ≡ evictAnswerResult (mem (now (table .entry)) (now (nodes .entry)) (now (answers .entry)) (now (clients .entry))) place ⌝ }
 {
-    let code = checks::evict_answer_code(table, nodes, answers, desks, place);
+    let code = checks::evict_answer_code(table, nodes, answers, clients, place);
     if code != 0 {
         return Outcome::Refused(code);
     }
@@ -104,12 +104,12 @@ pub fn evict_node(
     table: &mut [u32],
     nodes: &mut [u32],
     answers: &mut [u32],
-    desks: &mut [u32],
+    clients: &mut [u32],
     place: u32,
 ) -> Outcome
-    ensures { λ r. ⌜ did r (mem (now (table .exit)) (now (nodes .exit)) (now (answers .exit)) (now (desks .exit))) ≡ evictNodeDid (mem (now (table .entry)) (now (nodes .entry)) (now (answers .entry)) (now (desks .entry))) place ⌝ }
+    ensures { λ r. ⌜ result r (mem (now (table .exit)) (now (nodes .exit)) (now (answers .exit)) (now (clients .exit))) ≡ evictNodeResult (mem (now (table .entry)) (now (nodes .entry)) (now (answers .entry)) (now (clients .entry))) place ⌝ }
 {
-    let code = checks::evict_node_code(table, nodes, answers, desks, place);
+    let code = checks::evict_node_code(table, nodes, answers, clients, place);
     if code != 0 {
         return Outcome::Refused(code);
     }
@@ -123,11 +123,11 @@ pub fn renew(
     table: &mut [u32],
     nodes: &mut [u32],
     answers: &mut [u32],
-    desks: &mut [u32],
+    clients: &mut [u32],
 ) -> Outcome
-    ensures { λ r. ⌜ did r (mem (now (table .exit)) (now (nodes .exit)) (now (answers .exit)) (now (desks .exit))) ≡ renewDid (mem (now (table .entry)) (now (nodes .entry)) (now (answers .entry)) (now (desks .entry))) ⌝ }
+    ensures { λ r. ⌜ result r (mem (now (table .exit)) (now (nodes .exit)) (now (answers .exit)) (now (clients .exit))) ≡ renewResult (mem (now (table .entry)) (now (nodes .entry)) (now (answers .entry)) (now (clients .entry))) ⌝ }
 {
-    let code = checks::renew_code(table, nodes, answers, desks);
+    let code = checks::renew_code(table, nodes, answers, clients);
     if code != 0 {
         return Outcome::Refused(code);
     }

@@ -1,6 +1,6 @@
-pub mod Effect
-pub mod Base
-pub mod Nodes
-pub mod Operations
-pub mod Bounds
-pub mod Unmarking
+pub mod EffectiveRevision
+pub mod LabelTests
+pub mod NodeRows
+pub mod NodeOperations
+pub mod RevisionBounds
+pub mod Releases

@@ -9,23 +9,23 @@ use lib.ListN.{length, getD, take, drop, set, replicate}
 use Rattle.lists.specs.Lists.{same, before, keep, place, without, allBelow, listed, padded, written, rows, flat, entriesIn, withEntries}
 use Rattle.query.specs.Query.{admits, lies, naming, pick, readNode, writeNode, named, readCount, writeCount, readNodes, writeNodes, value, Label}
 use Rattle.query.specs.Sheet.{turned, looks, sheetEntry, starsIn, starsOf}
-use Rattle.query.specs.Words.{columnOf, queryOf, wellMarked, isQuery, namesAll, recordOf, termValue, columnValue, tag, tags, labelWords, marks, keyWords, columnsIn, queryIn, isKey}
-use Rattle.query.proofs.Rows as nodes
+use Rattle.query.specs.Encoding.{columnOf, queryOf, wellMarked, isQuery, namesAll, recordOf, termValue, columnValue, tag, tags, labelWords, marks, keyWords, columnsIn, queryIn, isKey}
+use Rattle.query.proofs.NodeCases as nodes
 use Rattle.rules.specs.declared.Outcome.{Outcome}
 use Rattle.rules.specs.declared.Outcome.the-variants.{Refused, Accepted, Answered, Long, Ended, Full}
 use Rattle.rules.specs.Table.{listOf, has, putIn, target, isFull, outside, effect, noRoom, changes}
-use Rattle.rules.specs.Nodes.{labelIn, pending, revision, withPending, withRevision, hasLabel, nodePlace, isPresent, nodeOf, withNode, evictNode, added, isFree, oldestFree, makeRoom, addedIn, ensured, markedIn, marked, isPending, unmarked, raised, unmarkedAll, isHigh, isWorn}
+use Rattle.rules.specs.Nodes.{labelIn, pending, revision, withPending, withRevision, hasLabel, nodePlace, isPresent, nodeOf, withNode, evictNode, added, isFree, oldestFree, makeRoom, addedIn, ensured, announcedIn, announced, isPending, released, raised, releasedAll, isHigh, isWorn}
 use Rattle.rules.specs.Answers.{keyIn, lengthIn, revisionIn, listIn, hasKeyOf, atLeast, serves, fetchPlace, keyPlace, filed, isLong, someLong}
-use Rattle.rules.specs.Client.{kind, steps, sawMark, didChange, foundFull, entryOf, idle, isIdle, begun, queryAt, writeAt, stepsInAll, isBad, stepped, flag, noted, holding, wrote}
+use Rattle.rules.specs.Client.{kind, steps, sawPending, didChange, foundFull, entryOf, idle, isIdle, begun, queryAt, writeAt, stepsInAll, isBad, stepped, flag, noted, holding, wrote}
 use Rattle.rules.specs.Memory.{Mem, mem, withTable, withNodes, recordsIn, withRecords, storeIn, withStore, answersIn, withAnswers, columnsAt, clientIn, withClient, cleared, opened, renewed}
-use Rattle.rules.specs.Refusals.{columns, client, isShort, badColumns, badQuery, isUnsound, noDesk, isCommitted, allIdle, openCode, beginCode, atDesk, stepCode, abandonCode, evictAnswerCode, evictNodeCode, renewCode}
-use Rattle.rules.specs.Steps.{nowAt, storeBack, answered, lookDid, fetchDid, tableDid, fileDid, readDid, markDid, writeTableDid, endOf, raiseDid, writeDid, progress}
-use Rattle.rules.specs.Calls.{unless, openDid, beginDid, stepDid, takenBack, marksSet, abandoned, abandonDid, evictAnswerDid, evictNodeDid, renewDid}
-use Rattle.rules.specs.History.{Call, beginRead, beginInsert, step, evictNode as dropNode, untrayed, callDid}
+use Rattle.rules.specs.Refusals.{columns, client, isShort, badColumns, badQuery, isUnsound, noClient, isCommitted, allIdle, openCode, beginCode, atClient, stepCode, abandonCode, evictAnswerCode, evictNodeCode, renewCode}
+use Rattle.rules.specs.Steps.{nowAt, storeBack, answered, lookResult, fetchResult, tableResult, fileResult, readResult, announceResult, writeTableResult, endOf, raiseResult, writeResult, progress}
+use Rattle.rules.specs.Calls.{unless, openResult, beginResult, stepResult, takenBack, announcedLabels, abandoned, abandonResult, evictAnswerResult, evictNodeResult, renewResult}
+use Rattle.rules.specs.History.{Call, beginRead, beginInsert, step, evictNode as dropNode, untrayed, callResult}
 
 -- memories that held other numbers, as an opening with k columns leaves them
 abbrev fresh : ℕ → Mem
-fresh k = openDid (mem (replicate 8200 7) (replicate 8200 7) (replicate 10000 7) (replicate 2000 7)) k .mem
+fresh k = openResult (mem (replicate 8200 7) (replicate 8200 7) (replicate 10000 7) (replicate 2000 7)) k .mem
 
 -- the same with records of one column in the table
 abbrev stocked : List ℕ → Mem
@@ -106,8 +106,8 @@ pub data Line : Type 0 where
 
 abbrev plays : Mem → List Line → Bool
 plays m [] = true
-plays m (does c x ∷ ls) = let r = callDid m c in meets x (r .out) (r .tray) && plays (r .mem) ls
-plays m (noted-at d l ∷ ls) = same (take (length l) (drop 13 (clientIn (m .desks) d))) l && plays m ls
+plays m (does c x ∷ ls) = let r = callResult m c in meets x (r .out) (r .tray) && plays (r .mem) ls
+plays m (noted-at d l ∷ ls) = same (take (length l) (drop 13 (clientIn (m .clients) d))) l && plays m ls
 plays m (filed-under i l ∷ ls) = same (take (length l) (drop 8 (getD (answersIn (m .answers)) i []))) l && plays m ls
 plays m (filed-count n ∷ ls) = eqb (length (answersIn (m .answers))) n && plays m ls
 plays m (table-count n ∷ ls) = eqb (length (recordsIn 1 (m .table))) n && plays m ls
@@ -214,5 +214,5 @@ cases =
     ++ (case-6 ∷ case-7 ∷ case-8 ∷ case-9 ∷ case-10-at ∷ case-10-above ∷ case-11 ∷ case-12-at ∷ case-12-above ∷ case-12-floor)
 
 pub cases-1-to-12 : T (all cases)
-unfolding readNodes writeNodes sheetEntry turned looks starsOf starsIn same keep place without allBelow listed padded written rows flat entriesIn withEntries admits lies naming pick readNode writeNode named readCount writeCount columnOf queryOf wellMarked isQuery namesAll recordOf termValue columnValue tag tags labelWords marks keyWords columnsIn queryIn isKey listOf before has putIn target isFull outside effect noRoom changes labelIn pending revision withPending withRevision hasLabel nodePlace isPresent nodeOf withNode evictNode added isFree oldestFree makeRoom addedIn ensured markedIn marked isPending unmarked raised unmarkedAll isHigh isWorn keyIn lengthIn revisionIn listIn hasKeyOf atLeast serves fetchPlace keyPlace filed isLong someLong kind steps sawMark didChange foundFull entryOf idle isIdle begun queryAt writeAt stepsInAll isBad stepped flag noted holding wrote recordsIn withRecords storeIn withStore answersIn withAnswers columnsAt clientIn withClient cleared opened renewed columns client isShort badColumns badQuery isUnsound noDesk isCommitted allIdle openCode beginCode atDesk stepCode abandonCode evictAnswerCode evictNodeCode renewCode nowAt storeBack answered lookDid fetchDid tableDid fileDid readDid markDid writeTableDid endOf raiseDid writeDid progress unless openDid beginDid stepDid takenBack marksSet abandoned abandonDid evictAnswerDid evictNodeDid renewDid untrayed callDid
+unfolding readNodes writeNodes sheetEntry turned looks starsOf starsIn same keep place without allBelow listed padded written rows flat entriesIn withEntries admits lies naming pick readNode writeNode named readCount writeCount columnOf queryOf wellMarked isQuery namesAll recordOf termValue columnValue tag tags labelWords marks keyWords columnsIn queryIn isKey listOf before has putIn target isFull outside effect noRoom changes labelIn pending revision withPending withRevision hasLabel nodePlace isPresent nodeOf withNode evictNode added isFree oldestFree makeRoom addedIn ensured announcedIn announced isPending released raised releasedAll isHigh isWorn keyIn lengthIn revisionIn listIn hasKeyOf atLeast serves fetchPlace keyPlace filed isLong someLong kind steps sawPending didChange foundFull entryOf idle isIdle begun queryAt writeAt stepsInAll isBad stepped flag noted holding wrote recordsIn withRecords storeIn withStore answersIn withAnswers columnsAt clientIn withClient cleared opened renewed columns client isShort badColumns badQuery isUnsound noClient isCommitted allIdle openCode beginCode atClient stepCode abandonCode evictAnswerCode evictNodeCode renewCode nowAt storeBack answered lookResult fetchResult tableResult fileResult readResult announceResult writeTableResult endOf raiseResult writeResult progress unless openResult beginResult stepResult takenBack announcedLabels abandoned abandonResult evictAnswerResult evictNodeResult renewResult untrayed callResult
 cases-1-to-12 = tt

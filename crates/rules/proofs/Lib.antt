@@ -1,3 +1,3 @@
-pub mod Passed
-pub mod Clients
+pub mod PassedChecks
+pub mod ClientLaws
 pub mod Cases

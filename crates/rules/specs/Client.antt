@@ -8,7 +8,7 @@ use lib.ListN.{length, getD, drop, set, replicate}
 use Rattle.lists.specs.Lists.{same, padded, flat, written}
 use Rattle.rules.specs.Sizes.{maxList}
 use Rattle.query.specs.Query.{Query, Record, readCount, writeCount}
-use Rattle.query.specs.Words.{namesAll, recordOf, queryIn, isKey, keyWords}
+use Rattle.query.specs.Encoding.{namesAll, recordOf, queryIn, isKey, keyWords}
 use Rattle.rules.specs.Table.{Write, insert, delete}
 use Rattle.rules.specs.Answers.{Entry, keyIn, lengthIn}
 
@@ -23,8 +23,8 @@ kind c = getD c 0 0
 unfoldable pub steps : Client → ℕ
 steps c = getD c 1 0
 
-unfoldable pub sawMark : Client → Bool
-sawMark c = not (eqb (getD c 2 0) 0)
+unfoldable pub sawPending : Client → Bool
+sawPending c = not (eqb (getD c 2 0) 0)
 
 unfoldable pub didChange : Client → Bool
 didChange c = not (eqb (getD c 3 0) 0)

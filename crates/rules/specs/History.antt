@@ -4,12 +4,12 @@ use mathlib.Core.List.{List, [], _∷_}
 use Prim.Native.Nat.{ℕ, _+_}
 use lib.Dec.{eqb}
 use Rattle.query.specs.Query.{Query, writeCount}
-use Rattle.query.specs.Words.{queryOf, recordOf}
+use Rattle.query.specs.Encoding.{queryOf, recordOf}
 use Rattle.rules.specs.Table.{Table, Write, insert, delete, target, effect}
 use Rattle.rules.specs.Client.{reads, inserts, deletes}
 use Rattle.rules.specs.Memory.{Mem}
-use Rattle.rules.specs.Outcome.{Did, Stepped, didWith, number}
-use Rattle.rules.specs.Calls.{beginDid, stepDid, abandonDid, evictAnswerDid, evictNodeDid, renewDid}
+use Rattle.rules.specs.Outcome.{Result, StepResult, resultWith, number}
+use Rattle.rules.specs.Calls.{beginResult, stepResult, abandonResult, evictAnswerResult, evictNodeResult, renewResult}
 
 -- "begins of reads, inserts and deletes, steps, abandonings, both puttings out, renewals, with any arguments.
 -- The tray may be another each time, of any length and contents."
@@ -24,18 +24,18 @@ pub data Call : Type 0 where
   renew : Call
 
 -- what a call returns and leaves; a call that is lent no tray leaves none
-unfoldable pub untrayed : Did → Stepped
-untrayed x = didWith (x .out) (x .mem) []
+unfoldable pub untrayed : Result → StepResult
+untrayed x = resultWith (x .out) (x .mem) []
 
-unfoldable pub callDid : Mem → Call → Stepped
-callDid m (beginRead d a) = untrayed (beginDid m reads d a)
-callDid m (beginInsert d a) = untrayed (beginDid m inserts d a)
-callDid m (beginDelete d a) = untrayed (beginDid m deletes d a)
-callDid m (step d tray) = stepDid m tray d
-callDid m (abandon d) = untrayed (abandonDid m d)
-callDid m (evictAnswer i) = untrayed (evictAnswerDid m i)
-callDid m (evictNode i) = untrayed (evictNodeDid m i)
-callDid m renew = untrayed (renewDid m)
+unfoldable pub callResult : Mem → Call → StepResult
+callResult m (beginRead d a) = untrayed (beginResult m reads d a)
+callResult m (beginInsert d a) = untrayed (beginResult m inserts d a)
+callResult m (beginDelete d a) = untrayed (beginResult m deletes d a)
+callResult m (step d tray) = stepResult m tray d
+callResult m (abandon d) = untrayed (abandonResult m d)
+callResult m (evictAnswer i) = untrayed (evictAnswerResult m i)
+callResult m (evictNode i) = untrayed (evictNodeResult m i)
+callResult m renew = untrayed (renewResult m)
 
 -- "A call is accepted if it returns 0, 12 or 13."
 unfoldable pub isAccepted : ℕ → Bool
@@ -59,7 +59,7 @@ plainAtOpening = record { table = []; notes = λ d. nothing }
 unfoldable pub noteAt : Plain → ℕ → Note → Plain
 noteAt p d x = record { table = p .table; notes = λ e. cond (eqb e d) x (p .notes e) }
 
--- "An accepted step adds one to its desk's steps. If a write is noted there and its steps are now one more than it has nodes,
+-- "An accepted step adds one to its client's steps. If a write is noted there and its steps are now one more than it has nodes,
 -- it takes effect"
 unfoldable pub oneStep : Plain → ℕ → Note → Plain
 oneStep p d nothing = p
@@ -67,7 +67,7 @@ oneStep p d (reading q n) = noteAt p d (reading q (n + 1))
 oneStep p d (writing w n) =
     noteAt (record { table = cond (eqb (n + 1) (writeCount (target w) + 1)) (effect w (p .table)) (p .table); notes = p .notes }) d (writing w (n + 1))
 
--- "An accepted abandoning takes away its desk's note." "Puttings out, renewals and refused calls change nothing."
+-- "An accepted abandoning takes away its client's note." "Puttings out, renewals and refused calls change nothing."
 unfoldable pub fedAccepted : Plain → Call → Plain
 fedAccepted p (beginRead d a) = noteAt p d (reading (queryOf a) 0)
 fedAccepted p (beginInsert d a) = noteAt p d (writing (insert (recordOf (queryOf a))) 0)
@@ -84,8 +84,8 @@ fed p c n = cond (isAccepted n) (fedAccepted p c) p
 -- the memories and the plain table after the calls of a history, from memories that an accepted opening has left
 unfoldable pub memAfter : Mem → List Call → Mem
 memAfter m [] = m
-memAfter m (c ∷ cs) = memAfter (callDid m c .mem) cs
+memAfter m (c ∷ cs) = memAfter (callResult m c .mem) cs
 
 unfoldable pub plainAfter : Mem → Plain → List Call → Plain
 plainAfter m p [] = p
-plainAfter m p (c ∷ cs) = plainAfter (callDid m c .mem) (fed p c (number (callDid m c .out))) cs
+plainAfter m p (c ∷ cs) = plainAfter (callResult m c .mem) (fed p c (number (callResult m c .out))) cs

@@ -4,7 +4,7 @@ use mathlib.Core.List.{List, [], _++_}
 use Prim.Native.Nat.{ℕ, _+_, _*_}
 use lib.ListN.{getD, take, drop, set, replicate}
 use Rattle.lists.specs.Lists.{entriesIn, withEntries, written}
-use Rattle.rules.specs.Sizes.{tableLeast, nodesLeast, answersLeast, desksLeast}
+use Rattle.rules.specs.Sizes.{tableLeast, nodesLeast, answersLeast, clientsLeast}
 use Rattle.rules.specs.Table.{Table}
 use Rattle.rules.specs.Nodes.{Store, store}
 use Rattle.rules.specs.Answers.{Entry}
@@ -15,10 +15,10 @@ pub record Mem : Type 0 where
   pub table : List ℕ
   pub nodes : List ℕ
   pub answers : List ℕ
-  pub desks : List ℕ
+  pub clients : List ℕ
 
 abbrev pub mem : List ℕ → List ℕ → List ℕ → List ℕ → Mem
-mem t n a d = record { table = t; nodes = n; answers = a; desks = d }
+mem t n a d = record { table = t; nodes = n; answers = a; clients = d }
 
 -- each list of entries stands from place 8 on (lists, `entriesIn`, `withEntries`): "What a call takes out of use it sets to 0"
 -- table: how many records at 0; the records, k numbers each, from 8 on
@@ -59,21 +59,21 @@ cleared n s = replicate n 0 ++ drop n s
 unfoldable pub opened : ℕ → Mem → Mem
 opened k m =
     mem (cleared tableLeast (m .table)) (set (cleared nodesLeast (m .nodes)) 0 1)
-    (cleared answersLeast (m .answers)) (set (cleared desksLeast (m .desks)) 0 k)
+    (cleared answersLeast (m .answers)) (set (cleared clientsLeast (m .clients)) 0 k)
 
 -- "Renew. ..: answers and nodes are emptied, the floor is 1, the table stays."
 unfoldable pub renewed : Mem → Mem
-renewed m = mem (m .table) (withStore (m .nodes) (store 1 [])) (withAnswers (m .answers) []) (m .desks)
+renewed m = mem (m .table) (withStore (m .nodes) (store 1 [])) (withAnswers (m .answers) []) (m .clients)
 
 -- a record has no update: one function for each memory that a call changes
 abbrev pub withTable : Mem → List ℕ → Mem
-withTable m x = mem x (m .nodes) (m .answers) (m .desks)
+withTable m x = mem x (m .nodes) (m .answers) (m .clients)
 
 abbrev pub withNodes : Mem → List ℕ → Mem
-withNodes m x = mem (m .table) x (m .answers) (m .desks)
+withNodes m x = mem (m .table) x (m .answers) (m .clients)
 
 abbrev pub withFiled : Mem → List ℕ → Mem
-withFiled m x = mem (m .table) (m .nodes) x (m .desks)
+withFiled m x = mem (m .table) (m .nodes) x (m .clients)
 
-abbrev pub withDesks : Mem → List ℕ → Mem
-withDesks m x = mem (m .table) (m .nodes) (m .answers) x
+abbrev pub withClients : Mem → List ℕ → Mem
+withClients m x = mem (m .table) (m .nodes) (m .answers) x

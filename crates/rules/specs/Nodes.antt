@@ -87,32 +87,32 @@ unfoldable pub ensured : Words → Store → Option Store
 ensured p s = cond (isPresent p s) (some s) (addedIn p (makeRoom s))
 
 -- *mark*: "marks go up by one, a missing node being added as above"; none: "marks at 12 or more to add to" (3)
-unfoldable pub markedIn : Words → Option Store → Option Store
-markedIn p none = none
-markedIn p (some s) =
+unfoldable pub announcedIn : Words → Option Store → Option Store
+announcedIn p none = none
+announcedIn p (some s) =
     cond (leb maxPending (pending (nodeOf p s))) none (some (withNode p (withPending (nodeOf p s) (pending (nodeOf p s) + 1)) s))
 
-unfoldable pub marked : Words → Store → Option Store
-marked p s = markedIn p (ensured p s)
+unfoldable pub announced : Words → Store → Option Store
+announced p s = announcedIn p (ensured p s)
 
 -- "a raise or the taking back of a mark finds its node missing or unmarked" (3)
 unfoldable pub isPending : Words → Store → Bool
 isPending p s = isPresent p s && ltb 0 (pending (nodeOf p s))
 
 -- the taking back of one mark
-unfoldable pub unmarked : Words → Store → Store
-unmarked p s = withNode p (withPending (nodeOf p s) (pending (nodeOf p s) - 1)) s
+unfoldable pub released : Words → Store → Store
+released p s = withNode p (withPending (nodeOf p s) (pending (nodeOf p s) - 1)) s
 
 -- *raise*: "counter up by one, marks down by one"; none: also "a counter at its largest to raise" (3)
 unfoldable pub raised : Words → Store → Option Store
 raised p s =
     cond (isPending p s && ltb (revision (nodeOf p s)) maxRevision)
-    (some (unmarked p (withNode p (withRevision (nodeOf p s) (revision (nodeOf p s) + 1)) s))) none
+    (some (released p (withNode p (withRevision (nodeOf p s) (revision (nodeOf p s) + 1)) s))) none
 
 -- "takes back the marks it has set": all of them, or none where one is not there to be taken back
-unfoldable pub unmarkedAll : List Words → Store → Option Store
-unmarkedAll [] s = some s
-unmarkedAll (p ∷ ps) s = cond (isPending p s) (unmarkedAll ps (unmarked p s)) none
+unfoldable pub releasedAll : List Words → Store → Option Store
+releasedAll [] s = some s
+releasedAll (p ∷ ps) s = cond (isPending p s) (releasedAll ps (released p s)) none
 
 -- "the floor or a counter is above 4,294,967,103" (10)
 unfoldable pub isHigh : Node → Bool

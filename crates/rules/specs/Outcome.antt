@@ -37,18 +37,18 @@ ending (Ended false) = 4
 ending Full = 0
 
 -- what a call leaves
-pub record Did : Type 0 where
+pub record Result : Type 0 where
   pub out : Outcome
   pub mem : Mem
 
-abbrev pub did : Outcome → Mem → Did
-did o m = record { out = o; mem = m }
+abbrev pub result : Outcome → Mem → Result
+result o m = record { out = o; mem = m }
 
 -- what a step leaves: it is lent the tray too
-pub record Stepped : Type 0 where
+pub record StepResult : Type 0 where
   pub out : Outcome
   pub mem : Mem
   pub tray : List ℕ
 
-abbrev pub didWith : Outcome → Mem → List ℕ → Stepped
-didWith o m t = record { out = o; mem = m; tray = t }
+abbrev pub resultWith : Outcome → Mem → List ℕ → StepResult
+resultWith o m t = record { out = o; mem = m; tray = t }

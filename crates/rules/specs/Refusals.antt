@@ -6,9 +6,9 @@ use Prim.Native.Nat.{ℕ}
 use lib.Dec.{eqb, ltb, leb}
 use lib.ListN.{length, getD}
 use Rattle.lists.specs.Lists.{allBelow}
-use Rattle.rules.specs.Sizes.{maxRecords, maxNodes, maxAnswers, maxClients, tableLeast, nodesLeast, answersLeast, desksLeast, trayLeast}
+use Rattle.rules.specs.Sizes.{maxRecords, maxNodes, maxAnswers, maxClients, tableLeast, nodesLeast, answersLeast, clientsLeast, trayLeast}
 use Rattle.query.specs.Query.{writeCount}
-use Rattle.query.specs.Words.{queryOf, isQuery, namesAll}
+use Rattle.query.specs.Encoding.{queryOf, isQuery, namesAll}
 use Rattle.rules.specs.Nodes.{isWorn, pending}
 use Rattle.rules.specs.Answers.{someLong}
 use Rattle.rules.specs.Client.{Client, kind, steps, isIdle, isBad, queryAt, reads, inserts}
@@ -16,16 +16,16 @@ use Rattle.rules.specs.Memory.{Mem, columnsAt, clientIn, storeIn, answer
 
 -- k as the desks memory has it
 unfoldable pub columns : Mem → ℕ
-columns m = columnsAt (m .desks)
+columns m = columnsAt (m .clients)
 
 unfoldable pub client : Mem → ℕ → Client
-client m d = clientIn (m .desks) d
+client m d = clientIn (m .clients) d
 
 -- 1 short: "a lent memory is below its least length"
 unfoldable pub isShort : Mem → Bool
 isShort m =
     ltb (length (m .table)) tableLeast
-    || (ltb (length (m .nodes)) nodesLeast || (ltb (length (m .answers)) answersLeast || ltb (length (m .desks)) desksLeast))
+    || (ltb (length (m .nodes)) nodesLeast || (ltb (length (m .answers)) answersLeast || ltb (length (m .clients)) clientsLeast))
 
 -- 2 columns: "k not 1 to 4"
 unfoldable pub badColumns : ℕ → Bool
@@ -43,8 +43,8 @@ isUnsound m =
     || (ltb maxNodes (getD (m .nodes) 1 0) || (ltb maxAnswers (getD (m .answers) 0 0) || someLong (answersIn (m .answers)))))
 
 -- 4 no desk: "desk above 11"
-unfoldable pub noDesk : ℕ → Bool
-noDesk d = leb maxClients d
+unfoldable pub noClient : ℕ → Bool
+noClient d = leb maxClients d
 
 -- 7 committed: "abandon of a write after its table step"
 unfoldable pub isCommitted : ℕ → Client → Bool
@@ -67,25 +67,25 @@ beginCode m x d a =
     refuse (isShort m) 1
     (refuse (badQuery (columns m) x a) 2
     (refuse (isUnsound m) 3
-    (refuse (noDesk d) 4
+    (refuse (noClient d) 4
     (refuse (isBad (columns m) (client m d)) 3
     (refuse (not (isIdle (client m d))) 5
     (refuse (not (eqb x reads) && isWorn (storeIn (m .nodes))) 10 0))))))
 
 -- "6 idle: step or abandon at an idle desk"
-unfoldable pub atDesk : Mem → ℕ → ℕ
-atDesk m d =
+unfoldable pub atClient : Mem → ℕ → ℕ
+atClient m d =
     refuse (isUnsound m) 3
-    (refuse (noDesk d) 4
+    (refuse (noClient d) 4
     (refuse (isBad (columns m) (client m d)) 3
     (refuse (isIdle (client m d)) 6 0)))
 
 unfoldable pub stepCode : Mem → List ℕ → ℕ → ℕ
-stepCode m tray d = refuse (isShort m || ltb (length tray) trayLeast) 1 (atDesk m d)
+stepCode m tray d = refuse (isShort m || ltb (length tray) trayLeast) 1 (atClient m d)
 
 unfoldable pub abandonCode : Mem → ℕ → ℕ
 abandonCode m d =
-    refuse (isShort m) 1 (refuse (not (eqb (atDesk m d) 0)) (atDesk m d) (refuse (isCommitted (columns m) (client m d)) 7 0))
+    refuse (isShort m) 1 (refuse (not (eqb (atClient m d) 0)) (atClient m d) (refuse (isCommitted (columns m) (client m d)) 7 0))
 
 -- "8 no entry: place to put out not below the count"; "9 marked: node to put out has marks"
 unfoldable pub evictAnswerCode : Mem → ℕ → ℕ

@@ -28,8 +28,8 @@ nodesLeast = 8200
 abbrev pub answersLeast : ℕ
 answersLeast = 10000
 
-abbrev pub desksLeast : ℕ
-desksLeast = 2000
+abbrev pub clientsLeast : ℕ
+clientsLeast = 2000
 
 abbrev pub trayLeast : ℕ
 trayLeast = 128

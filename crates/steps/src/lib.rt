@@ -1,8 +1,8 @@
 // The two calls that move or end what is under way at a desk: one step, and the abandoning. Neither asks anything of its caller.
 ghost use mathlib.Core.Path.{_≡_};
 ghost use Rattle.rules.specs.Memory.{mem};
-ghost use Rattle.rules.specs.Outcome.{did, didWith};
-ghost use Rattle.rules.specs.Calls.{stepDid, abandonDid};
+ghost use Rattle.rules.specs.Outcome.{result, resultWith};
+ghost use Rattle.rules.specs.Calls.{stepResult, abandonResult};
 use rules::Outcome;
 
 // The kind of a client that reads.
@@ -13,23 +13,23 @@ pub fn step(
     table: &mut [u32],
     nodes: &mut [u32],
     answers: &mut [u32],
-    desks: &mut [u32],
+    clients: &mut [u32],
     tray: &mut [u32],
     client: u32,
 ) -> Outcome
-    ensures { λ r. ⌜ didWith r (mem (now (table .exit)) (now (nodes .exit)) (now (answers .exit)) (now (desks .exit))) (now (tray .exit)) ≡ stepDid (mem (now (table .entry)) (now (nodes .entry)) (now (answers .entry)) (now (desks .entry))) (now (tray .entry)) client ⌝ }
+    ensures { λ r. ⌜ resultWith r (mem (now (table .exit)) (now (nodes .exit)) (now (answers .exit)) (now (clients .exit))) (now (tray .exit)) ≡ stepResult (mem (now (table .entry)) (now (nodes .entry)) (now (answers .entry)) (now (clients .entry))) (now (tray .entry)) client ⌝ }
 {
-    let code = checks::step_code(table, nodes, answers, desks, tray, client);
+    let code = checks::step_code(table, nodes, answers, clients, tray, client);
     if code != 0 {
         return Outcome::Refused(code);
     }
     let d = client as usize;
-    let k = desks[0] as usize;
-    let kind = clients::kind_of(desks, d);
+    let k = clients[0] as usize;
+    let kind = clients::kind_of(clients, d);
     if kind == READS {
-        return reading::read_step(table, nodes, answers, desks, tray, d, k);
+        return reading::read_step(table, nodes, answers, clients, tray, d, k);
     }
-    writing::write_step(table, nodes, desks, d, k)
+    writing::write_step(table, nodes, clients, d, k)
 }
 
 // Gives up what is under way at the client's desk: a read, or a write that has not reached the table.
@@ -37,21 +37,21 @@ pub fn abandon(
     table: &mut [u32],
     nodes: &mut [u32],
     answers: &mut [u32],
-    desks: &mut [u32],
+    clients: &mut [u32],
     client: u32,
 ) -> Outcome
-    ensures { λ r. ⌜ did r (mem (now (table .exit)) (now (nodes .exit)) (now (answers .exit)) (now (desks .exit))) ≡ abandonDid (mem (now (table .entry)) (now (nodes .entry)) (now (answers .entry)) (now (desks .entry))) client ⌝ }
+    ensures { λ r. ⌜ result r (mem (now (table .exit)) (now (nodes .exit)) (now (answers .exit)) (now (clients .exit))) ≡ abandonResult (mem (now (table .entry)) (now (nodes .entry)) (now (answers .entry)) (now (clients .entry))) client ⌝ }
 {
-    let code = checks::abandon_code(table, nodes, answers, desks, client);
+    let code = checks::abandon_code(table, nodes, answers, clients, client);
     if code != 0 {
         return Outcome::Refused(code);
     }
     let d = client as usize;
-    let k = desks[0] as usize;
-    let kind = clients::kind_of(desks, d);
+    let k = clients[0] as usize;
+    let kind = clients::kind_of(clients, d);
     if kind == READS {
-        clients::set_idle(desks, d);
+        clients::set_idle(clients, d);
         return Outcome::Accepted;
     }
-    writing::take_back(nodes, desks, d, k)
+    writing::take_back(nodes, clients, d, k)
 }

@@ -1,5 +1,5 @@
 -- Laws of the scan that deletes in place: where the loop stands, a turn of it, and what the clearing and the new count make of it.
--- Leans on the laws of lists, Written, Rows and Memory. Assumes nothing.
+-- Leans on the laws of lists, Written, Rows and TableMemory. Assumes nothing.
 use mathlib.Core.Path.{_≡_, refl, sym, ap, _∙_}
 use mathlib.Core.Bool.{Bool, true, false, not}
 use mathlib.Core.List.{List, [], _∷_, _++_, append-assoc, append-nil}
@@ -10,16 +10,16 @@ use lib.ListN.{length, getD, take, drop, set, replicate, length-append, length-t
 use lib.Seq.{drop-drop}
 use borrow.Rule.Slice.PartMut.{putMid}
 use Rattle.lists.specs.Lists.{written, flat, keep, withEntries}
-use Rattle.laws.proofs.Lists.{keep-next, skip-next, keep-end}
-use Rattle.laws.proofs.Written.{take-of-written, drop-written, length-written, written-self}
-use Rattle.laws.proofs.Rows.{slot-next, slot-left, flat-snoc, length-flat, wide-keep}
+use Rattle.laws.proofs.ListLaws.{keep-next, skip-next, keep-end}
+use Rattle.laws.proofs.WrittenLaws.{take-of-written, drop-written, length-written, written-self}
+use Rattle.laws.proofs.RowLaws.{slot-next, slot-left, flat-snoc, length-flat, wide-keep}
 use Rattle.query.specs.Query.{Query, Record, lies}
 use Rattle.rules.specs.Table.{Table, outside, delete, effect}
 use Rattle.rules.specs.Memory.{recordsIn, withRecords}
-use Rattle.records.proofs.Writes.{effect-delete}
-use Rattle.table.specs.Table.{Fit, gone}
-use Rattle.table.proofs.Tables.{gone-is}
-use Rattle.table.proofs.Memory.{length-records, wide-records}
+use Rattle.records.proofs.RecordWrites.{effect-delete}
+use Rattle.table.specs.TableContracts.{Fit, gone}
+use Rattle.table.proofs.TableLists.{gone-is}
+use Rattle.table.proofs.TableMemory.{length-records, wide-records}
 
 -- a record that stands where it is to stand
 pub settled : (s : List ℕ) (from to k : ℕ) → to ≡ from → from + k ≤ length s → s ≡ written s to (take k (drop from s))

@@ -1,4 +1,4 @@
--- Laws of the scan that lists: where the loop stands, a turn of it, its two ends. Leans on the laws of lists, Written and Tables.
+-- Laws of the scan that lists: where the loop stands, a turn of it, its two ends. Leans on the laws of lists, Written and TableLists.
 -- Assumes nothing.
 use mathlib.Core.Path.{_≡_, refl, sym, ap, _∙_}
 use mathlib.Core.Bool.{Bool, true, false}
@@ -9,15 +9,15 @@ use native.Mathlib.Omega.{arith}
 use lib.ListN.{length, getD, take, drop, replicate, length-append, take-append-drop}
 use lib.Seq.{take-all, take-at, drop-cons}
 use Rattle.lists.specs.Lists.{written, padded, flat, keep}
-use Rattle.laws.proofs.Lists.{keep-next, skip-next, keep-end, keep-append, keep-yes}
-use Rattle.laws.proofs.Written.{written-nil, written-front, written-over, take-of-written, length-written}
-use Rattle.laws.proofs.Entries.{drop-zeros}
-use Rattle.laws.proofs.Rows.{slot, slot-next, flat-snoc, length-flat, Wide, wide-keep, wide-take}
+use Rattle.laws.proofs.ListLaws.{keep-next, skip-next, keep-end, keep-append, keep-yes}
+use Rattle.laws.proofs.WrittenLaws.{written-nil, written-front, written-over, take-of-written, length-written}
+use Rattle.laws.proofs.EntryLaws.{drop-zeros}
+use Rattle.laws.proofs.RowLaws.{slot, slot-next, flat-snoc, length-flat, Wide, wide-keep, wide-take}
 use Rattle.query.specs.Query.{Record}
 use Rattle.rules.specs.Sizes.{maxList}
 use Rattle.rules.specs.Table.{Table}
-use Rattle.table.specs.Table.{gathered}
-use Rattle.table.proofs.Tables.{gathered-few, gathered-many}
+use Rattle.table.specs.TableContracts.{gathered}
+use Rattle.table.proofs.TableLists.{gathered-few, gathered-many}
 
 -- some numbers written from the start, and more behind them
 pub written-more : (s u v : List ℕ) (i : ℕ) → length u ≡ i → i ≤ length s → written (written s 0 u) i v ≡ written s 0 (u ++ v)

@@ -1,5 +1,5 @@
-pub mod Tables
-pub mod Memory
+pub mod TableLists
+pub mod TableMemory
 pub mod Gathering
 pub mod Seeking
 pub mod Deleting

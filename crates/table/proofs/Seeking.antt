@@ -1,4 +1,4 @@
--- Laws of the scan that looks for a record and for its place, and of the insert after it. Leans on the laws of lists, Orders and Tables.
+-- Laws of the scan that looks for a record and for its place, and of the insert after it. Leans on the laws of lists, Orders and TableLists.
 -- Assumes nothing.
 use mathlib.Core.Path.{_≡_, refl, sym, ap, _∙_}
 use mathlib.Core.Bool.{Bool, true, false}
@@ -12,24 +12,24 @@ use lib.ListN.{length, getD, take, drop, set}
 use lib.Seq.{take-all, take-suc, length-take-le}
 use borrow.Author.Tests.{eqb-true, eqb-false}
 use Rattle.lists.specs.Lists.{before, place}
-use Rattle.laws.specs.Moves.{inserted}
-use Rattle.laws.proofs.Tests.{byTest}
-use Rattle.laws.proofs.Search.{place-le, place-here, place-later}
-use Rattle.laws.proofs.Rows.{slot-next}
+use Rattle.laws.specs.Splice.{inserted}
+use Rattle.laws.proofs.TestLaws.{byTest}
+use Rattle.laws.proofs.SearchLaws.{place-le, place-here, place-later}
+use Rattle.laws.proofs.RowLaws.{slot-next}
 use Rattle.query.specs.Query.{Record}
 use Rattle.rules.specs.Sizes.{maxRecords}
 use Rattle.rules.specs.Table.{Table, has, insert, effect}
 use Rattle.rules.specs.Memory.{recordsIn, withRecords}
-use Rattle.records.proofs.Writes.{insert-places, effect-there, effect-full, effect-put}
+use Rattle.records.proofs.RecordWrites.{insert-places, effect-there, effect-full, effect-put}
 use Rattle.words.specs.declared.Order.the-variants.{Before, Same, After}
-use Rattle.words.specs.Words.{orderOf, isSame, isAfter}
-use Rattle.words.proofs.Orders.{same-is, above-is, to-same}
+use Rattle.words.specs.WordContracts.{orderOf, isSame, isAfter}
+use Rattle.words.proofs.CompareLoops.{same-is, above-is, to-same}
 use Rattle.table.specs.declared.Inserted.the-variants.{Added, Present, Full}
 use Rattle.table.specs.declared.Spot.{Spot}
 use Rattle.table.specs.declared.Spot.the-variants.{There, At}
-use Rattle.table.specs.Table.{Fit, spotOf, insertedAs}
-use Rattle.table.proofs.Tables.{has-snoc, has-at, place-front, place-behind, is-there, goes-before, spot-there, spot-before, as-present, as-full, as-added}
-use Rattle.table.proofs.Memory.{length-records, with-records, with-inserted}
+use Rattle.table.specs.TableContracts.{Fit, spotOf, insertedAs}
+use Rattle.table.proofs.TableLists.{has-snoc, has-at, place-front, place-behind, is-there, goes-before, spot-there, spot-before, as-present, as-full, as-added}
+use Rattle.table.proofs.TableMemory.{length-records, with-records, with-inserted}
 
 -- ---- one record more: p fails, or passes, at x
 module _ {A : Type 0} (p : A → Bool) (l : List A) (x : A) where

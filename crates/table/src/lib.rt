@@ -6,7 +6,7 @@ ghost use lib.ListN.{length, take, drop};
 ghost use Rattle.lists.specs.Lists.{written, flat};
 ghost use Rattle.rules.specs.Table.{insert, delete, effect, listOf};
 ghost use Rattle.rules.specs.Memory.{recordsIn, withRecords};
-ghost use Rattle.table.specs.Table.{Fit, gathered, spotOf, insertedAs, gone};
+ghost use Rattle.table.specs.TableContracts.{Fit, gathered, spotOf, insertedAs, gone};
 use hall::Hall;
 use query::Column;
 use words::Order;

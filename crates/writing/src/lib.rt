@@ -6,18 +6,18 @@ ghost use mathlib.Core.List.{List};
 ghost use Prim.Native.Nat.{ℕ, _≤_, _<_};
 ghost use lib.ListN.{length, take};
 ghost use Rattle.query.specs.Query.{writeCount};
-ghost use Rattle.query.specs.Words.{namesAll, recordOf};
+ghost use Rattle.query.specs.Encoding.{namesAll, recordOf};
 ghost use Rattle.rules.specs.Table.{insert, effect};
-ghost use Rattle.rules.specs.Nodes.{unmarkedAll};
+ghost use Rattle.rules.specs.Nodes.{releasedAll};
 ghost use Rattle.rules.specs.Client.{inserts, idle};
 ghost use Rattle.rules.specs.Memory.{mem, recordsIn, withRecords, storeIn, withStore, clientIn, withClient};
-ghost use Rattle.rules.specs.Outcome.{did, didWith};
+ghost use Rattle.rules.specs.Outcome.{result, resultWith};
 ghost use Rattle.rules.specs.Steps.{endOf};
-ghost use Rattle.rules.specs.Calls.{marksSet};
-ghost use Rattle.nodes.specs.Nodes;
-ghost use Rattle.clients.specs.Clients;
-ghost use Rattle.table.specs.Table;
-ghost use Rattle.writing.specs.Writing.{Writer, stepAt, countAt, stepOf, backOf, writeOf, reported, raiseEnd, raiseLeft, isFound, placesOf, takenOff, CanTakeOff};
+ghost use Rattle.rules.specs.Calls.{announcedLabels};
+ghost use Rattle.nodes.specs.NodeContracts;
+ghost use Rattle.clients.specs.ClientContracts;
+ghost use Rattle.table.specs.TableContracts;
+ghost use Rattle.writing.specs.WriteContracts.{Writer, stepAt, countAt, stepOf, backOf, writeOf, reported, raiseEnd, raiseLeft, isFound, placesOf, takenOff, CanTakeOff};
 use nodes::Spot;
 use query::Column;
 use rules::Outcome;
@@ -31,26 +31,26 @@ struct Report {
 
 // ---- Marks
 // A mark at the write's next node. Refused where no node can be added or 12 writes are pending there.
-pub fn mark_step(nodes: &mut [u32], desks: &mut [u32], d: usize, k: usize) -> Outcome
-    requires { ⌜ Writer (now desks) d k ⌝ }
-    requires { ⌜ Nodes.Fit (now nodes) ⌝ }
-    requires { ⌜ stepAt (now desks) d < countAt k (now desks) d ⌝ }
-    ensures { λ r. ⌜ ((t a y : List ℕ) → didWith r (mem t (now (nodes .exit)) a (now (desks .exit))) y ≡ stepOf k (mem t (now (nodes .entry)) a (now (desks .entry))) y d) ⌝ }
+pub fn announce_step(nodes: &mut [u32], clients: &mut [u32], d: usize, k: usize) -> Outcome
+    requires { ⌜ Writer (now clients) d k ⌝ }
+    requires { ⌜ NodeContracts.Fit (now nodes) ⌝ }
+    requires { ⌜ stepAt (now clients) d < countAt k (now clients) d ⌝ }
+    ensures { λ r. ⌜ ((t a y : List ℕ) → resultWith r (mem t (now (nodes .exit)) a (now (clients .exit))) y ≡ stepOf k (mem t (now (nodes .entry)) a (now (clients .entry))) y d) ⌝ }
 {
-    let cols = clients::columns_at(desks, d, k);
-    let made = clients::steps_of(desks, d);
+    let cols = clients::columns_at(clients, d, k);
+    let made = clients::steps_of(clients, d);
     let label = columns::labels::write_label(cols, k, made as usize);
-    if !nodes::mark(nodes, &label) {
+    if !nodes::announce(nodes, &label) {
         return Outcome::Refused(3);
     }
-    clients::advance(desks, d);
+    clients::advance(clients, d);
     Outcome::Accepted
 }
 
 // ---- The table
 // Puts the record of a query that names every column into the table.
 fn insert_record(table: &mut [u32], cols: [Column; 4], k: usize) -> Report
-    requires { ⌜ Table.Fit k (now table) ⌝ }
+    requires { ⌜ TableContracts.Fit k (now table) ⌝ }
     requires { ⌜ namesAll (take k cols) ≡ true ⌝ }
     ensures { λ r. ⌜ (r ≡ reported (insert (recordOf (take k cols))) (recordsIn k (now (table .entry)))) × (now (table .exit) ≡ withRecords k (now (table .entry)) (effect (insert (recordOf (take k cols))) (recordsIn k (now (table .entry))))) ⌝ }
 {
@@ -75,7 +75,7 @@ fn insert_record(table: &mut [u32], cols: [Column; 4], k: usize) -> Report
 
 // Makes the change of a write of this kind.
 fn change(table: &mut [u32], kind: u32, cols: [Column; 4], k: usize) -> Report
-    requires { ⌜ Table.Fit k (now table) ⌝ }
+    requires { ⌜ TableContracts.Fit k (now table) ⌝ }
     requires { ⌜ (kind ≡ inserts → namesAll (take k cols) ≡ true) ⌝ }
     ensures { λ r. ⌜ (r ≡ reported (writeOf kind (take k cols)) (recordsIn k (now (table .entry)))) × (now (table .exit) ≡ withRecords k (now (table .entry)) (effect (writeOf kind (take k cols)) (recordsIn k (now (table .entry))))) ⌝ }
 {
@@ -90,28 +90,28 @@ fn change(table: &mut [u32], kind: u32, cols: [Column; 4], k: usize) -> Report
 }
 
 // The table step: the change is made, and the client keeps whether the table changed and whether it was full.
-pub fn write_table_step(table: &mut [u32], desks: &mut [u32], d: usize, k: usize) -> Outcome
-    requires { ⌜ Writer (now desks) d k ⌝ }
-    requires { ⌜ Table.Fit k (now table) ⌝ }
-    requires { ⌜ stepAt (now desks) d ≡ countAt k (now desks) d ⌝ }
-    ensures { λ r. ⌜ ((n a y : List ℕ) → didWith r (mem (now (table .exit)) n a (now (desks .exit))) y ≡ stepOf k (mem (now (table .entry)) n a (now (desks .entry))) y d) ⌝ }
+pub fn write_table_step(table: &mut [u32], clients: &mut [u32], d: usize, k: usize) -> Outcome
+    requires { ⌜ Writer (now clients) d k ⌝ }
+    requires { ⌜ TableContracts.Fit k (now table) ⌝ }
+    requires { ⌜ stepAt (now clients) d ≡ countAt k (now clients) d ⌝ }
+    ensures { λ r. ⌜ ((n a y : List ℕ) → resultWith r (mem (now (table .exit)) n a (now (clients .exit))) y ≡ stepOf k (mem (now (table .entry)) n a (now (clients .entry))) y d) ⌝ }
 {
-    let cols = clients::columns_at(desks, d, k);
-    let kind = clients::kind_of(desks, d);
+    let cols = clients::columns_at(clients, d, k);
+    let kind = clients::kind_of(clients, d);
     let said = change(table, kind, cols, k);
-    clients::set_wrote(desks, d, said.changed, said.full);
+    clients::set_wrote(clients, d, said.changed, said.full);
     Outcome::Accepted
 }
 
 // ---- Raises
 // Ends a write: the client is idle, and what it kept of the table step is the outcome.
-fn end(desks: &mut [u32], d: usize) -> Outcome
-    requires { ⌜ Clients.Fit (now desks) d ⌝ }
-    ensures { λ r. ⌜ (r ≡ endOf (clientIn (now (desks .entry)) d)) × (now (desks .exit) ≡ withClient (now (desks .entry)) d idle) ⌝ }
+fn end(clients: &mut [u32], d: usize) -> Outcome
+    requires { ⌜ ClientContracts.Fit (now clients) d ⌝ }
+    ensures { λ r. ⌜ (r ≡ endOf (clientIn (now (clients .entry)) d)) × (now (clients .exit) ≡ withClient (now (clients .entry)) d idle) ⌝ }
 {
-    let full = clients::found_full(desks, d);
-    let changed = clients::did_change(desks, d);
-    clients::set_idle(desks, d);
+    let full = clients::found_full(clients, d);
+    let changed = clients::did_change(clients, d);
+    clients::set_idle(clients, d);
     if full {
         return Outcome::Full;
     }
@@ -119,33 +119,33 @@ fn end(desks: &mut [u32], d: usize) -> Outcome
 }
 
 // What a raise leaves of the client: the last one ends the write.
-fn after_raise(desks: &mut [u32], d: usize, last: bool) -> Outcome
-    requires { ⌜ Clients.Fit (now desks) d × (stepAt (now desks) d < 4294967295) ⌝ }
-    ensures { λ r. ⌜ (r ≡ raiseEnd last (clientIn (now (desks .entry)) d)) × (now (desks .exit) ≡ withClient (now (desks .entry)) d (raiseLeft last (clientIn (now (desks .entry)) d))) ⌝ }
+fn after_raise(clients: &mut [u32], d: usize, last: bool) -> Outcome
+    requires { ⌜ ClientContracts.Fit (now clients) d × (stepAt (now clients) d < 4294967295) ⌝ }
+    ensures { λ r. ⌜ (r ≡ raiseEnd last (clientIn (now (clients .entry)) d)) × (now (clients .exit) ≡ withClient (now (clients .entry)) d (raiseLeft last (clientIn (now (clients .entry)) d))) ⌝ }
 {
     if last {
-        return end(desks, d);
+        return end(clients, d);
     }
-    clients::advance(desks, d);
+    clients::advance(clients, d);
     Outcome::Accepted
 }
 
 // A raise at the write's next node. Refused where the node is missing, has no pending write or cannot be raised.
-pub fn raise_step(nodes: &mut [u32], desks: &mut [u32], d: usize, k: usize) -> Outcome
-    requires { ⌜ Writer (now desks) d k ⌝ }
-    requires { ⌜ Nodes.Fit (now nodes) ⌝ }
-    requires { ⌜ countAt k (now desks) d < stepAt (now desks) d ⌝ }
-    ensures { λ r. ⌜ ((t a y : List ℕ) → didWith r (mem t (now (nodes .exit)) a (now (desks .exit))) y ≡ stepOf k (mem t (now (nodes .entry)) a (now (desks .entry))) y d) ⌝ }
+pub fn raise_step(nodes: &mut [u32], clients: &mut [u32], d: usize, k: usize) -> Outcome
+    requires { ⌜ Writer (now clients) d k ⌝ }
+    requires { ⌜ NodeContracts.Fit (now nodes) ⌝ }
+    requires { ⌜ countAt k (now clients) d < stepAt (now clients) d ⌝ }
+    ensures { λ r. ⌜ ((t a y : List ℕ) → resultWith r (mem t (now (nodes .exit)) a (now (clients .exit))) y ≡ stepOf k (mem t (now (nodes .entry)) a (now (clients .entry))) y d) ⌝ }
 {
-    let cols = clients::columns_at(desks, d, k);
-    let made = clients::steps_of(desks, d);
+    let cols = clients::columns_at(clients, d, k);
+    let made = clients::steps_of(clients, d);
     let count = columns::keys::power(k);
     let number = made - (count + 1);
     let label = columns::labels::write_label(cols, k, number as usize);
     if !nodes::raise(nodes, &label) {
         return Outcome::Refused(3);
     }
-    after_raise(desks, d, made == count + count)
+    after_raise(clients, d, made == count + count)
 }
 
 // ---- The next step
@@ -153,32 +153,32 @@ pub fn raise_step(nodes: &mut [u32], desks: &mut [u32], d: usize, k: usize) -> O
 pub fn write_step(
     table: &mut [u32],
     nodes: &mut [u32],
-    desks: &mut [u32],
+    clients: &mut [u32],
     d: usize,
     k: usize,
 ) -> Outcome
-    requires { ⌜ Writer (now desks) d k ⌝ }
-    requires { ⌜ Nodes.Fit (now nodes) ⌝ }
-    requires { ⌜ Table.Fit k (now table) ⌝ }
-    ensures { λ r. ⌜ ((a y : List ℕ) → didWith r (mem (now (table .exit)) (now (nodes .exit)) a (now (desks .exit))) y ≡ stepOf k (mem (now (table .entry)) (now (nodes .entry)) a (now (desks .entry))) y d) ⌝ }
+    requires { ⌜ Writer (now clients) d k ⌝ }
+    requires { ⌜ NodeContracts.Fit (now nodes) ⌝ }
+    requires { ⌜ TableContracts.Fit k (now table) ⌝ }
+    ensures { λ r. ⌜ ((a y : List ℕ) → resultWith r (mem (now (table .exit)) (now (nodes .exit)) a (now (clients .exit))) y ≡ stepOf k (mem (now (table .entry)) (now (nodes .entry)) a (now (clients .entry))) y d) ⌝ }
 {
-    let made = clients::steps_of(desks, d);
+    let made = clients::steps_of(clients, d);
     let count = columns::keys::power(k);
     if made < count {
-        return mark_step(nodes, desks, d, k);
+        return announce_step(nodes, clients, d, k);
     }
     if made == count {
-        return write_table_step(table, desks, d, k);
+        return write_table_step(table, clients, d, k);
     }
-    raise_step(nodes, desks, d, k)
+    raise_step(nodes, clients, d, k)
 }
 
 // ---- The taking back of marks
 // Whether each of the write's first n nodes has a pending write; where all have, `places` begins with their places.
 fn can_take_back(nodes: &[u32], cols: [Column; 4], k: usize, n: usize, places: &mut [usize]) -> bool
-    requires { ⌜ Nodes.Fit (now nodes) × ((k ≤ 4) × (n ≤ writeCount (take k cols))) ⌝ }
+    requires { ⌜ NodeContracts.Fit (now nodes) × ((k ≤ 4) × (n ≤ writeCount (take k cols))) ⌝ }
     requires { ⌜ n ≤ length (now places) ⌝ }
-    ensures { λ r. ⌜ (r ≡ isFound (unmarkedAll (marksSet (take k cols) n) (storeIn (now (nodes .entry))))) × (r ≡ true → take n (now (places .exit)) ≡ placesOf (marksSet (take k cols) n) (storeIn (now (nodes .entry)))) ⌝ }
+    ensures { λ r. ⌜ (r ≡ isFound (releasedAll (announcedLabels (take k cols) n) (storeIn (now (nodes .entry))))) × (r ≡ true → take n (now (places .exit)) ≡ placesOf (announcedLabels (take k cols) n) (storeIn (now (nodes .entry)))) ⌝ }
 {
     let mut j = 0;
     while j < n {
@@ -195,31 +195,31 @@ fn can_take_back(nodes: &[u32], cols: [Column; 4], k: usize, n: usize, places: &
 
 // Takes one off the node at each place. The places are kept from the test, so no label is searched for twice.
 fn take_off(nodes: &mut [u32], places: &[usize])
-    requires { ⌜ Nodes.Fit (now nodes) ⌝ }
+    requires { ⌜ NodeContracts.Fit (now nodes) ⌝ }
     requires { ⌜ CanTakeOff (now places) (storeIn (now nodes)) ⌝ }
     ensures { λ _. ⌜ now (nodes .exit) ≡ withStore (now (nodes .entry)) (takenOff (now (places .entry)) (storeIn (now (nodes .entry)))) ⌝ }
 {
     let mut done = 0;
     while done < places.len() {
-        nodes::unmark(nodes, places[done]);
+        nodes::release(nodes, places[done]);
         done += 1;
     }
 }
 
 // Takes back the marks of a write before its table step; the client is idle then. Tests all before it alters one.
-pub fn take_back(nodes: &mut [u32], desks: &mut [u32], d: usize, k: usize) -> Outcome
-    requires { ⌜ Writer (now desks) d k ⌝ }
-    requires { ⌜ Nodes.Fit (now nodes) ⌝ }
-    requires { ⌜ stepAt (now desks) d ≤ countAt k (now desks) d ⌝ }
-    ensures { λ r. ⌜ ((t a : List ℕ) → did r (mem t (now (nodes .exit)) a (now (desks .exit))) ≡ backOf k (mem t (now (nodes .entry)) a (now (desks .entry))) d) ⌝ }
+pub fn take_back(nodes: &mut [u32], clients: &mut [u32], d: usize, k: usize) -> Outcome
+    requires { ⌜ Writer (now clients) d k ⌝ }
+    requires { ⌜ NodeContracts.Fit (now nodes) ⌝ }
+    requires { ⌜ stepAt (now clients) d ≤ countAt k (now clients) d ⌝ }
+    ensures { λ r. ⌜ ((t a : List ℕ) → result r (mem t (now (nodes .exit)) a (now (clients .exit))) ≡ backOf k (mem t (now (nodes .entry)) a (now (clients .entry))) d) ⌝ }
 {
-    let cols = clients::columns_at(desks, d, k);
-    let made = clients::steps_of(desks, d) as usize;
+    let cols = clients::columns_at(clients, d, k);
+    let made = clients::steps_of(clients, d) as usize;
     let mut places = [0; 16];
     if !can_take_back(nodes, cols, k, made, &mut places) {
         return Outcome::Refused(3);
     }
     take_off(nodes, &places[..made]);
-    clients::set_idle(desks, d);
+    clients::set_idle(clients, d);
     Outcome::Accepted
 }

@@ -1,5 +1,5 @@
 -- `answers::append` meets its contract. Assumes nothing.
-use Rattle.answers.proofs.Changes.{appended}
+use Rattle.answers.proofs.AnswerChanges.{appended}
 use borrow.Author.Needs.{needs}
 use Rattle.answers.proofs.append.Statement.{statement}
 use Rattle.answers.proofs.append.Tie as tie

@@ -1,5 +1,5 @@
 -- `answers::empty` meets its contract. Assumes nothing.
-use Rattle.answers.proofs.Changes.{emptied}
+use Rattle.answers.proofs.AnswerChanges.{emptied}
 use borrow.Author.Needs.{needs}
 use Rattle.answers.proofs.empty.Statement.{statement}
 use Rattle.answers.proofs.empty.Tie as tie

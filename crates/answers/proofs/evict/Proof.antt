@@ -1,5 +1,5 @@
 -- `answers::evict` meets its contract. Assumes nothing.
-use Rattle.answers.proofs.Changes.{evicted}
+use Rattle.answers.proofs.AnswerChanges.{evicted}
 use borrow.Author.Needs.{needs}
 use Rattle.answers.proofs.evict.Statement.{statement}
 use Rattle.answers.proofs.evict.Tie as tie

@@ -1,7 +1,7 @@
 -- `answers::file` meets its contract: one way for each case of the rule. Assumes nothing.
 use mathlib.Core.Path.{sym, ap, _∙_}
 use Rattle.rules.specs.Memory.{withAnswers}
-use Rattle.answers.proofs.Changes.{filed-same, filed-new, filed-full}
+use Rattle.answers.proofs.AnswerChanges.{filed-same, filed-new, filed-full}
 use borrow.Author.Needs.{needs}
 use Rattle.answers.proofs.file.Statement.{statement}
 use Rattle.answers.proofs.file.Tie as tie

@@ -5,7 +5,7 @@ use lib.ListN.{drop}
 use Rattle.lists.specs.Lists.{place}
 use Rattle.rules.specs.Answers.{hasKeyOf, keyPlace}
 use Rattle.rules.specs.Memory.{answersIn}
-use Rattle.answers.proofs.Scan.{scan-start, scan-found, scan-next, scan-none}
+use Rattle.answers.proofs.AnswerScan.{scan-start, scan-found, scan-next, scan-none}
 use borrow.Author.Needs.{needs}
 use Rattle.answers.proofs.find_key.Statement.{statement}
 use Rattle.answers.proofs.find_key.Tie as tie

@@ -1,5 +1,5 @@
 -- `answers::give` meets its contract: the list of the entry as it stands in the memory. Assumes nothing.
-use Rattle.answers.proofs.Changes.{short-part, gave-at}
+use Rattle.answers.proofs.AnswerChanges.{short-part, gave-at}
 use borrow.Author.Needs.{needs}
 use Rattle.answers.proofs.give.Statement.{statement}
 use Rattle.answers.proofs.give.Tie as tie

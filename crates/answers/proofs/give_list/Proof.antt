@@ -1,6 +1,6 @@
 -- `answers::give_list` meets its contract. Assumes nothing.
 use native.Mathlib.Omega.{arith}
-use Rattle.answers.proofs.Changes.{list-fits, gave}
+use Rattle.answers.proofs.AnswerChanges.{list-fits, gave}
 use borrow.Author.Needs.{needs}
 use Rattle.answers.proofs.give_list.Statement.{statement}
 use Rattle.answers.proofs.give_list.Tie as tie

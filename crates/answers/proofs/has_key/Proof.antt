@@ -1,7 +1,7 @@
 -- `answers::has_key` meets its contract: the two keys are compared. Assumes nothing.
 use mathlib.Core.Path.{sym}
 use lib.Seq.{length-take-le}
-use Rattle.answers.proofs.Scan.{key-same}
+use Rattle.answers.proofs.AnswerScan.{key-same}
 use borrow.Author.Needs.{needs}
 use Rattle.answers.proofs.has_key.Statement.{statement}
 use Rattle.answers.proofs.has_key.Tie as tie

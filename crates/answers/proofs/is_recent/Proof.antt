@@ -3,9 +3,9 @@ use mathlib.Core.Path.{_≡_, sym}
 use mathlib.Core.Bool.{true}
 use Prim.Native.Nat.{_-_, _≤_}
 use Rattle.lists.specs.Lists.{allBelow}
-use Rattle.laws.proofs.Lists.{below-none, below-next, below-not}
+use Rattle.laws.proofs.ListLaws.{below-none, below-next, below-not}
 use Rattle.rules.specs.Answers.{atLeast}
-use Rattle.answers.proofs.Scan.{newer, older, below-end}
+use Rattle.answers.proofs.AnswerScan.{newer, older, below-end}
 use borrow.Author.Needs.{needs}
 use Rattle.answers.proofs.is_recent.Statement.{statement}
 use Rattle.answers.proofs.is_recent.Tie as tie

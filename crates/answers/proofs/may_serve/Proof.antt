@@ -1,6 +1,6 @@
 -- `answers::may_serve` meets its contract: the key, and then the revisions. Assumes nothing.
 use mathlib.Core.Path.{sym, _∙_}
-use Rattle.answers.proofs.Scan.{serves-not, serves-recent}
+use Rattle.answers.proofs.AnswerScan.{serves-not, serves-recent}
 use borrow.Author.Needs.{needs}
 use Rattle.answers.proofs.may_serve.Statement.{statement}
 use Rattle.answers.proofs.may_serve.Tie as tie

@@ -1,5 +1,5 @@
 -- `answers::replace` meets its contract. Assumes nothing.
-use Rattle.answers.proofs.Changes.{replaced}
+use Rattle.answers.proofs.AnswerChanges.{replaced}
 use borrow.Author.Needs.{needs}
 use Rattle.answers.proofs.replace.Statement.{statement}
 use Rattle.answers.proofs.replace.Tie as tie

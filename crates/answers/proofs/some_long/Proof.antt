@@ -5,7 +5,7 @@ use lib.ListN.{drop}
 use Rattle.lists.specs.Lists.{place}
 use Rattle.rules.specs.Answers.{isLong}
 use Rattle.rules.specs.Memory.{answersIn}
-use Rattle.answers.proofs.Scan.{scan-start, long-found, long-next, long-none}
+use Rattle.answers.proofs.AnswerScan.{scan-start, long-found, long-next, long-none}
 use borrow.Author.Needs.{needs}
 use Rattle.answers.proofs.some_long.Statement.{statement}
 use Rattle.answers.proofs.some_long.Tie as tie

@@ -7,11 +7,11 @@ use Rattle.cases_run.proofs.run_line.Statement.{statement}
 use Rattle.cases_run.proofs.run_line.Tie as tie
 
 abbrev Inv-loop : tie.InvT-loop
-Inv-loop table₀ nodes₀ answers₀ desks₀ tray₀ line times met₀ i₀ table nodes answers desks tray met i =
-    (i ≤ times) × ((length table ≡ length table₀) × ((length nodes ≡ length nodes₀) × ((length answers ≡ length answers₀) × ((length desks ≡ length desks₀) × (length tray ≡ length tray₀)))))
+Inv-loop table₀ nodes₀ answers₀ clients₀ tray₀ line times met₀ i₀ table nodes answers clients tray met i =
+    (i ≤ times) × ((length table ≡ length table₀) × ((length nodes ≡ length nodes₀) × ((length answers ≡ length answers₀) × ((length clients ≡ length clients₀) × (length tray ≡ length tray₀)))))
 
 abbrev μ-loop : tie.MeasureT-loop
-μ-loop table₀ nodes₀ answers₀ desks₀ tray₀ line times met₀ i₀ table nodes answers desks tray met i =
+μ-loop table₀ nodes₀ answers₀ clients₀ tray₀ line times met₀ i₀ table nodes answers clients tray met i =
     times - i
 
 loop-holds : tie.Need-loop-holds Inv-loop μ-loop

@@ -1,5 +1,5 @@
 -- `checks::bad_query` meets its contract: the columns as they arrive, then an insert's record. Assumes nothing.
-use Rattle.checks.proofs.Codes.{query-not, query-plain, query-record}
+use Rattle.checks.proofs.CheckCodes.{query-not, query-plain, query-record}
 use borrow.Author.Needs.{needs}
 use Rattle.checks.proofs.bad_query.Statement.{statement}
 use Rattle.checks.proofs.bad_query.Tie as tie

@@ -1,8 +1,8 @@
 -- `checks::evict_answer_code` meets its contract: the memories' own number, then the place. Assumes nothing.
 use mathlib.Core.Path.{sym, _∙_}
 use native.Mathlib.Omega.{arith}
-use Rattle.checks.proofs.Codes.{answer-out, answer-none, answer-there}
-use Rattle.checks.proofs.Sound.{sound-told}
+use Rattle.checks.proofs.CheckCodes.{answer-out, answer-none, answer-there}
+use Rattle.checks.proofs.SoundMemories.{sound-memories}
 use borrow.Author.Needs.{needs}
 use Rattle.checks.proofs.evict_answer_code.Statement.{statement}
 use Rattle.checks.proofs.evict_answer_code.Tie as tie
@@ -14,7 +14,7 @@ returns : tie.Need-returns
 returns c = answer-out _ _ (c .before .sound-code .ensures) _ (c .if1 .taken)
 
 shared-slice-read-if2 : tie.Need-shared-slice-read-if2
-shared-slice-read-if2 c = omega (arith, sound-told _ (sym (c .before .before .sound-code .ensures) ∙ c .before .if1 .left))
+shared-slice-read-if2 c = omega (arith, sound-memories _ (sym (c .before .before .sound-code .ensures) ∙ c .before .if1 .left))
 
 returns-2 : tie.Need-returns-2
 returns-2 c = answer-none _ _ (c .before .before .before .sound-code .ensures) _ (c .before .before .if1 .left) (c .if2 .taken)

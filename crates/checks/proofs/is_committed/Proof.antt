@@ -1,5 +1,5 @@
 -- `checks::is_committed` meets its contract: a read never is, a write by its steps. Assumes nothing.
-use Rattle.checks.proofs.Codes.{committed-read, committed-write}
+use Rattle.checks.proofs.CheckCodes.{committed-read, committed-write}
 use borrow.Author.Needs.{needs}
 use Rattle.checks.proofs.is_committed.Statement.{statement}
 use Rattle.checks.proofs.is_committed.Tie as tie

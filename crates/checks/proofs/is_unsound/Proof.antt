@@ -1,7 +1,7 @@
 -- `checks::is_unsound` meets its contract: one law for each way out. Assumes nothing.
 use native.Mathlib.Omega.{arith}
-use Rattle.rules.proofs.Passed.{long}
-use Rattle.checks.proofs.Codes.{unsound-none, unsound-many, unsound-records, unsound-nodes, unsound-answers, unsound-lists}
+use Rattle.rules.proofs.PassedChecks.{long}
+use Rattle.checks.proofs.CheckCodes.{unsound-none, unsound-many, unsound-records, unsound-nodes, unsound-answers, unsound-lists}
 use Rattle.checks.proofs.is_unsound.Statement.{statement}
 use Rattle.checks.proofs.is_unsound.Tie as tie
 

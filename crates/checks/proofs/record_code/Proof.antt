@@ -2,7 +2,7 @@
 use mathlib.Core.Path.{refl}
 use Prim.Native.Nat.{_-_, _≤_}
 use lib.ListN.{length}
-use Rattle.checks.proofs.Codes.{Rest, record-star, record-on, record-end}
+use Rattle.checks.proofs.CheckCodes.{Rest, record-star, record-on, record-end}
 use borrow.Author.Needs.{needs}
 use Rattle.checks.proofs.record_code.Statement.{statement}
 use Rattle.checks.proofs.record_code.Tie as tie

@@ -1,8 +1,8 @@
 -- `checks::renew_code` meets its contract: the memories' own number, then the clients. Assumes nothing.
 use mathlib.Core.Path.{sym, _∙_}
 use native.Mathlib.Omega.{arith}
-use Rattle.checks.proofs.Codes.{renew-out, renew-busy, renew-fine}
-use Rattle.checks.proofs.Sound.{sound-told}
+use Rattle.checks.proofs.CheckCodes.{renew-out, renew-busy, renew-fine}
+use Rattle.checks.proofs.SoundMemories.{sound-memories}
 use borrow.Author.Needs.{needs}
 use Rattle.checks.proofs.renew_code.Statement.{statement}
 use Rattle.checks.proofs.renew_code.Tie as tie
@@ -14,7 +14,7 @@ returns : tie.Need-returns
 returns c = renew-out _ _ (c .before .sound-code .ensures) (c .if1 .taken)
 
 all-idle-requires : tie.Need-all-idle-requires
-all-idle-requires c κs = omega (arith, sound-told _ (sym (c .before .sound-code .ensures) ∙ c .if1 .left))
+all-idle-requires c κs = omega (arith, sound-memories _ (sym (c .before .sound-code .ensures) ∙ c .if1 .left))
 
 returns-2 : tie.Need-returns-2
 returns-2 c = renew-busy _ _ (c .before .before .before .sound-code .ensures) (c .before .before .if1 .left) _ (c .before .all-idle .ensures) (c .if2 .taken)

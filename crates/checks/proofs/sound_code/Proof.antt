@@ -1,6 +1,6 @@
 -- `checks::sound_code` meets its contract: the lengths, then the contents. Assumes nothing.
 use mathlib.Core.Path.{sym, _∙_}
-use Rattle.checks.proofs.Codes.{sound-short, sound-not, sound-fine}
+use Rattle.checks.proofs.CheckCodes.{sound-short, sound-not, sound-fine}
 use borrow.Author.Needs.{needs}
 use Rattle.checks.proofs.sound_code.Statement.{statement}
 use Rattle.checks.proofs.sound_code.Tie as tie

@@ -1,6 +1,6 @@
 -- `checks::step_code` meets its contract: the lengths, then what is found at the client. Assumes nothing.
 use mathlib.Core.Path.{sym, _∙_}
-use Rattle.checks.proofs.Codes.{step-short, step-tray, step-found}
+use Rattle.checks.proofs.CheckCodes.{step-short, step-tray, step-found}
 use borrow.Author.Needs.{needs}
 use Rattle.checks.proofs.step_code.Statement.{statement}
 use Rattle.checks.proofs.step_code.Tie as tie
@@ -14,12 +14,12 @@ returns c = step-short _ _ _ (sym (c .if1 .taken) ∙ c .before .is-short .ensur
 returns-2 : tie.Need-returns-2
 returns-2 c = step-tray _ _ _ (sym (c .before .if1 .left) ∙ c .before .before .is-short .ensures) (c .if2 .taken)
 
-at-desk-requires : tie.Need-at-desk-requires
-at-desk-requires c κs = sym (sym (c .before .if1 .left) ∙ c .before .before .is-short .ensures)
+at-client-requires : tie.Need-at-client-requires
+at-client-requires c κs = sym (sym (c .before .if1 .left) ∙ c .before .before .is-short .ensures)
 
 returns-3 : tie.Need-returns-3
-returns-3 c = step-found _ _ _ _ (sym (c .before .before .if1 .left) ∙ c .before .before .before .is-short .ensures) (c .before .if2 .left) (c .at-desk .ensures)
+returns-3 c = step-found _ _ _ _ (sym (c .before .before .if1 .left) ∙ c .before .before .before .is-short .ensures) (c .before .if2 .left) (c .at-client .ensures)
 
 pub step-code-spec : {M : Type 1} → statement M
 step-code-spec =
-    tie.close (tie.spec is-short-requires returns returns-2 at-desk-requires returns-3)
+    tie.close (tie.spec is-short-requires returns returns-2 at-client-requires returns-3)

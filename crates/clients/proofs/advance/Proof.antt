@@ -1,5 +1,5 @@
 -- `clients::advance` meets its contract: number 1 is stored, one higher. Assumes nothing.
-use Rattle.clients.proofs.Changes.{stepped-left}
+use Rattle.clients.proofs.ClientChanges.{stepped-left}
 use borrow.Author.Needs.{needs}
 use Rattle.clients.proofs.advance.Statement.{statement}
 use Rattle.clients.proofs.advance.Tie as tie

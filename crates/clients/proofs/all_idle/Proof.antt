@@ -3,18 +3,18 @@ use mathlib.Core.Path.{_≡_}
 use mathlib.Core.Bool.{true}
 use Prim.Native.Nat.{_-_, _≤_}
 use Rattle.lists.specs.Lists.{allBelow}
-use Rattle.laws.proofs.Lists.{below-none}
-use Rattle.clients.specs.Clients.{idleAt}
-use Rattle.clients.proofs.Reading.{idle-next, idle-stops, idle-all}
+use Rattle.laws.proofs.ListLaws.{below-none}
+use Rattle.clients.specs.ClientContracts.{idleAt}
+use Rattle.clients.proofs.ClientReads.{idle-next, idle-stops, idle-all}
 use borrow.Author.Needs.{needs}
 use Rattle.clients.proofs.all_idle.Statement.{statement}
 use Rattle.clients.proofs.all_idle.Tie as tie
 
 abbrev Inv-loop : tie.InvT-loop
-Inv-loop desks d₀ d = (d ≤ 12) × (allBelow d (idleAt desks) ≡ true)
+Inv-loop clients d₀ d = (d ≤ 12) × (allBelow d (idleAt clients) ≡ true)
 
 abbrev μ-loop : tie.MeasureT-loop
-μ-loop desks d₀ d = 12 - d
+μ-loop clients d₀ d = 12 - d
 
 loop-holds : tie.Need-loop-holds Inv-loop μ-loop
 loop-holds c = (search needs, below-none _)

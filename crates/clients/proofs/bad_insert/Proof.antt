@@ -1,5 +1,5 @@
 -- `clients::bad_insert` meets its contract: an insert's named columns are counted. Assumes nothing.
-use Rattle.clients.proofs.Sound.{insert-other, insert-names}
+use Rattle.clients.proofs.ClientSound.{insert-other, insert-names}
 use borrow.Author.Needs.{needs}
 use Rattle.clients.proofs.bad_insert.Statement.{statement}
 use Rattle.clients.proofs.bad_insert.Tie as tie

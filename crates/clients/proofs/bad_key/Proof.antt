@@ -1,8 +1,8 @@
 -- `clients::bad_key` meets its contract: the key's part of the memory is tested. Assumes nothing.
 use mathlib.Core.Path.{ap, _∙_}
 use mathlib.Core.Bool.{not}
-use Rattle.query.specs.Words.{isKey}
-use Rattle.clients.proofs.Reading.{key-read}
+use Rattle.query.specs.Encoding.{isKey}
+use Rattle.clients.proofs.ClientReads.{key-read}
 use borrow.Author.Needs.{needs}
 use Rattle.clients.proofs.bad_key.Statement.{statement}
 use Rattle.clients.proofs.bad_key.Tie as tie

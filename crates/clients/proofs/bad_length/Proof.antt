@@ -1,7 +1,7 @@
 -- `clients::bad_length` meets its contract: number 12 is compared with the longest. Assumes nothing.
 use mathlib.Core.Path.{ap, _∙_}
 use lib.Dec.{ltb}
-use Rattle.clients.proofs.Reading.{length-read}
+use Rattle.clients.proofs.ClientReads.{length-read}
 use borrow.Author.Needs.{needs}
 use Rattle.clients.proofs.bad_length.Statement.{statement}
 use Rattle.clients.proofs.bad_length.Tie as tie

@@ -1,6 +1,6 @@
 -- `clients::begin` meets its contract: an idle client, its first five numbers and its key written. Assumes nothing.
 use mathlib.Core.Path.{_∙_}
-use Rattle.clients.proofs.Changes.{begun-left}
+use Rattle.clients.proofs.ClientChanges.{begun-left}
 use borrow.Author.Needs.{needs}
 use Rattle.clients.proofs.begin.Statement.{statement}
 use Rattle.clients.proofs.begin.Tie as tie

@@ -1,7 +1,7 @@
 -- `clients::columns_at` meets its contract: the marks and values of the client's key. Assumes nothing.
 use mathlib.Core.Path.{ap, _∙_}
-use Rattle.columns.specs.Columns.{four}
-use Rattle.clients.proofs.Reading.{columns-read}
+use Rattle.columns.specs.ColumnContracts.{four}
+use Rattle.clients.proofs.ClientReads.{columns-read}
 use borrow.Author.Needs.{needs}
 use Rattle.clients.proofs.columns_at.Statement.{statement}
 use Rattle.clients.proofs.columns_at.Tie as tie

@@ -4,7 +4,7 @@ use Prim.Native.Nat.{_*_, _≤_}
 use native.Mathlib.Omega.{arith}
 use lib.ListN.{length-take}
 use Rattle.lists.specs.Lists.{written}
-use Rattle.clients.proofs.Reading.{list-fits, list-read, length-read}
+use Rattle.clients.proofs.ClientReads.{list-fits, list-read, length-read}
 use borrow.Author.Needs.{needs}
 use Rattle.clients.proofs.give_list.Statement.{statement}
 use Rattle.clients.proofs.give_list.Tie as tie

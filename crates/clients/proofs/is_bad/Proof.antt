@@ -1,6 +1,6 @@
 -- `clients::is_bad` meets its contract: one law for each way out. Assumes nothing.
 use mathlib.Core.Path.{sym, _∙_}
-use Rattle.clients.proofs.Sound.{bad-none, bad-kind, bad-key, bad-insert, bad-step, bad-length}
+use Rattle.clients.proofs.ClientSound.{bad-none, bad-kind, bad-key, bad-insert, bad-step, bad-length}
 use borrow.Author.Needs.{needs}
 use Rattle.clients.proofs.is_bad.Statement.{statement}
 use Rattle.clients.proofs.is_bad.Tie as tie

@@ -1,5 +1,5 @@
 -- `clients::is_idle` meets its contract: the client's part of the memory is compared with zeros. Assumes nothing.
-use Rattle.clients.proofs.Reading.{idle-read}
+use Rattle.clients.proofs.ClientReads.{idle-read}
 use borrow.Author.Needs.{needs}
 use Rattle.clients.proofs.is_idle.Statement.{statement}
 use Rattle.clients.proofs.is_idle.Tie as tie

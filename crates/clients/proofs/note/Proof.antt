@@ -1,5 +1,5 @@
 -- `clients::note` meets its contract: a step counted, then one or two numbers stored. Assumes nothing.
-use Rattle.clients.proofs.Changes.{noted-quiet, noted-seen}
+use Rattle.clients.proofs.ClientChanges.{noted-quiet, noted-seen}
 use borrow.Author.Needs.{needs}
 use Rattle.clients.proofs.note.Statement.{statement}
 use Rattle.clients.proofs.note.Tie as tie

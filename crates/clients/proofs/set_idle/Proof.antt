@@ -1,5 +1,5 @@
 -- `clients::set_idle` meets its contract: the client's part is cleared whole. Assumes nothing.
-use Rattle.clients.proofs.Changes.{idle-left}
+use Rattle.clients.proofs.ClientChanges.{idle-left}
 use borrow.Author.Needs.{needs}
 use Rattle.clients.proofs.set_idle.Statement.{statement}
 use Rattle.clients.proofs.set_idle.Tie as tie

@@ -1,8 +1,8 @@
 -- `clients::set_list` meets its contract: a step counted, the length stored, and what is behind the list cleared. Assumes nothing.
 use Prim.Native.Nat.{_*_, _≤_}
 use native.Mathlib.Omega.{arith}
-use Rattle.rules.proofs.Clients.{list-room}
-use Rattle.clients.proofs.Changes.{list-left}
+use Rattle.rules.proofs.ClientLaws.{list-room}
+use Rattle.clients.proofs.ClientChanges.{list-left}
 use borrow.Author.Needs.{needs}
 use Rattle.clients.proofs.set_list.Statement.{statement}
 use Rattle.clients.proofs.set_list.Tie as tie

@@ -1,5 +1,5 @@
 -- `clients::set_wrote` meets its contract: a step counted, then two numbers stored. Assumes nothing.
-use Rattle.clients.proofs.Changes.{wrote-left}
+use Rattle.clients.proofs.ClientChanges.{wrote-left}
 use borrow.Author.Needs.{needs}
 use Rattle.clients.proofs.set_wrote.Statement.{statement}
 use Rattle.clients.proofs.set_wrote.Tie as tie

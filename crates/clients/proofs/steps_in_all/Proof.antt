@@ -1,6 +1,6 @@
 -- `clients::steps_in_all` meets its contract: a read's by the columns it names, a write's by k. Assumes nothing.
 use native.Mathlib.Omega.{arith}
-use Rattle.clients.proofs.Sound.{last-read, last-write, power-small, named-small}
+use Rattle.clients.proofs.ClientSound.{last-read, last-write, power-small, named-small}
 use borrow.Author.Needs.{needs}
 use Rattle.clients.proofs.steps_in_all.Statement.{statement}
 use Rattle.clients.proofs.steps_in_all.Tie as tie

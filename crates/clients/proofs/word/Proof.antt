@@ -1,6 +1,6 @@
 -- `clients::word` meets its contract: a client's number is the memory's at its place. Assumes nothing.
 use mathlib.Core.Path.{sym}
-use Rattle.clients.proofs.Memory.{word-at}
+use Rattle.clients.proofs.ClientMemory.{word-at}
 use borrow.Author.Needs.{needs}
 use Rattle.clients.proofs.word.Statement.{statement}
 use Rattle.clients.proofs.word.Tie as tie

@@ -1,6 +1,6 @@
 -- `columns::column_of` meets its contract, by the test of the mark. Assumes nothing.
 use borrow.Author.Tests.{ne-eqb}
-use Rattle.query.specs.Words.{columnOf}
+use Rattle.query.specs.Encoding.{columnOf}
 use Rattle.columns.proofs.column_of.Statement.{statement}
 use Rattle.columns.proofs.column_of.Tie as tie
 

@@ -2,7 +2,7 @@
 use Prim.Native.Nat.{_-_}
 use lib.ListN.{length}
 use borrow.Author.Needs.{needs}
-use Rattle.columns.proofs.Laws.{Arriving, arriving-none, arriving-more, arriving-all}
+use Rattle.columns.proofs.ColumnLoops.{Arriving, arriving-none, arriving-more, arriving-all}
 use Rattle.columns.proofs.columns_of.Statement.{statement}
 use Rattle.columns.proofs.columns_of.Tie as tie
 

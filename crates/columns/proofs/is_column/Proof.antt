@@ -1,5 +1,5 @@
 -- `columns::is_column` meets its contract, by the test of the mark. Assumes nothing.
-use Rattle.columns.proofs.Laws.{marked-wildcard, marked-value}
+use Rattle.columns.proofs.ColumnLoops.{marked-wildcard, marked-value}
 use Rattle.columns.proofs.is_column.Statement.{statement}
 use Rattle.columns.proofs.is_column.Tie as tie
 

@@ -1,6 +1,6 @@
 -- `columns::is_query` meets its contract: the length, then the marks. Assumes nothing.
 use borrow.Author.Needs.{needs}
-use Rattle.columns.proofs.Laws.{query-short, query-marked}
+use Rattle.columns.proofs.ColumnLoops.{query-short, query-marked}
 use Rattle.columns.proofs.is_query.Statement.{statement}
 use Rattle.columns.proofs.is_query.Tie as tie
 

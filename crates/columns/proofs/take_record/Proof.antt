@@ -2,7 +2,7 @@
 use Prim.Native.Nat.{_-_, _≤_}
 use lib.ListN.{take}
 use borrow.Author.Needs.{needs}
-use Rattle.columns.proofs.Laws.{Taking, taking-none, taking-more, taking-stops, taking-all}
+use Rattle.columns.proofs.ColumnLoops.{Taking, taking-none, taking-more, taking-stops, taking-all}
 use Rattle.columns.proofs.take_record.Statement.{statement}
 use Rattle.columns.proofs.take_record.Tie as tie
 

@@ -3,8 +3,8 @@ use mathlib.Core.Path.{_≡_, refl, sym, _∙_}
 use Prim.Native.Nat.{_-_, _≤_}
 use lib.ListN.{length, drop}
 use borrow.Author.Needs.{needs}
-use Rattle.query.specs.Words.{wellMarked}
-use Rattle.columns.proofs.Laws.{marked-odd, marked-no, marked-on, marked-end}
+use Rattle.query.specs.Encoding.{wellMarked}
+use Rattle.columns.proofs.ColumnLoops.{marked-odd, marked-no, marked-on, marked-end}
 use Rattle.columns.proofs.well_marked.Statement.{statement}
 use Rattle.columns.proofs.well_marked.Tie as tie
 

@@ -1,5 +1,5 @@
 -- `exports::mondzafeky_evict_node` meets its contract. Assumes nothing.
-use Rattle.exports.proofs.Laws.{sends}
+use Rattle.exports.proofs.ReplyLaws.{sends}
 use borrow.Author.Needs.{needs}
 use Rattle.exports.proofs.mondzafeky_evict_node.Statement.{statement}
 use Rattle.exports.proofs.mondzafeky_evict_node.Tie as tie

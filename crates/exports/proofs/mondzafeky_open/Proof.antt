@@ -1,5 +1,5 @@
 -- `exports::mondzafeky_open` meets its contract. Assumes nothing.
-use Rattle.exports.proofs.Laws.{sends}
+use Rattle.exports.proofs.ReplyLaws.{sends}
 use borrow.Author.Needs.{needs}
 use Rattle.exports.proofs.mondzafeky_open.Statement.{statement}
 use Rattle.exports.proofs.mondzafeky_open.Tie as tie

@@ -1,5 +1,5 @@
 -- `exports::mondzafeky_step` meets its contract. Assumes nothing.
-use Rattle.exports.proofs.Laws.{step-sends}
+use Rattle.exports.proofs.ReplyLaws.{step-sends}
 use borrow.Author.Needs.{needs}
 use Rattle.exports.proofs.mondzafeky_step.Statement.{statement}
 use Rattle.exports.proofs.mondzafeky_step.Tie as tie

@@ -1,6 +1,6 @@
 -- `nodes::add` meets its contract: eight numbers are written behind the last node, then the count is set. Assumes nothing.
 use borrow.Author.Needs.{needs}
-use Rattle.nodes.proofs.Stores.{store-added}
+use Rattle.nodes.proofs.NodeStores.{store-added}
 use Rattle.nodes.proofs.add.Statement.{statement}
 use Rattle.nodes.proofs.add.Tie as tie
 

@@ -2,7 +2,7 @@
 use native.Mathlib.Omega.{arith}
 use lib.ListN.{length-set}
 use borrow.Author.Needs.{needs}
-use Rattle.nodes.proofs.Stores.{store-none}
+use Rattle.nodes.proofs.NodeStores.{store-none}
 use Rattle.nodes.proofs.empty.Statement.{statement}
 use Rattle.nodes.proofs.empty.Tie as tie
 

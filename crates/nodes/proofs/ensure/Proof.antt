@@ -5,8 +5,8 @@ use borrow.Author.Needs.{needs}
 use Prim.Native.Nat.{_<_}
 use lib.ListN.{getD}
 use borrow.Author.Tests.{not-true, not-false}
-use Rattle.nodes.specs.Nodes.{Fit}
-use Rattle.nodes.proofs.Present.{room-fit, ensure-there, ensure-none, ensure-added}
+use Rattle.nodes.specs.NodeContracts.{Fit}
+use Rattle.nodes.proofs.NodePresent.{room-fit, ensure-there, ensure-none, ensure-added}
 use Rattle.nodes.proofs.ensure.Statement.{statement}
 use Rattle.nodes.proofs.ensure.Tie as tie
 

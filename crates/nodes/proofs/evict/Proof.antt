@@ -2,7 +2,7 @@
 use native.Mathlib.Omega.{arith}
 use lib.ListN.{length-set}
 use borrow.Author.Needs.{needs}
-use Rattle.nodes.proofs.Stores.{store-evict}
+use Rattle.nodes.proofs.NodeStores.{store-evict}
 use Rattle.nodes.proofs.evict.Statement.{statement}
 use Rattle.nodes.proofs.evict.Tie as tie
 

@@ -3,7 +3,7 @@ use Prim.Native.Nat.{_-_, _≤_}
 use mathlib.Core.Path.{sym, _∙_}
 use borrow.Author.Needs.{needs}
 use Rattle.rules.specs.Nodes.{hasLabel, nodePlace}
-use Rattle.nodes.proofs.Scans.{Past, scan-start, scan-found, scan-next, scan-none, label-test}
+use Rattle.nodes.proofs.NodeScans.{Past, scan-start, scan-found, scan-next, scan-none, label-test}
 use Rattle.nodes.proofs.find.Statement.{statement}
 use Rattle.nodes.proofs.find.Tie as tie
 

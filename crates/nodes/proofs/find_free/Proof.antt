@@ -2,7 +2,7 @@
 use Prim.Native.Nat.{_-_, _≤_}
 use borrow.Author.Needs.{needs}
 use Rattle.rules.specs.Nodes.{isFree, oldestFree}
-use Rattle.nodes.proofs.Scans.{Past, scan-start, scan-found, scan-next, scan-none, free-test, busy-test}
+use Rattle.nodes.proofs.NodeScans.{Past, scan-start, scan-found, scan-next, scan-none, free-test, busy-test}
 use Rattle.nodes.proofs.find_free.Statement.{statement}
 use Rattle.nodes.proofs.find_free.Tie as tie
 

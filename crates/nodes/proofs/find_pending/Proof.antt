@@ -1,6 +1,6 @@
 -- `nodes::find_pending` meets its contract. Assumes nothing.
 use borrow.Author.Needs.{needs}
-use Rattle.nodes.proofs.Present.{spot-missing, spot-idle, spot-there}
+use Rattle.nodes.proofs.NodePresent.{spot-missing, spot-idle, spot-there}
 use Rattle.nodes.proofs.find_pending.Statement.{statement}
 use Rattle.nodes.proofs.find_pending.Tie as tie
 

@@ -1,6 +1,6 @@
 -- `nodes::has_label` meets its contract: of the first two numbers one differs, or they agree and the last three decide. Assumes nothing.
 use borrow.Author.Needs.{needs}
-use Rattle.nodes.proofs.Scans.{label-differs, label-decided}
+use Rattle.nodes.proofs.NodeScans.{label-differs, label-decided}
 use Rattle.nodes.proofs.has_label.Statement.{statement}
 use Rattle.nodes.proofs.has_label.Tie as tie
 

@@ -2,7 +2,7 @@
 use Prim.Native.Nat.{_-_, _≤_}
 use borrow.Author.Needs.{needs}
 use Rattle.rules.specs.Nodes.{isHigh}
-use Rattle.nodes.proofs.Scans.{Past, scan-start, scan-next, low-test, worn-floor, worn-node, worn-not}
+use Rattle.nodes.proofs.NodeScans.{Past, scan-start, scan-next, low-test, worn-floor, worn-node, worn-not}
 use Rattle.nodes.proofs.is_worn.Statement.{statement}
 use Rattle.nodes.proofs.is_worn.Tie as tie
 

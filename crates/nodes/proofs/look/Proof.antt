@@ -1,6 +1,6 @@
 -- `nodes::look` meets its contract: two numbers of the node that `ensure` has made present. Assumes nothing.
 use borrow.Author.Needs.{needs}
-use Rattle.nodes.proofs.Present.{There, stands, look-stuck, look-seen}
+use Rattle.nodes.proofs.NodePresent.{There, stands, look-stuck, look-seen}
 use Rattle.nodes.proofs.look.Statement.{statement}
 use Rattle.nodes.proofs.look.Tie as tie
 

@@ -1,6 +1,6 @@
 -- `nodes::make_room` meets its contract, at each of its ways out. Assumes nothing.
 use borrow.Author.Needs.{needs}
-use Rattle.nodes.proofs.Present.{room-there, room-none, room-made}
+use Rattle.nodes.proofs.NodePresent.{room-there, room-none, room-made}
 use Rattle.nodes.proofs.make_room.Statement.{statement}
 use Rattle.nodes.proofs.make_room.Tie as tie
 

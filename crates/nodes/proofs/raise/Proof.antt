@@ -2,7 +2,7 @@
 use borrow.Author.Needs.{needs}
 use native.Mathlib.Omega.{arith}
 use lib.ListN.{length-set}
-use Rattle.nodes.proofs.Present.{raise-missing, raise-idle, raise-largest, raise-both}
+use Rattle.nodes.proofs.NodePresent.{raise-missing, raise-idle, raise-largest, raise-both}
 use Rattle.nodes.proofs.raise.Statement.{statement}
 use Rattle.nodes.proofs.raise.Tie as tie
 

@@ -1,6 +1,6 @@
 -- `reading::fetch_step` meets its contract: one more step, or the filed answer that was found. Assumes nothing.
-use Rattle.answers.proofs.Scan.{short-answer}
-use Rattle.reading.proofs.Base.{few-looks, made-small}
+use Rattle.answers.proofs.AnswerScan.{short-answer}
+use Rattle.reading.proofs.ReadClient.{few-looks, made-small}
 use Rattle.reading.proofs.Filing.{fetch-not, fetch-given}
 use borrow.Author.Needs.{needs}
 use Rattle.reading.proofs.fetch_step.Statement.{statement}

@@ -1,5 +1,5 @@
 -- `reading::file_step` meets its contract: the client's own entry filed, its list given. Assumes nothing.
-use Rattle.reading.proofs.Base.{short-list}
+use Rattle.reading.proofs.ReadClient.{short-list}
 use Rattle.reading.proofs.Filing.{file-left}
 use borrow.Author.Needs.{needs}
 use Rattle.reading.proofs.file_step.Statement.{statement}

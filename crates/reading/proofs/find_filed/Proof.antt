@@ -1,12 +1,12 @@
 -- `reading::find_filed` meets its contract: the count where a mark was seen, else what `fetch` finds. Assumes nothing.
 use mathlib.Core.Path.{refl}
-use Rattle.reading.proofs.Filing.{found-mark, found-search}
+use Rattle.reading.proofs.Filing.{found-pending, found-search}
 use borrow.Author.Needs.{needs}
 use Rattle.reading.proofs.find_filed.Statement.{statement}
 use Rattle.reading.proofs.find_filed.Tie as tie
 
-saw-mark-requires : tie.Need-saw-mark-requires
-saw-mark-requires c κs = search needs
+saw-pending-requires : tie.Need-saw-pending-requires
+saw-pending-requires c κs = search needs
 
 shared-slice-read-result : tie.Need-shared-slice-read-result
 shared-slice-read-result c = search needs
@@ -15,7 +15,7 @@ cast-result : tie.Need-cast-result
 cast-result c = search needs
 
 returns : tie.Need-returns
-returns c = found-mark _ _ _ _ _ (c .before .before .saw-mark .ensures) (c .before .if1 .taken) refl
+returns c = found-pending _ _ _ _ _ (c .before .before .saw-pending .ensures) (c .before .if1 .taken) refl
 
 steps-of-requires : tie.Need-steps-of-requires
 steps-of-requires c κs = search needs
@@ -51,13 +51,13 @@ fetch-requires : tie.Need-fetch-requires
 fetch-requires c κs = search needs
 
 returns-2 : tie.Need-returns-2
-returns-2 c = found-search _ _ _ _ _ _ (c .before .before .before .before .saw-mark .ensures) (c .before .before .before .if1 .left) (c .before .before .steps-of .ensures) (c .before .before .before .before .before .before .before .pre .client) (c .fetch .ensures)
+returns-2 c = found-search _ _ _ _ _ _ (c .before .before .before .before .saw-pending .ensures) (c .before .before .before .if1 .left) (c .before .before .steps-of .ensures) (c .before .before .before .before .before .before .before .pre .client) (c .fetch .ensures)
 
 pub find-filed-spec : {M : Type 1} → statement M
 find-filed-spec =
     tie.close
     (tie.spec
-    saw-mark-requires
+    saw-pending-requires
     shared-slice-read-result
     cast-result
     returns

@@ -1,6 +1,6 @@
 -- `reading::look_step` meets its contract: what the node's revision and pending writes leave noted, or a refusal. Assumes nothing.
 use native.Mathlib.Omega.{arith}
-use Rattle.reading.proofs.Base.{few-looks, made-small}
+use Rattle.reading.proofs.ReadClient.{few-looks, made-small}
 use Rattle.reading.proofs.Looking.{look-below, look-stuck, look-noted}
 use borrow.Author.Needs.{needs}
 use Rattle.reading.proofs.look_step.Statement.{statement}

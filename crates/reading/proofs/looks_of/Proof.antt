@@ -1,6 +1,6 @@
 -- `reading::looks_of` meets its contract: a power of the named columns. Assumes nothing.
-use Rattle.clients.proofs.Sound.{named-small}
-use Rattle.reading.proofs.Base.{looks-are}
+use Rattle.clients.proofs.ClientSound.{named-small}
+use Rattle.reading.proofs.ReadClient.{looks-are}
 use borrow.Author.Needs.{needs}
 use Rattle.reading.proofs.looks_of.Statement.{statement}
 use Rattle.reading.proofs.looks_of.Tie as tie

@@ -1,5 +1,5 @@
 -- `reading::read_step` meets its contract: what the step that is due ensures. Assumes nothing.
-use Rattle.reading.proofs.Base.{few-steps}
+use Rattle.reading.proofs.ReadClient.{few-steps}
 use borrow.Author.Needs.{needs}
 use Rattle.reading.proofs.read_step.Statement.{statement}
 use Rattle.reading.proofs.read_step.Tie as tie

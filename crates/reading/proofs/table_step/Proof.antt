@@ -1,8 +1,8 @@
 -- `reading::table_step` meets its contract: too long, kept for the file step, or given at once. Assumes nothing.
 use native.Mathlib.Omega.{arith}
 use lib.ListN.{length-take}
-use Rattle.rules.proofs.Clients.{list-room}
-use Rattle.reading.proofs.Base.{made-small}
+use Rattle.rules.proofs.ClientLaws.{list-room}
+use Rattle.reading.proofs.ReadClient.{made-small}
 use Rattle.reading.proofs.Listing.{steps-kept, table-long, table-held, table-given}
 use borrow.Author.Needs.{needs}
 use Rattle.reading.proofs.table_step.Statement.{statement}
@@ -20,8 +20,8 @@ same-length c = search needs
 returns : tie.Need-returns
 returns c = table-long _ _ _ _ (c .before .before .before .before .before .before .before .before .before .before .before .before .pre .read) (c .before .before .before .before .before .before .before .before .before .before .before .before .pre .fit) _ _ (c .before .before .before .before .before .before .before .gather-list .ensures .0) (c .before .before .before .before .before .before .before .gather-list .ensures .1) (c .before .before .before .before .before .before .before .before .before .before .before .before .pre .step) _ _ (c .before .before .before .before .if1 .taken) (c .before .before .set-idle .ensures)
 
-saw-mark-requires : tie.Need-saw-mark-requires
-saw-mark-requires c κs = search needs
+saw-pending-requires : tie.Need-saw-pending-requires
+saw-pending-requires c κs = search needs
 
 set-list-requires : tie.Need-set-list-requires
 set-list-requires c κs = (search needs, (search needs, (search needs, (search needs, omega (arith, made-small _ _ _ (c .before .before .before .before .before .before .before .before .before .before .before .before .pre .read), steps-kept _ _ _ _ (c .before .before .before .before .before .before .before .before .before .before .before .before .pre .read) (c .before .before .before .before .before .before .before .before .before .before .before .before .pre .fit) _ _ (c .before .before .before .before .before .before .before .gather-list .ensures .0) (c .before .before .before .before .before .before .before .gather-list .ensures .1))))))
@@ -30,7 +30,7 @@ same-length-2 : tie.Need-same-length-2
 same-length-2 c = search needs
 
 returns-2 : tie.Need-returns-2
-returns-2 c = table-held _ _ _ _ (c .before .before .before .before .before .before .before .before .before .before .before .before .before .before .before .pre .read) (c .before .before .before .before .before .before .before .before .before .before .before .before .before .before .before .pre .fit) _ _ (c .before .before .before .before .before .before .before .before .before .before .gather-list .ensures .0) (c .before .before .before .before .before .before .before .before .before .before .gather-list .ensures .1) (c .before .before .before .before .before .before .before .before .before .before .before .before .before .before .before .pre .step) _ _ (c .before .before .before .before .before .before .before .if1 .left) _ (c .before .before .before .before .before .saw-mark .ensures) (c .before .before .before .before .if2 .taken) (c .before .before .set-list .ensures)
+returns-2 c = table-held _ _ _ _ (c .before .before .before .before .before .before .before .before .before .before .before .before .before .before .before .pre .read) (c .before .before .before .before .before .before .before .before .before .before .before .before .before .before .before .pre .fit) _ _ (c .before .before .before .before .before .before .before .before .before .before .gather-list .ensures .0) (c .before .before .before .before .before .before .before .before .before .before .gather-list .ensures .1) (c .before .before .before .before .before .before .before .before .before .before .before .before .before .before .before .pre .step) _ _ (c .before .before .before .before .before .before .before .if1 .left) _ (c .before .before .before .before .before .saw-pending .ensures) (c .before .before .before .before .if2 .taken) (c .before .before .set-list .ensures)
 
 mul-at : tie.Need-mul-at
 mul-at c = search needs
@@ -75,7 +75,7 @@ same-length-4 : tie.Need-same-length-4
 same-length-4 c = search needs
 
 returns-3 : tie.Need-returns-3
-returns-3 c = table-given _ _ _ _ (c .before .before .before .before .before .before .before .before .before .before .before .before .before .before .before .before .before .before .before .before .before .pre .read) (c .before .before .before .before .before .before .before .before .before .before .before .before .before .before .before .before .before .before .before .before .before .pre .fit) _ _ (c .before .before .before .before .before .before .before .before .before .before .before .before .before .before .before .before .gather-list .ensures .0) (c .before .before .before .before .before .before .before .before .before .before .before .before .before .before .before .before .gather-list .ensures .1) (c .before .before .before .before .before .before .before .before .before .before .before .before .before .before .before .before .before .before .before .before .before .pre .step) _ _ (c .before .before .before .before .before .before .before .before .before .before .before .before .before .if1 .left) _ _ (c .before .before .before .before .before .before .before .before .before .before .before .saw-mark .ensures) (c .before .before .before .before .before .before .before .before .before .before .if2 .left) (c .before .before .before .before .before .before .write .ensures) (c .before .before .set-idle2 .ensures)
+returns-3 c = table-given _ _ _ _ (c .before .before .before .before .before .before .before .before .before .before .before .before .before .before .before .before .before .before .before .before .before .pre .read) (c .before .before .before .before .before .before .before .before .before .before .before .before .before .before .before .before .before .before .before .before .before .pre .fit) _ _ (c .before .before .before .before .before .before .before .before .before .before .before .before .before .before .before .before .gather-list .ensures .0) (c .before .before .before .before .before .before .before .before .before .before .before .before .before .before .before .before .gather-list .ensures .1) (c .before .before .before .before .before .before .before .before .before .before .before .before .before .before .before .before .before .before .before .before .before .pre .step) _ _ (c .before .before .before .before .before .before .before .before .before .before .before .before .before .if1 .left) _ _ (c .before .before .before .before .before .before .before .before .before .before .before .saw-pending .ensures) (c .before .before .before .before .before .before .before .before .before .before .if2 .left) (c .before .before .before .before .before .before .write .ensures) (c .before .before .set-idle2 .ensures)
 
 pub table-step-spec : {M : Type 1} → statement M
 table-step-spec =
@@ -85,7 +85,7 @@ table-step-spec =
     set-idle-requires
     same-length
     returns
-    saw-mark-requires
+    saw-pending-requires
     set-list-requires
     same-length-2
     returns-2

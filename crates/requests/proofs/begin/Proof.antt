@@ -1,9 +1,9 @@
 -- `requests::begin` meets its contract: a refusal, or the client with its kind and its key. Assumes nothing.
 use mathlib.Core.Path.{sym, _∙_}
-use Rattle.rules.specs.Calls.{beginDid}
-use Rattle.rules.proofs.Passed.{begin-told}
-use Rattle.checks.proofs.Sound.{client-fit}
-use Rattle.requests.proofs.Laws.{asked-short, refused, begins}
+use Rattle.rules.specs.Calls.{beginResult}
+use Rattle.rules.proofs.PassedChecks.{begin-passed}
+use Rattle.checks.proofs.SoundMemories.{client-fit}
+use Rattle.requests.proofs.CallLaws.{asked-short, refused, begins}
 use borrow.Author.Needs.{needs}
 use Rattle.requests.proofs.begin.Statement.{statement}
 use Rattle.requests.proofs.begin.Tie as tie
@@ -24,17 +24,17 @@ same-length-4 : tie.Need-same-length-4
 same-length-4 c = search needs
 
 returns : tie.Need-returns
-unfolding beginDid
+unfolding beginResult
 returns c = refused _ _ _ (c .before .begin-code .ensures) _ (c .if1 .taken)
 
 key-of-requires : tie.Need-key-of-requires
-key-of-requires c κs = asked-short _ _ _ _ (begin-told _ _ _ _ (sym (c .before .begin-code .ensures) ∙ c .if1 .left))
+key-of-requires c κs = asked-short _ _ _ _ (begin-passed _ _ _ _ (sym (c .before .begin-code .ensures) ∙ c .if1 .left))
 
 slice-aggregate-begin : tie.Need-slice-aggregate-begin
 slice-aggregate-begin c = search needs
 
 begin-requires : tie.Need-begin-requires
-begin-requires c κs = let t = begin-told _ _ _ _ (sym (c .before .before .before .before .begin-code .ensures) ∙ c .before .before .before .if1 .left) in (client-fit _ (t .memories) _ (t .desk), search needs)
+begin-requires c κs = let t = begin-passed _ _ _ _ (sym (c .before .before .before .before .begin-code .ensures) ∙ c .before .before .before .if1 .left) in (client-fit _ (t .memories) _ (t .below), search needs)
 
 same-length-5 : tie.Need-same-length-5
 same-length-5 c = search needs

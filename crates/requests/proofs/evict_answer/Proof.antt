@@ -1,9 +1,9 @@
 -- `requests::evict_answer` meets its contract: a refusal, or the filed answer at the place taken out. Assumes nothing.
 use mathlib.Core.Path.{sym, _∙_}
-use Rattle.rules.specs.Calls.{evictAnswerDid}
-use Rattle.rules.proofs.Passed.{evict-answer-told}
-use Rattle.checks.proofs.Sound.{answers-fit}
-use Rattle.requests.proofs.Laws.{refused, answer-goes}
+use Rattle.rules.specs.Calls.{evictAnswerResult}
+use Rattle.rules.proofs.PassedChecks.{evict-answer-passed}
+use Rattle.checks.proofs.SoundMemories.{answers-fit}
+use Rattle.requests.proofs.CallLaws.{refused, answer-goes}
 use borrow.Author.Needs.{needs}
 use Rattle.requests.proofs.evict_answer.Statement.{statement}
 use Rattle.requests.proofs.evict_answer.Tie as tie
@@ -24,11 +24,11 @@ same-length-4 : tie.Need-same-length-4
 same-length-4 c = search needs
 
 returns : tie.Need-returns
-unfolding evictAnswerDid
+unfolding evictAnswerResult
 returns c = refused _ _ _ (c .before .evict-answer-code .ensures) _ (c .if1 .taken)
 
 evict-requires : tie.Need-evict-requires
-evict-requires c κs = let t = evict-answer-told _ _ (sym (c .before .before .evict-answer-code .ensures) ∙ c .before .if1 .left) in (answers-fit _ (t .0), t .1)
+evict-requires c κs = let t = evict-answer-passed _ _ (sym (c .before .before .evict-answer-code .ensures) ∙ c .before .if1 .left) in (answers-fit _ (t .0), t .1)
 
 same-length-5 : tie.Need-same-length-5
 same-length-5 c = search needs

@@ -1,9 +1,9 @@
 -- `requests::evict_node` meets its contract: a refusal, or the node at the place taken out. Assumes nothing.
 use mathlib.Core.Path.{sym, _∙_}
-use Rattle.rules.specs.Calls.{evictNodeDid}
-use Rattle.rules.proofs.Passed.{evict-node-told}
-use Rattle.checks.proofs.Sound.{nodes-fit}
-use Rattle.requests.proofs.Laws.{refused, node-goes}
+use Rattle.rules.specs.Calls.{evictNodeResult}
+use Rattle.rules.proofs.PassedChecks.{evict-node-passed}
+use Rattle.checks.proofs.SoundMemories.{nodes-fit}
+use Rattle.requests.proofs.CallLaws.{refused, node-goes}
 use borrow.Author.Needs.{needs}
 use Rattle.requests.proofs.evict_node.Statement.{statement}
 use Rattle.requests.proofs.evict_node.Tie as tie
@@ -24,11 +24,11 @@ same-length-4 : tie.Need-same-length-4
 same-length-4 c = search needs
 
 returns : tie.Need-returns
-unfolding evictNodeDid
+unfolding evictNodeResult
 returns c = refused _ _ _ (c .before .evict-node-code .ensures) _ (c .if1 .taken)
 
 evict-requires : tie.Need-evict-requires
-evict-requires c κs = let t = evict-node-told _ _ (sym (c .before .before .evict-node-code .ensures) ∙ c .before .if1 .left) in (nodes-fit _ (t .0), t .1)
+evict-requires c κs = let t = evict-node-passed _ _ (sym (c .before .before .evict-node-code .ensures) ∙ c .before .if1 .left) in (nodes-fit _ (t .0), t .1)
 
 same-length-5 : tie.Need-same-length-5
 same-length-5 c = search needs

@@ -1,5 +1,5 @@
 -- `requests::key_of` meets its contract. Assumes nothing.
-use Rattle.requests.proofs.Laws.{key-is}
+use Rattle.requests.proofs.CallLaws.{key-is}
 use borrow.Author.Needs.{needs}
 use Rattle.requests.proofs.key_of.Statement.{statement}
 use Rattle.requests.proofs.key_of.Tie as tie

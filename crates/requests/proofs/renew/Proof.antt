@@ -1,9 +1,9 @@
 -- `requests::renew` meets its contract: a refusal, or no nodes and no answers. Assumes nothing.
 use mathlib.Core.Path.{sym, _∙_}
-use Rattle.rules.specs.Calls.{renewDid}
-use Rattle.rules.proofs.Passed.{renew-told}
-use Rattle.checks.proofs.Sound.{nodes-fit, answers-fit}
-use Rattle.requests.proofs.Laws.{refused, renews}
+use Rattle.rules.specs.Calls.{renewResult}
+use Rattle.rules.proofs.PassedChecks.{renew-passed}
+use Rattle.checks.proofs.SoundMemories.{nodes-fit, answers-fit}
+use Rattle.requests.proofs.CallLaws.{refused, renews}
 use borrow.Author.Needs.{needs}
 use Rattle.requests.proofs.renew.Statement.{statement}
 use Rattle.requests.proofs.renew.Tie as tie
@@ -25,14 +25,14 @@ same-length-4 : tie.Need-same-length-4
 same-length-4 c = search needs
 
 returns : tie.Need-returns
-unfolding renewDid
+unfolding renewResult
 returns c = refused _ _ _ (c .before .renew-code .ensures) _ (c .if1 .taken)
 
 empty-requires : tie.Need-empty-requires
-empty-requires c κs = nodes-fit _ (renew-told _ (sym (c .before .before .renew-code .ensures) ∙ c .before .if1 .left) .0)
+empty-requires c κs = nodes-fit _ (renew-passed _ (sym (c .before .before .renew-code .ensures) ∙ c .before .if1 .left) .0)
 
 empty-requires-2 : tie.Need-empty-requires-2
-empty-requires-2 c κs = answers-fit _ (renew-told _ (sym (c .before .before .before .before .before .before .renew-code .ensures) ∙ c .before .before .before .before .before .if1 .left) .0)
+empty-requires-2 c κs = answers-fit _ (renew-passed _ (sym (c .before .before .before .before .before .before .renew-code .ensures) ∙ c .before .before .before .before .before .if1 .left) .0)
 
 same-length-5 : tie.Need-same-length-5
 same-length-5 c = search needs

@@ -2,7 +2,7 @@
 use mathlib.Core.Path.{_∙_}
 use native.Mathlib.Omega.{arith}
 use borrow.Author.Needs.{needs}
-use Rattle.steps.proofs.Passed.{desks-long, desk-fit, store-fit, abandon-refused, abandon-busy, abandon-read, abandon-writes, abandon-before, abandon-write}
+use Rattle.steps.proofs.PassedStep.{clients-long, busy-fit, store-fit, abandon-refused, abandon-busy, abandon-read, abandon-writes, abandon-before, abandon-write}
 use Rattle.steps.proofs.abandon.Statement.{statement}
 use Rattle.steps.proofs.abandon.Tie as tie
 
@@ -25,16 +25,16 @@ returns : tie.Need-returns
 returns c = abandon-refused _ _ _ (c .before .abandon-code .ensures) (c .if1 .taken)
 
 slice-read-k : tie.Need-slice-read-k
-slice-read-k c = omega (arith, desks-long _ _ (abandon-busy _ _ _ (c .before .before .abandon-code .ensures) (c .before .if1 .left)))
+slice-read-k c = omega (arith, clients-long _ _ (abandon-busy _ _ _ (c .before .before .abandon-code .ensures) (c .before .if1 .left)))
 
 cast-k : tie.Need-cast-k
 cast-k c = omega (arith, c .slice-known5 .given 0)
 
 kind-of-requires : tie.Need-kind-of-requires
-kind-of-requires c κs = desk-fit _ _ (abandon-busy _ _ _ (c .before .before .before .abandon-code .ensures) (c .before .before .if1 .left))
+kind-of-requires c κs = busy-fit _ _ (abandon-busy _ _ _ (c .before .before .before .abandon-code .ensures) (c .before .before .if1 .left))
 
 set-idle-requires : tie.Need-set-idle-requires
-set-idle-requires c κs = desk-fit _ _ (abandon-busy _ _ _ (c .before .before .before .before .before .before .abandon-code .ensures) (c .before .before .before .before .before .if1 .left))
+set-idle-requires c κs = busy-fit _ _ (abandon-busy _ _ _ (c .before .before .before .before .before .before .abandon-code .ensures) (c .before .before .before .before .before .if1 .left))
 
 same-length-5 : tie.Need-same-length-5
 same-length-5 c = search needs

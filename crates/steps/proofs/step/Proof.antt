@@ -2,7 +2,7 @@
 use mathlib.Core.Path.{_∙_}
 use native.Mathlib.Omega.{arith}
 use borrow.Author.Needs.{needs}
-use Rattle.steps.proofs.Passed.{desks-long, desk-fit, store-fit, table-fit, step-refused, step-busy, step-reads, step-read, step-writes, step-write}
+use Rattle.steps.proofs.PassedStep.{clients-long, busy-fit, store-fit, table-fit, step-refused, step-busy, step-reads, step-read, step-writes, step-write}
 use Rattle.steps.proofs.step.Statement.{statement}
 use Rattle.steps.proofs.step.Tie as tie
 
@@ -28,13 +28,13 @@ returns : tie.Need-returns
 returns c = step-refused _ _ _ _ (c .before .step-code .ensures) (c .if1 .taken)
 
 slice-read-k : tie.Need-slice-read-k
-slice-read-k c = omega (arith, desks-long _ _ (step-busy _ _ _ _ (c .before .before .step-code .ensures) (c .before .if1 .left)))
+slice-read-k c = omega (arith, clients-long _ _ (step-busy _ _ _ _ (c .before .before .step-code .ensures) (c .before .if1 .left)))
 
 cast-k : tie.Need-cast-k
 cast-k c = omega (arith, c .slice-known6 .given 0)
 
 kind-of-requires : tie.Need-kind-of-requires
-kind-of-requires c κs = desk-fit _ _ (step-busy _ _ _ _ (c .before .before .before .step-code .ensures) (c .before .before .if1 .left))
+kind-of-requires c κs = busy-fit _ _ (step-busy _ _ _ _ (c .before .before .before .step-code .ensures) (c .before .before .if1 .left))
 
 read-step-requires : tie.Need-read-step-requires
 read-step-requires c κs = step-reads _ _ _ _ (c .before .before .before .before .before .before .before .before .before .before .step-code .ensures) (c .before .before .before .before .before .before .before .before .before .if1 .left) _ (c .before .before .before .before .before .before .kind-of .ensures) (c .before .before .before .before .before .if2 .taken)

@@ -9,7 +9,7 @@ use borrow.Author.Needs.{needs}
 use Rattle.rules.specs.Sizes.{tableLeast}
 use Rattle.rules.specs.Table.{delete, outside}
 use Rattle.rules.specs.Memory.{recordsIn}
-use Rattle.table.proofs.Memory.{write-length, scan-in, scan-end, length-records, part-is, part-long, tested}
+use Rattle.table.proofs.TableMemory.{write-length, scan-in, scan-end, length-records, part-is, part-long, tested}
 use Rattle.table.proofs.Deleting.{Deleting, delete-none, stays, goes, turn-stays, turn-goes, delete-all}
 use Rattle.table.proofs.delete.Statement.{statement}
 use Rattle.table.proofs.delete.Tie as tie

@@ -9,7 +9,7 @@ use Rattle.query.specs.Query.{lies}
 use Rattle.rules.specs.Sizes.{tableLeast}
 use Rattle.rules.specs.Table.{listOf}
 use Rattle.rules.specs.Memory.{recordsIn}
-use Rattle.table.proofs.Memory.{scan-in, length-records, wide-records, part-is, part-long, tested}
+use Rattle.table.proofs.TableMemory.{scan-in, length-records, wide-records, part-is, part-long, tested}
 use Rattle.table.proofs.Gathering.{Gathering, gather-none, out-room, turn-found, turn-other, gather-many, gather-all}
 use Rattle.table.proofs.gather.Statement.{statement}
 use Rattle.table.proofs.gather.Tie as tie

@@ -6,7 +6,7 @@ use native.Mathlib.Omega.{arith}
 use lib.ListN.{length, getD}
 use borrow.Author.Needs.{needs}
 use Rattle.rules.specs.Sizes.{tableLeast}
-use Rattle.table.proofs.Memory.{scan-end, in-use, room-for}
+use Rattle.table.proofs.TableMemory.{scan-end, in-use, room-for}
 use Rattle.table.proofs.Seeking.{spot-in, insert-there, insert-full, insert-added}
 use Rattle.table.proofs.insert.Statement.{statement}
 use Rattle.table.proofs.insert.Tie as tie

@@ -1,5 +1,5 @@
 -- `writing::after_raise` meets its contract. Assumes nothing.
-use Rattle.writing.proofs.Laws.{last-ends, last-not}
+use Rattle.writing.proofs.WriteSteps.{last-ends, last-not}
 use borrow.Author.Needs.{needs}
 use Rattle.writing.proofs.after_raise.Statement.{statement}
 use Rattle.writing.proofs.after_raise.Tie as tie

@@ -3,20 +3,20 @@ use mathlib.Core.Path.{_≡_, refl}
 use Prim.Native.Nat.{_-_, _≤_}
 use native.Mathlib.Omega.{arith}
 use lib.ListN.{take}
-use Rattle.laws.proofs.Tests.{clash}
-use Rattle.rules.specs.Nodes.{unmarkedAll}
+use Rattle.laws.proofs.TestLaws.{clash}
+use Rattle.rules.specs.Nodes.{releasedAll}
 use Rattle.rules.specs.Memory.{storeIn}
-use Rattle.rules.specs.Calls.{marksSet}
-use Rattle.revisions.proofs.Unmarking.{allPending}
-use Rattle.writing.specs.Writing.{isFound}
-use Rattle.writing.proofs.Marks.{rest, test-start, test-next, test-stop, test-end, spot-pending, spot-idle, Kept, kept-none, kept-more, kept-all}
+use Rattle.rules.specs.Calls.{announcedLabels}
+use Rattle.revisions.proofs.Releases.{allPending}
+use Rattle.writing.specs.WriteContracts.{isFound}
+use Rattle.writing.proofs.Releasing.{rest, test-start, test-next, test-stop, test-end, spot-pending, spot-idle, Kept, kept-none, kept-more, kept-all}
 use borrow.Author.Needs.{needs}
 use Rattle.writing.proofs.can_take_back.Statement.{statement}
 use Rattle.writing.proofs.can_take_back.Tie as tie
 
 abbrev Inv-loop : tie.InvT-loop
 Inv-loop nodes cols k n places₀ j₀ places j =
-    (j ≤ n) × ((isFound (unmarkedAll (marksSet (take k cols) n) (storeIn nodes)) ≡ allPending (rest (take k cols) n j) (storeIn nodes)) × Kept (take k cols) (storeIn nodes) places₀ places j)
+    (j ≤ n) × ((isFound (releasedAll (announcedLabels (take k cols) n) (storeIn nodes)) ≡ allPending (rest (take k cols) n j) (storeIn nodes)) × Kept (take k cols) (storeIn nodes) places₀ places j)
 
 abbrev μ-loop : tie.MeasureT-loop
 μ-loop nodes cols k n places₀ j₀ places j = n - j

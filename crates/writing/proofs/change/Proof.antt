@@ -1,5 +1,5 @@
 -- `writing::change` meets its contract. Assumes nothing.
-use Rattle.writing.proofs.Laws.{change-insert, change-delete}
+use Rattle.writing.proofs.WriteSteps.{change-insert, change-delete}
 use borrow.Author.Needs.{needs}
 use Rattle.writing.proofs.change.Statement.{statement}
 use Rattle.writing.proofs.change.Tie as tie

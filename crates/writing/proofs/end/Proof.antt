@@ -1,5 +1,5 @@
 -- `writing::end` meets its contract. Assumes nothing.
-use Rattle.writing.proofs.Laws.{end-full, end-told}
+use Rattle.writing.proofs.WriteSteps.{end-full, end-given}
 use borrow.Author.Needs.{needs}
 use Rattle.writing.proofs.end.Statement.{statement}
 use Rattle.writing.proofs.end.Tie as tie
@@ -23,7 +23,7 @@ same-length-2 : tie.Need-same-length-2
 same-length-2 c = search needs
 
 returns-2 : tie.Need-returns-2
-returns-2 c = (end-told _ _ (c .before .before .before .before .before .before .before .found-full .ensures) (c .if1 .left) _ (c .before .before .before .before .before .did-change .ensures), c .before .before .before .set-idle .ensures)
+returns-2 c = (end-given _ _ (c .before .before .before .before .before .before .before .found-full .ensures) (c .if1 .left) _ (c .before .before .before .before .before .did-change .ensures), c .before .before .before .set-idle .ensures)
 
 pub end-spec : {M : Type 1} → statement M
 end-spec =

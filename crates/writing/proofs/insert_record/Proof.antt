@@ -1,5 +1,5 @@
 -- `writing::insert_record` meets its contract. Assumes nothing.
-use Rattle.writing.proofs.Laws.{Values, values-are, fit-wide, said-insert}
+use Rattle.writing.proofs.WriteSteps.{Values, values-are, fit-wide, said-insert}
 use Rattle.table.specs.declared.Inserted.the-variants.{Added, Present, Full}
 use mathlib.Core.Path.{sym}
 use borrow.Author.Needs.{needs}

@@ -1,7 +1,7 @@
 -- `writing::raise_step` meets its contract. Assumes nothing.
 use native.Mathlib.Omega.{arith}
 use borrow.Author.Tests.{not-true, not-false}
-use Rattle.writing.proofs.Laws.{step-small, count-small, power-count, label-is, number-is, last-is, raise-refused, raise-done}
+use Rattle.writing.proofs.WriteSteps.{step-small, count-small, power-count, label-is, number-is, last-is, raise-refused, raise-done}
 use borrow.Author.Needs.{needs}
 use Rattle.writing.proofs.raise_step.Statement.{statement}
 use Rattle.writing.proofs.raise_step.Tie as tie

@@ -5,7 +5,7 @@ use native.Mathlib.Omega.{arith}
 use lib.ListN.{length}
 use lib.Seq.{length-take-le}
 use borrow.Author.Tests.{not-true, not-false}
-use Rattle.writing.proofs.Marks.{back-fits, back-few, back-refused, back-done, can-take-off, took-off}
+use Rattle.writing.proofs.Releasing.{back-fits, back-few, back-refused, back-done, can-take-off, took-off}
 use borrow.Author.Needs.{needs}
 use Rattle.writing.proofs.take_back.Statement.{statement}
 use Rattle.writing.proofs.take_back.Tie as tie

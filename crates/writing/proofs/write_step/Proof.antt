@@ -1,6 +1,6 @@
 -- `writing::write_step` meets its contract. Assumes nothing.
 use native.Mathlib.Omega.{arith}
-use Rattle.writing.proofs.Laws.{power-count}
+use Rattle.writing.proofs.WriteSteps.{power-count}
 use borrow.Author.Needs.{needs}
 use Rattle.writing.proofs.write_step.Statement.{statement}
 use Rattle.writing.proofs.write_step.Tie as tie
@@ -11,8 +11,8 @@ steps-of-requires c κs = search needs
 power-requires : tie.Need-power-requires
 power-requires c κs = search needs
 
-mark-step-requires : tie.Need-mark-step-requires
-mark-step-requires c κs = let p = c .before .before .before .before .before .before .before .before .before .pre in (p .0, (p .1 .0, omega (arith, power-count _ _ _ (p .0) _ (c .before .before .before .power .ensures), c .before .before .before .before .steps-of .ensures, c .before .before .if1 .taken)))
+announce-step-requires : tie.Need-announce-step-requires
+announce-step-requires c κs = let p = c .before .before .before .before .before .before .before .before .before .pre in (p .0, (p .1 .0, omega (arith, power-count _ _ _ (p .0) _ (c .before .before .before .power .ensures), c .before .before .before .before .steps-of .ensures, c .before .before .if1 .taken)))
 
 same-length : tie.Need-same-length
 same-length c = search needs
@@ -21,7 +21,7 @@ same-length-2 : tie.Need-same-length-2
 same-length-2 c = search needs
 
 returns : tie.Need-returns
-returns c = λ a y. c .before .before .before .before .mark-step .ensures _ a y
+returns c = λ a y. c .before .before .before .before .announce-step .ensures _ a y
 
 write-table-step-requires : tie.Need-write-table-step-requires
 write-table-step-requires c κs = let p = c .before .before .before .before .before .before .before .before .before .before .pre in (p .0, (p .1 .1, omega (arith, power-count _ _ _ (p .0) _ (c .before .before .before .before .power .ensures), c .before .before .before .before .before .steps-of .ensures, c .before .before .if2 .taken)))
@@ -53,7 +53,7 @@ write-step-spec =
     (tie.spec
     steps-of-requires
     power-requires
-    mark-step-requires
+    announce-step-requires
     same-length
     same-length-2
     returns

@@ -1,6 +1,6 @@
 -- `writing::write_table_step` meets its contract. Assumes nothing.
 use native.Mathlib.Omega.{arith}
-use Rattle.writing.proofs.Laws.{step-small, names-all, table-done, write-is}
+use Rattle.writing.proofs.WriteSteps.{step-small, names-all, table-done, write-is}
 use borrow.Author.Needs.{needs}
 use Rattle.writing.proofs.write_table_step.Statement.{statement}
 use Rattle.writing.proofs.write_table_step.Tie as tie

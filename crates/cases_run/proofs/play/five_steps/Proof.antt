@@ -7,11 +7,11 @@ use Rattle.cases_run.proofs.play.five_steps.Statement.{statement}
 use Rattle.cases_run.proofs.play.five_steps.Tie as tie
 
 abbrev Inv-loop : tie.InvT-loop
-Inv-loop table₀ nodes₀ answers₀ desks₀ tray₀ client out₀ i₀ table nodes answers desks tray out i =
-    (i ≤ 5) × ((length table ≡ length table₀) × ((length nodes ≡ length nodes₀) × ((length answers ≡ length answers₀) × ((length desks ≡ length desks₀) × (length tray ≡ length tray₀)))))
+Inv-loop table₀ nodes₀ answers₀ clients₀ tray₀ client out₀ i₀ table nodes answers clients tray out i =
+    (i ≤ 5) × ((length table ≡ length table₀) × ((length nodes ≡ length nodes₀) × ((length answers ≡ length answers₀) × ((length clients ≡ length clients₀) × (length tray ≡ length tray₀)))))
 
 abbrev μ-loop : tie.MeasureT-loop
-μ-loop table₀ nodes₀ answers₀ desks₀ tray₀ client out₀ i₀ table nodes answers desks tray out i = 5 - i
+μ-loop table₀ nodes₀ answers₀ clients₀ tray₀ client out₀ i₀ table nodes answers clients tray out i = 5 - i
 
 loop-holds : tie.Need-loop-holds Inv-loop μ-loop
 loop-holds c = search needs

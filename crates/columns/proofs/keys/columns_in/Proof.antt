@@ -1,7 +1,7 @@
 -- `columns::keys::columns_in` meets its contract. The invariant is `Reading`: the first i columns, and the marks left. Assumes nothing.
 use Prim.Native.Nat.{_-_}
 use borrow.Author.Needs.{needs}
-use Rattle.columns.proofs.Marks.{Reading, reading-none, reading-more, reading-all}
+use Rattle.columns.proofs.KeyLoops.{Reading, reading-none, reading-more, reading-all}
 use Rattle.columns.proofs.keys.columns_in.Statement.{statement}
 use Rattle.columns.proofs.keys.columns_in.Tie as tie
 

@@ -1,6 +1,6 @@
 -- `columns::keys::is_key` meets its contract, by the rule of a key in proofs/Marks.antt. Assumes nothing.
 use borrow.Author.Needs.{needs}
-use Rattle.columns.proofs.Marks.{key-high, key-low}
+use Rattle.columns.proofs.KeyLoops.{key-high, key-low}
 use Rattle.columns.proofs.keys.is_key.Statement.{statement}
 use Rattle.columns.proofs.keys.is_key.Tie as tie
 

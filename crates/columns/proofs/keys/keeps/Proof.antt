@@ -1,5 +1,5 @@
 -- `columns::keys::keeps` meets its contract, by the test of the mark. Assumes nothing.
-use Rattle.columns.proofs.Marks.{keeps-marked, keeps-unmarked}
+use Rattle.columns.proofs.KeyLoops.{keeps-marked, keeps-unmarked}
 use Rattle.columns.proofs.keys.keeps.Statement.{statement}
 use Rattle.columns.proofs.keys.keeps.Tie as tie
 

@@ -2,7 +2,7 @@
 use Prim.Native.Nat.{_-_, _≤_}
 use lib.ListN.{take}
 use borrow.Author.Needs.{needs}
-use Rattle.columns.proofs.Marks.{Keying, keying-none, keying-more, keying-all}
+use Rattle.columns.proofs.KeyLoops.{Keying, keying-none, keying-more, keying-all}
 use Rattle.columns.proofs.keys.key_words.Statement.{statement}
 use Rattle.columns.proofs.keys.key_words.Tie as tie
 

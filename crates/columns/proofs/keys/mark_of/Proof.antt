@@ -1,6 +1,6 @@
 -- `columns::keys::mark_of` meets its contract: each variant by its own way out. Assumes nothing.
 use borrow.Author.Needs.{needs}
-use Rattle.columns.specs.Keys.{markOf}
+use Rattle.columns.specs.KeyContracts.{markOf}
 use Rattle.columns.proofs.keys.mark_of.Statement.{statement}
 use Rattle.columns.proofs.keys.mark_of.Tie as tie
 

@@ -4,13 +4,13 @@ use Prim.Native.Nat.{_-_, _≤_}
 use native.Mathlib.Omega.{arith}
 use lib.ListN.{take, drop}
 use borrow.Author.Needs.{needs}
-use Rattle.columns.proofs.Marks.{mark-small, marks-none, marks-more, marks-four, down-all}
+use Rattle.columns.proofs.KeyLoops.{mark-small, marks-none, marks-more, marks-four, down-all}
 use Rattle.columns.proofs.keys.marks_of.Statement.{statement}
-use Rattle.query.specs.Words
+use Rattle.query.specs.Encoding
 use Rattle.columns.proofs.keys.marks_of.Tie as tie
 
 abbrev Inv-loop : tie.InvT-loop
-Inv-loop k cols marks₀ i₀ marks i = (i ≤ k) × ((marks ≤ 15) × (marks ≡ Words.marks (drop i (take k cols))))
+Inv-loop k cols marks₀ i₀ marks i = (i ≤ k) × ((marks ≤ 15) × (marks ≡ Encoding.marks (drop i (take k cols))))
 
 abbrev μ-loop : tie.MeasureT-loop
 μ-loop k cols marks₀ i₀ marks i = i
@@ -46,7 +46,7 @@ loop-again c = let l = c .before .before .before in
     (search needs, (omega (arith, marks-four (a .k) (l .loop .i - 1) (a .t1) (search needs)), e))
 
 returns : tie.Need-returns Inv-loop μ-loop
-returns c = let l = c .before in down-all Words.marks _ (l .loop .i) _ (l .loop .inv .1 .1) (search needs)
+returns c = let l = c .before in down-all Encoding.marks _ (l .loop .i) _ (l .loop .inv .1 .1) (search needs)
 
 pub marks-of-spec : {M : Type 1} → statement M
 marks-of-spec =

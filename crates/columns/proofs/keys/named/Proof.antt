@@ -5,7 +5,7 @@ use native.Mathlib.Omega.{arith}
 use lib.ListN.{take, drop}
 use borrow.Author.Needs.{needs}
 use Rattle.query.specs.Query.{named}
-use Rattle.columns.proofs.Marks.{mark-small, named-none, named-more, down-all}
+use Rattle.columns.proofs.KeyLoops.{mark-small, named-none, named-more, down-all}
 use Rattle.columns.proofs.keys.named.Statement.{statement}
 use Rattle.columns.proofs.keys.named.Tie as tie
 

@@ -2,7 +2,7 @@
 use Prim.Native.Nat.{ℕ, _^_, _<_}
 use native.Mathlib.Omega.{arith}
 use borrow.Author.Needs.{needs}
-use Rattle.columns.proofs.Table.{ruled}
+use Rattle.columns.proofs.TableRule.{ruled}
 use Rattle.columns.proofs.keys.power.Statement.{statement}
 use Rattle.columns.proofs.keys.power.Tie as tie
 

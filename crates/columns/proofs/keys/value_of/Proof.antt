@@ -1,6 +1,6 @@
 -- `columns::keys::value_of` meets its contract: each variant by its own way out. Assumes nothing.
 use borrow.Author.Needs.{needs}
-use Rattle.query.specs.Words.{columnValue}
+use Rattle.query.specs.Encoding.{columnValue}
 use Rattle.columns.proofs.keys.value_of.Statement.{statement}
 use Rattle.columns.proofs.keys.value_of.Tie as tie
 

@@ -3,8 +3,8 @@ use mathlib.Core.Path.{_≡_, refl, sym, _∙_}
 use Prim.Native.Nat.{_-_, _≤_}
 use lib.ListN.{length, drop}
 use borrow.Author.Needs.{needs}
-use Rattle.columns.specs.Keys.{zeroUnder}
-use Rattle.columns.proofs.Marks.{under-no, under-on, under-end}
+use Rattle.columns.specs.KeyContracts.{zeroUnder}
+use Rattle.columns.proofs.KeyLoops.{under-no, under-on, under-end}
 use Rattle.columns.proofs.keys.zero_under.Statement.{statement}
 use Rattle.columns.proofs.keys.zero_under.Tie as tie
 

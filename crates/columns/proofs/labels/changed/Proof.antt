@@ -1,6 +1,6 @@
 -- `columns::labels::changed` meets its contract: each variant, changed or kept, by its own way out. Assumes nothing.
 use borrow.Author.Needs.{needs}
-use Rattle.columns.proofs.Nodes.{wildcard-changed, wildcard-kept, value-changed, value-kept}
+use Rattle.columns.proofs.LabelLoops.{wildcard-changed, wildcard-kept, value-changed, value-kept}
 use Rattle.columns.proofs.labels.changed.Statement.{statement}
 use Rattle.columns.proofs.labels.changed.Tie as tie
 

@@ -2,8 +2,8 @@
 use Prim.Native.Nat.{_-_, _≤_}
 use lib.ListN.{take}
 use borrow.Author.Needs.{needs}
-use Rattle.columns.specs.Labels.{termOf}
-use Rattle.columns.proofs.Nodes.{Labelling, labelling-none, labelling-more, labelling-tags, labelling-all}
+use Rattle.columns.specs.LabelContracts.{termOf}
+use Rattle.columns.proofs.LabelLoops.{Labelling, labelling-none, labelling-more, labelling-tags, labelling-all}
 use Rattle.columns.proofs.labels.label.Statement.{statement}
 use Rattle.columns.proofs.labels.label.Tie as tie
 

@@ -1,6 +1,6 @@
 -- `columns::labels::packed` meets its contract: the sum fits since each tag is 3 at most. Assumes nothing.
 use borrow.Author.Needs.{needs}
-use Rattle.columns.proofs.Nodes.{four-bytes}
+use Rattle.columns.proofs.LabelLoops.{four-bytes}
 use Rattle.columns.proofs.labels.packed.Statement.{statement}
 use Rattle.columns.proofs.labels.packed.Tie as tie
 

@@ -1,8 +1,8 @@
 -- `columns::labels::read_label` meets its contract, by what an entry of the sheet means (`read-node`). Assumes nothing.
 use native.Mathlib.Omega.{arith}
 use borrow.Author.Needs.{needs}
-use Rattle.columns.proofs.Marks.{marks-small}
-use Rattle.columns.proofs.Nodes.{look-small, read-words}
+use Rattle.columns.proofs.KeyLoops.{marks-small}
+use Rattle.columns.proofs.LabelLoops.{look-small, read-words}
 use Rattle.columns.proofs.labels.read_label.Statement.{statement}
 use Rattle.columns.proofs.labels.read_label.Tie as tie
 

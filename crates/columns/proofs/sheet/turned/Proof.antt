@@ -5,7 +5,7 @@ use Prim.Native.Nat.{ℕ, _+_, _*_, _/_, _%_, _<_}
 use native.Mathlib.Omega.{arith}
 use borrow.Author.Needs.{needs}
 use Rattle.query.specs.Sheet.{sheetEntry, turned, looks}
-use Rattle.columns.proofs.Table.{ruled}
+use Rattle.columns.proofs.TableRule.{ruled}
 use Rattle.columns.proofs.sheet.turned.Statement.{statement}
 use Rattle.columns.proofs.sheet.turned.Tie as tie
 

@@ -1,7 +1,7 @@
 -- `Hall::clear_answers` meets its contract: it empties the answers memory where that is long enough. Assumes nothing.
 use Rattle.rules.specs.Sizes.{answersLeast}
-use Rattle.hall.specs.Hall.{answersCleared}
-use Rattle.hall.proofs.Laws.{kept, done}
+use Rattle.hall.specs.HallContracts.{answersCleared}
+use Rattle.hall.proofs.Clearing.{kept, done}
 use borrow.Author.Needs.{needs}
 use Rattle.hall.proofs.Hall.clear_answers.Statement.{statement}
 use Rattle.hall.proofs.Hall.clear_answers.Tie as tie

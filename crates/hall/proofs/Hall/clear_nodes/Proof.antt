@@ -1,7 +1,7 @@
 -- `Hall::clear_nodes` meets its contract: it empties the nodes memory and sets the floor where that is long enough. Assumes nothing.
 use Rattle.rules.specs.Sizes.{nodesLeast}
-use Rattle.hall.specs.Hall.{nodesCleared}
-use Rattle.hall.proofs.Laws.{kept, done-set}
+use Rattle.hall.specs.HallContracts.{nodesCleared}
+use Rattle.hall.proofs.Clearing.{kept, done-set}
 use borrow.Author.Needs.{needs}
 use Rattle.hall.proofs.Hall.clear_nodes.Statement.{statement}
 use Rattle.hall.proofs.Hall.clear_nodes.Tie as tie

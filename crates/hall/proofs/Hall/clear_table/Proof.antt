@@ -1,7 +1,7 @@
 -- `Hall::clear_table` meets its contract: it empties the table memory where that is long enough. Assumes nothing.
 use Rattle.rules.specs.Sizes.{tableLeast}
-use Rattle.hall.specs.Hall.{tableCleared}
-use Rattle.hall.proofs.Laws.{kept, done}
+use Rattle.hall.specs.HallContracts.{tableCleared}
+use Rattle.hall.proofs.Clearing.{kept, done}
 use borrow.Author.Needs.{needs}
 use Rattle.hall.proofs.Hall.clear_table.Statement.{statement}
 use Rattle.hall.proofs.Hall.clear_table.Tie as tie

@@ -1,5 +1,5 @@
 -- `Hall::is_short` meets its contract: one law for each way out. Assumes nothing.
-use Rattle.hall.proofs.Laws.{short-table, short-nodes, short-answers, short-desks}
+use Rattle.hall.proofs.Clearing.{short-table, short-nodes, short-answers, short-clients}
 use Rattle.hall.proofs.Hall.is_short.Statement.{statement}
 use Rattle.hall.proofs.Hall.is_short.Tie as tie
 
@@ -13,7 +13,7 @@ returns-3 : tie.Need-returns-3
 returns-3 c = short-answers _ (c .before .before .if1 .left) (c .before .if2 .left) (c .if3 .taken)
 
 returns-4 : tie.Need-returns-4
-returns-4 c = short-desks _ (c .before .before .if1 .left) (c .before .if2 .left) (c .if3 .left)
+returns-4 c = short-clients _ (c .before .before .if1 .left) (c .before .if2 .left) (c .if3 .left)
 
 pub is-short-spec : {M : Type 1} → statement M
 is-short-spec = tie.close (tie.spec returns returns-2 returns-3 returns-4)

@@ -1,5 +1,5 @@
 -- `Hall::open` meets its contract: a refusal, or the four clearings. Assumes nothing.
-use Rattle.hall.proofs.Laws.{turned-down, opens}
+use Rattle.hall.proofs.Clearing.{turned-down, opens}
 use borrow.Author.Needs.{needs}
 use Rattle.hall.proofs.Hall.open.Statement.{statement}
 use Rattle.hall.proofs.Hall.open.Tie as tie
@@ -31,8 +31,8 @@ clear-nodes-requires c κs = search needs
 clear-answers-requires : tie.Need-clear-answers-requires
 clear-answers-requires c κs = search needs
 
-clear-desks-requires : tie.Need-clear-desks-requires
-clear-desks-requires c κs = search needs
+clear-clients-requires : tie.Need-clear-clients-requires
+clear-clients-requires c κs = search needs
 
 same-length-5 : tie.Need-same-length-5
 same-length-5 c = search needs
@@ -54,7 +54,7 @@ returns-2 c =
     let t = n .before .before .before .before in
     let i = t .before .before in
     opens _ _ _ (i .before .open-code .ensures) _ _ _ _ (i .if1 .left) (t .clear-table .ensures .1) (n .clear-nodes .ensures .1)
-    (a .clear-answers .ensures .1) (d .clear-desks .ensures .1)
+    (a .clear-answers .ensures .1) (d .clear-clients .ensures .1)
 
 pub open-spec : {M : Type 1} → statement M
 open-spec =
@@ -69,7 +69,7 @@ open-spec =
     clear-table-requires
     clear-nodes-requires
     clear-answers-requires
-    clear-desks-requires
+    clear-clients-requires
     same-length-5
     same-length-6
     same-length-7

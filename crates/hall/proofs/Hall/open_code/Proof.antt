@@ -1,6 +1,6 @@
 -- `Hall::open_code` meets its contract: one law for each way out. Assumes nothing.
 use mathlib.Core.Path.{sym, _∙_}
-use Rattle.hall.proofs.Laws.{code-short, code-none, code-many, code-fine}
+use Rattle.hall.proofs.Clearing.{code-short, code-none, code-many, code-fine}
 use borrow.Author.Needs.{needs}
 use Rattle.hall.proofs.Hall.open_code.Statement.{statement}
 use Rattle.hall.proofs.Hall.open_code.Tie as tie

@@ -1,0 +1,112 @@
+-- Laws of an answers memory with other filed answers, for callers: what it holds, and that it stays fit. Leans on the rules' definitions and on
+-- laws. Assumes nothing.
+use mathlib.Core.Path.{_≡_, refl}
+use mathlib.Core.Bool.{Bool, true, false, cond}
+use mathlib.Core.List.{List, [], _∷_, _++_}
+use Prim.Native.Nat.{ℕ, _+_, _*_, _≤_, _<_}
+use native.Mathlib.Omega.{arith}
+use lib.Dec.{ltb}
+use lib.ListN.{length, getD, length-append}
+use borrow.Author.Tests.{ltb-true, ltb-false}
+use Rattle.lists.specs.Lists.{without, entriesIn}
+use Rattle.laws.proofs.ListLaws.{length-without}
+use Rattle.laws.proofs.RowLaws.{Wide, wide-nil, wide-snoc, wide-without, wide-at}
+use Rattle.laws.proofs.EntryLaws.{length-entries, wide-entries, length-with, count-with, entries-with}
+use Rattle.rules.specs.Answers.{Entry, keyPlace, filed}
+use Rattle.rules.specs.Memory.{answersIn, withAnswers}
+use Rattle.answers.specs.AnswerContracts.{Fit}
+use Rattle.answers.proofs.AnswerScan.{count-is}
+
+-- entries of 152 numbers, no more than are kept
+pub record Kept (es : List Entry) : Type 0 where
+  pub wide : Wide 152 es
+  pub few : length es ≤ 64
+
+-- ---- what a fit memory holds
+module _ (s : List ℕ) (fit : Fit s) where
+  pub room : 8 + getD s 0 0 * 152 ≤ length s
+  room = let a = fit .long in let b = fit .few in omega arith
+
+  pub answers-kept : Kept (answersIn s)
+  unfolding answersIn
+  answers-kept = let b = fit .few in let l = length-entries 0 152 s in record { wide = wide-entries 0 152 s room; few = omega arith }
+
+  pub answer-length : (i : ℕ) → i < getD s 0 0 → length (getD (answersIn s) i []) ≡ 152
+  unfolding answersIn
+  answer-length i h = let l = length-entries 0 152 s in wide-at 152 (entriesIn 0 152 s) i (wide-entries 0 152 s room) (omega arith)
+
+-- ---- what a memory with other answers holds
+module _ (s : List ℕ) (fit : Fit s) (es : List Entry) (kept : Kept es) where
+  new-room : 8 + length es * 152 ≤ length s
+  new-room = let a = fit .long in let b = kept .few in omega arith
+
+  pub answers-back : answersIn (withAnswers s es) ≡ es
+  unfolding answersIn withAnswers
+  answers-back = entries-with 0 152 s es (kept .wide) (room s fit) new-room (omega arith)
+
+  length-kept : length (withAnswers s es) ≡ length s
+  unfolding withAnswers
+  length-kept = length-with 0 152 s es (kept .wide) (room s fit) new-room
+
+  pub count-back : getD (withAnswers s es) 0 0 ≡ length es
+  unfolding withAnswers
+  count-back = count-with 0 152 s es (kept .wide) (room s fit) new-room (omega arith)
+
+  fit-kept : Fit (withAnswers s es)
+  fit-kept =
+      let a = fit .long in
+      let b = kept .few in
+      let l = length-kept in
+      let n = count-back in
+      record { long = omega arith; few = omega arith }
+
+-- ---- none, one out, one filed
+pub none-kept : Kept []
+none-kept = record { wide = wide-nil 152; few = omega arith }
+
+snoc-kept : (x : Entry) (l : List Entry) → length x ≡ 152 → Wide 152 l → length l < 64 → Kept (l ++ (x ∷ []))
+snoc-kept x l h w k = let a = length-append l (x ∷ []) in record { wide = wide-snoc 152 l x w h; few = omega arith }
+
+module _ (es : List Entry) (kept : Kept es) where
+  pub without-kept : (i : ℕ) → i < length es → Kept (without i es)
+  without-kept i h =
+      let b = kept .few in
+      let l = length-without i es h in
+      record { wide = wide-without 152 i es (kept .wide); few = omega arith }
+
+  pub filed-kept : (x : Entry) → length x ≡ 152 → Kept (filed x es)
+  unfolding filed
+  filed-kept x h = go (ltb (keyPlace x es) (length es)) refl (ltb (length es) 64) refl
+    where
+      go : (a : Bool) → ltb (keyPlace x es) (length es) ≡ a → (b : Bool) → ltb (length es) 64 ≡ b
+          → Kept (cond a (without (keyPlace x es) es) (cond b es (without 0 es)) ++ (x ∷ []))
+      go true e b f =
+          let k = kept .few in
+          let q : keyPlace x es < length es = ltb-true (keyPlace x es) (length es) e in
+          let l = length-without (keyPlace x es) es q in
+          snoc-kept x (without (keyPlace x es) es) h (wide-without 152 (keyPlace x es) es (kept .wide)) (omega arith)
+      go false e true f = snoc-kept x es h (kept .wide) (ltb-true (length es) 64 f)
+      go false e false f =
+          let k = kept .few in
+          let q : 64 ≤ length es = ltb-false (length es) 64 f in
+          let l = length-without 0 es (omega arith) in
+          snoc-kept x (without 0 es) h (wide-without 152 0 es (kept .wide)) (omega arith)
+
+-- ---- each operation: the memory stays fit and as long as it was, and holds the new answers
+pub record Stays (s : List ℕ) (es : List Entry) : Type 0 where
+  pub fit : Fit (withAnswers s es)
+  pub same-length : length (withAnswers s es) ≡ length s
+  pub back : answersIn (withAnswers s es) ≡ es
+
+pub stays : (s : List ℕ) → Fit s → (es : List Entry) → Kept es → Stays s es
+stays s fit es kept = record { fit = fit-kept s fit es kept; same-length = length-kept s fit es kept; back = answers-back s fit es kept }
+
+module _ (s : List ℕ) (fit : Fit s) where
+  pub file-stays : (x : Entry) → length x ≡ 152 → Stays s (filed x (answersIn s))
+  file-stays x h = stays s fit (filed x (answersIn s)) (filed-kept (answersIn s) (answers-kept s fit) x h)
+
+  pub evict-stays : (i : ℕ) → i < getD s 0 0 → Stays s (without i (answersIn s))
+  evict-stays i h = let l = count-is s in stays s fit (without i (answersIn s)) (without-kept (answersIn s) (answers-kept s fit) i (omega arith))
+
+  pub empty-stays : Stays s []
+  empty-stays = stays s fit [] none-kept

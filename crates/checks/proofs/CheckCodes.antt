@@ -1,0 +1,306 @@
+-- The number at each way out of a check, in the terms of the tests that the code makes. Leans on the rules' Refusals and on the laws of columns
+-- and clients. Assumes nothing.
+use mathlib.Core.Path.{_≡_, refl, sym, ap, _∙_}
+use mathlib.Core.Bool.{Bool, true, false, cond, not, _&&_, _||_}
+use mathlib.Core.List.{List, [], _∷_}
+use Prim.Native.Nat.{ℕ, _+_, _-_, _*_, _^_, _≤_, _<_}
+use native.Mathlib.Omega.{arith}
+use lib.Dec.{eqb, ltb, leb}
+use lib.ListN.{length, getD, take, drop, drop-of-length-le, length-drop}
+use borrow.Author.Tests.{lt-ltb, le-ltb, le-leb, lt-leb, eq-eqb, ne-eqb, not-true, not-false}
+use Rattle.lists.specs.Lists.{allBelow}
+use Rattle.query.specs.declared.Column.{Column}
+use Rattle.query.specs.declared.Column.the-variants.{Is, Wildcard}
+use Rattle.query.specs.Query.{named, writeCount}
+use Rattle.query.specs.Encoding.{columnOf, queryOf, isQuery, namesAll}
+use Rattle.columns.specs.ColumnContracts.{four}
+use Rattle.columns.proofs.ColumnLoops.{two-more, names-value, names-wildcard}
+use Rattle.rules.specs.Sizes.{maxRecords, maxNodes, maxAnswers, maxClients, trayLeast}
+use Rattle.rules.specs.Nodes.{isWorn, pending}
+use Rattle.rules.specs.Answers.{someLong}
+use Rattle.rules.specs.Client.{Client, kind, steps, isIdle, isBad, reads, inserts}
+use Rattle.rules.specs.Memory.{Mem, columnsAt, clientIn, storeIn, answersIn}
+use Rattle.rules.specs.Refusals.{columns, client, isShort, badColumns, badQuery, isUnsound, noClient, isCommitted, allIdle, atClient, beginCode, stepCode, abandonCode, evictAnswerCode, evictNodeCode, renewCode}
+use Rattle.clients.specs.ClientContracts.{idleAt}
+use Rattle.clients.proofs.ClientSound.{length-query, kind-busy, none-idle}
+use Rattle.nodes.proofs.NodeStores.{node-word}
+use Rattle.checks.specs.CheckContracts.{soundCode, recordCode}
+
+-- ---- Unsound memories
+module _ (m : Mem) where
+  pub unsound-none : getD (m .clients) 0 0 ≡ 0 → true ≡ isUnsound m
+  unfolding isUnsound badColumns columns columnsAt
+  unsound-none a = rw a
+
+  module _ (a : getD (m .clients) 0 0 ≡ 0 → ⊥) where
+    pub unsound-many : 4 < getD (m .clients) 0 0 → true ≡ isUnsound m
+    unfolding isUnsound badColumns columns columnsAt
+    unsound-many b = rw (ne-eqb _ _ a, lt-ltb _ _ b)
+
+    module _ (b : getD (m .clients) 0 0 ≤ 4) where
+      pub unsound-records : maxRecords < getD (m .table) 0 0 → true ≡ isUnsound m
+      unfolding isUnsound badColumns columns columnsAt
+      unsound-records c = rw (ne-eqb _ _ a, le-ltb _ _ b, lt-ltb _ _ c)
+
+      module _ (c : getD (m .table) 0 0 ≤ maxRecords) where
+        pub unsound-nodes : maxNodes < getD (m .nodes) 1 0 → true ≡ isUnsound m
+        unfolding isUnsound badColumns columns columnsAt
+        unsound-nodes d = rw (ne-eqb _ _ a, le-ltb _ _ b, le-ltb _ _ c, lt-ltb _ _ d)
+
+        module _ (d : getD (m .nodes) 1 0 ≤ maxNodes) where
+          pub unsound-answers : maxAnswers < getD (m .answers) 0 0 → true ≡ isUnsound m
+          unfolding isUnsound badColumns columns columnsAt
+          unsound-answers e = rw (ne-eqb _ _ a, le-ltb _ _ b, le-ltb _ _ c, le-ltb _ _ d, lt-ltb _ _ e)
+
+          pub unsound-lists : (r : Bool) → getD (m .answers) 0 0 ≤ maxAnswers → r ≡ someLong (answersIn (m .answers)) → r ≡ isUnsound m
+          unfolding isUnsound badColumns columns columnsAt
+          unsound-lists r e f = rw (ne-eqb _ _ a, le-ltb _ _ b, le-ltb _ _ c, le-ltb _ _ d, le-ltb _ _ e, f)
+
+  pub sound-short : true ≡ isShort m → 1 ≡ soundCode m
+  unfolding soundCode
+  sound-short a = rw (← a)
+
+  pub sound-not : false ≡ isShort m → true ≡ isUnsound m → 3 ≡ soundCode m
+  unfolding soundCode
+  sound-not a b = rw (← a, ← b)
+
+  pub sound-fine : false ≡ isShort m → false ≡ isUnsound m → 0 ≡ soundCode m
+  unfolding soundCode
+  sound-fine a b = rw (← a, ← b)
+
+-- ---- What is found at a client
+module _ (m : Mem) (d : ℕ) where
+  pub client-unsound : true ≡ isUnsound m → 3 ≡ atClient m d
+  unfolding atClient
+  client-unsound a = rw (← a)
+
+  module _ (a : false ≡ isUnsound m) where
+    pub client-none : 12 ≤ d → 4 ≡ atClient m d
+    unfolding atClient noClient
+    client-none b = rw (← a, le-leb 12 d b)
+
+    module _ (b : d < 12) where
+      pub client-bad : true ≡ isBad (getD (m .clients) 0 0) (clientIn (m .clients) d) → 3 ≡ atClient m d
+      unfolding atClient noClient columns columnsAt client
+      client-bad c = rw (← a, lt-leb 12 d b, ← c)
+
+      module _ (c : false ≡ isBad (getD (m .clients) 0 0) (clientIn (m .clients) d)) where
+        pub client-idle : (x : ℕ) → x ≡ kind (clientIn (m .clients) d) → x ≡ 0 → 6 ≡ atClient m d
+        unfolding atClient noClient columns columnsAt client
+        client-idle x e h = rw (← a, lt-leb 12 d b, ← c, ← none-idle _ _ c (sym e ∙ h))
+
+        pub client-busy : (x : ℕ) → x ≡ kind (clientIn (m .clients) d) → (x ≡ 0 → ⊥) → 0 ≡ atClient m d
+        unfolding atClient noClient columns columnsAt client
+        client-busy x e h = rw (← a, lt-leb 12 d b, ← c, kind-busy (clientIn (m .clients) d) (λ z. h (e ∙ z)))
+
+-- ---- Begins
+-- the record of an insert, column after column
+abbrev pub Rest : List ℕ → ℕ → Type 0
+Rest a from = namesAll (queryOf a) ≡ namesAll (queryOf (drop from a))
+
+module _ (a : List ℕ) (from : ℕ) (h : from + 1 < length a) where
+  rest-more : queryOf (drop from a) ≡ columnOf (getD a from 0) (getD a (from + 1) 0) ∷ queryOf (drop (from + 2) a)
+  unfolding queryOf
+  rest-more = ap queryOf (two-more a from (omega arith) (λ e. omega arith))
+
+  column-here : (z : Column) (cols : List Column) → cols ≡ four (queryOf (take (from + 2 - from) (drop from a))) → getD cols 0 z ≡ columnOf (getD a from 0) (getD a (from + 1) 0)
+  unfolding queryOf four
+  column-here z cols e =
+      let n : from + 2 - from ≡ 2 = omega arith in
+      rw (e, n, two-more a from (omega arith) (λ e. omega arith))
+
+  module _ (z : Column) (cols : List Column) (e : cols ≡ four (queryOf (take (from + 2 - from) (drop from a)))) (t : Rest a from) where
+    pub record-star : getD cols 0 z ≡ Wildcard → 2 ≡ recordCode a
+    unfolding recordCode
+    record-star w =
+        let q : queryOf (drop from a) ≡ Wildcard ∷ queryOf (drop (from + 2) a) = rw (← column-here z cols e, w) at rest-more in
+        rw (t, q, names-wildcard)
+
+    pub record-on : (v : ℕ) → getD cols 0 z ≡ Is v → Rest a (from + 2)
+    record-on v w =
+        let q : queryOf (drop from a) ≡ Is v ∷ queryOf (drop (from + 2) a) = rw (← column-here z cols e, w) at rest-more in
+        t ∙ ap namesAll q ∙ names-value v (queryOf (drop (from + 2) a))
+
+no-column : (a : List ℕ) → length a < 2 → namesAll (queryOf a) ≡ true
+unfolding queryOf namesAll named
+no-column [] h = refl
+no-column (x ∷ []) h = refl
+no-column (x ∷ y ∷ a) h = absurd (omega arith)
+
+pub record-end : (a : List ℕ) (from : ℕ) → Rest a from → length a ≤ from + 1 → 0 ≡ recordCode a
+unfolding recordCode
+record-end a from t h = rw (t, no-column (drop from a) (rw length-drop (omega arith)))
+
+module _ (k x : ℕ) (a : List ℕ) where
+  pub query-not : (r : Bool) → r ≡ isQuery k a → not r ≡ true → true ≡ badQuery k x a
+  unfolding badQuery
+  query-not r e h = rw (← e, not-true r h)
+
+  module _ (r : Bool) (e : r ≡ isQuery k a) (h : not r ≡ false) where
+    pub query-plain : (x ≡ 2 → ⊥) → false ≡ badQuery k x a
+    unfolding badQuery
+    query-plain n = rw (← e, not-false r h, ne-eqb x inserts n)
+
+    pub query-record : (n : ℕ) → n ≡ recordCode a → x ≡ 2 → not (eqb n 0) ≡ badQuery k x a
+    unfolding badQuery recordCode
+    query-record n c i = rw (← e, not-false r h, eq-eqb x inserts i, c) (go (namesAll (queryOf a)))
+      where
+        go : (b : Bool) → not (eqb (cond b 0 2) 0) ≡ not b
+        go true = refl
+        go false = refl
+
+-- what a client is found to be decides a begin, but for the last test
+begin-found : (u n b i : Bool) (r : ℕ)
+    → cond u 3 (cond n 4 (cond b 3 (cond (not i) 5 r)))
+    ≡ cond (eqb (cond u 3 (cond n 4 (cond b 3 (cond i 6 0)))) 0) 5
+    (cond (eqb (cond u 3 (cond n 4 (cond b 3 (cond i 6 0)))) 6) r (cond u 3 (cond n 4 (cond b 3 (cond i 6 0)))))
+begin-found true n b i r = refl
+begin-found false true b i r = refl
+begin-found false false true i r = refl
+begin-found false false false true r = refl
+begin-found false false false false r = refl
+
+module _ (m : Mem) (x d : ℕ) (a : List ℕ) where
+  pub begin-short : true ≡ isShort m → 1 ≡ beginCode m x d a
+  unfolding beginCode
+  begin-short s = rw (← s)
+
+  module _ (s : false ≡ isShort m) where
+    pub begin-query : true ≡ badQuery (getD (m .clients) 0 0) x a → 2 ≡ beginCode m x d a
+    unfolding beginCode columns columnsAt
+    begin-query q = rw (← s, ← q)
+
+    module _ (q : false ≡ badQuery (getD (m .clients) 0 0) x a) (n : ℕ) (f : n ≡ atClient m d) where
+      begin-rest : cond (eqb n 0) 5 (cond (eqb n 6) (cond (not (eqb x reads) && isWorn (storeIn (m .nodes))) 10 0) n) ≡ beginCode m x d a
+      unfolding beginCode atClient columns columnsAt
+      begin-rest = rw (← s, ← q, f)
+          (sym (begin-found (isUnsound m) (noClient d) (isBad (getD (m .clients) 0 0) (client m d)) (isIdle (client m d))
+          (cond (not (eqb x reads) && isWorn (storeIn (m .nodes))) 10 0)))
+
+      pub begin-busy : n ≡ 0 → 5 ≡ beginCode m x d a
+      begin-busy h = rw h at begin-rest
+
+      pub begin-other : (n ≡ 0 → ⊥) → (n ≡ 6 → ⊥) → n ≡ beginCode m x d a
+      begin-other h g = rw (ne-eqb n 0 h, ne-eqb n 6 g) at begin-rest
+
+      module _ (g : n ≡ 6) where
+        begin-free : cond (not (eqb x reads) && isWorn (storeIn (m .nodes))) 10 0 ≡ beginCode m x d a
+        begin-free = rw g at begin-rest
+
+        pub begin-read : x ≡ 1 → 0 ≡ beginCode m x d a
+        begin-read h = rw (eq-eqb x reads h) at begin-free
+
+        pub begin-worn : (x ≡ 1 → ⊥) → true ≡ isWorn (storeIn (m .nodes)) → 10 ≡ beginCode m x d a
+        begin-worn h w = rw (ne-eqb x reads h, ← w) at begin-free
+
+        pub begin-write : (x ≡ 1 → ⊥) → false ≡ isWorn (storeIn (m .nodes)) → 0 ≡ beginCode m x d a
+        begin-write h w = rw (ne-eqb x reads h, ← w) at begin-free
+
+-- ---- Steps and abandonings
+module _ (m : Mem) (tray : List ℕ) (d : ℕ) where
+  pub step-short : true ≡ isShort m → 1 ≡ stepCode m tray d
+  unfolding stepCode
+  step-short s = rw (← s)
+
+  pub step-tray : false ≡ isShort m → length tray < trayLeast → 1 ≡ stepCode m tray d
+  unfolding stepCode
+  step-tray s t = rw (← s, lt-ltb _ _ t)
+
+  pub step-found : (n : ℕ) → false ≡ isShort m → trayLeast ≤ length tray → n ≡ atClient m d → n ≡ stepCode m tray d
+  unfolding stepCode
+  step-found n s t f = rw (← s, le-ltb _ _ t, f)
+
+module _ (k : ℕ) (c : Client) (x : ℕ) (e : x ≡ kind c) where
+  pub committed-read : x ≡ 1 → false ≡ isCommitted k c
+  unfolding isCommitted
+  committed-read h = rw (eq-eqb (kind c) reads (sym e ∙ h))
+
+  pub committed-write : (n p : ℕ) → n ≡ steps c → p ≡ 2 ^ k → (x ≡ 1 → ⊥) → ltb p n ≡ isCommitted k c
+  unfolding isCommitted writeCount
+  committed-write n p s q h = rw (ne-eqb (kind c) reads (λ z. h (e ∙ z)), length-query k c, s, q)
+
+module _ (m : Mem) (d : ℕ) where
+  pub abandon-short : true ≡ isShort m → 1 ≡ abandonCode m d
+  unfolding abandonCode
+  abandon-short s = rw (← s)
+
+  module _ (s : false ≡ isShort m) (n : ℕ) (f : n ≡ atClient m d) where
+    pub abandon-found : (n ≡ 0 → ⊥) → n ≡ abandonCode m d
+    unfolding abandonCode
+    abandon-found h = rw (← s, ← f, ne-eqb n 0 h)
+
+    pub abandon-committed : n ≡ 0 → true ≡ isCommitted (getD (m .clients) 0 0) (clientIn (m .clients) d) → 7 ≡ abandonCode m d
+    unfolding abandonCode columns columnsAt client
+    abandon-committed h c = rw (← s, ← f, eq-eqb n 0 h, ← c)
+
+    pub abandon-fine : n ≡ 0 → false ≡ isCommitted (getD (m .clients) 0 0) (clientIn (m .clients) d) → 0 ≡ abandonCode m d
+    unfolding abandonCode columns columnsAt client
+    abandon-fine h c = rw (← s, ← f, eq-eqb n 0 h, ← c)
+
+-- ---- Evictions and renewals: after the memories' own number, the rest
+module _ (m : Mem) (n : ℕ) (e : n ≡ soundCode m) where
+  sound-first : (s u : Bool) (r : ℕ) → cond s 1 (cond u 3 r) ≡ cond (eqb (cond s 1 (cond u 3 0)) 0) r (cond s 1 (cond u 3 0))
+  sound-first true u r = refl
+  sound-first false true r = refl
+  sound-first false false r = refl
+
+  sound-rest : (r : ℕ) → cond (isShort m) 1 (cond (isUnsound m) 3 r) ≡ cond (eqb n 0) r n
+  unfolding soundCode
+  sound-rest r = rw e (sound-first (isShort m) (isUnsound m) r)
+
+  sound-out : (r : ℕ) → (n ≡ 0 → ⊥) → n ≡ cond (isShort m) 1 (cond (isUnsound m) 3 r)
+  sound-out r h = rw (sound-rest r, ne-eqb n 0 h)
+
+  sound-on : (r : ℕ) → n ≡ 0 → r ≡ cond (isShort m) 1 (cond (isUnsound m) 3 r)
+  sound-on r h = rw (sound-rest r, eq-eqb n 0 h)
+
+  module _ (i : ℕ) where
+    pub answer-out : (n ≡ 0 → ⊥) → n ≡ evictAnswerCode m i
+    unfolding evictAnswerCode
+    answer-out h = sound-out _ h
+
+    pub answer-none : n ≡ 0 → getD (m .answers) 0 0 ≤ i → 8 ≡ evictAnswerCode m i
+    unfolding evictAnswerCode
+    answer-none h l = rw (le-leb _ _ l) (sound-on 8 h)
+
+    pub answer-there : n ≡ 0 → i < getD (m .answers) 0 0 → 0 ≡ evictAnswerCode m i
+    unfolding evictAnswerCode
+    answer-there h l = rw (lt-leb _ _ l) (sound-on 0 h)
+
+    pub node-out : (n ≡ 0 → ⊥) → n ≡ evictNodeCode m i
+    unfolding evictNodeCode
+    node-out h = sound-out _ h
+
+    pub node-none : n ≡ 0 → getD (m .nodes) 1 0 ≤ i → 8 ≡ evictNodeCode m i
+    unfolding evictNodeCode
+    node-none h l = rw (le-leb _ _ l) (sound-on 8 h)
+
+    module _ (h : n ≡ 0) (l : i < getD (m .nodes) 1 0) where
+      pending-at : pending (getD (storeIn (m .nodes) .nodes) i []) ≡ getD (m .nodes) (8 + i * 8 + 5) 0
+      unfolding pending
+      pending-at = node-word (m .nodes) i 5 l (omega arith)
+
+      pub node-pending : 0 < getD (m .nodes) (8 + i * 8 + 5) 0 → 9 ≡ evictNodeCode m i
+      unfolding evictNodeCode
+      node-pending p = rw (lt-leb _ _ l, pending-at, lt-ltb _ _ p) (sound-on 9 h)
+
+      pub node-there : getD (m .nodes) (8 + i * 8 + 5) 0 ≤ 0 → 0 ≡ evictNodeCode m i
+      unfolding evictNodeCode
+      node-there p = rw (lt-leb _ _ l, pending-at, le-ltb _ _ p) (sound-on 0 h)
+
+  pub renew-out : (n ≡ 0 → ⊥) → n ≡ renewCode m
+  unfolding renewCode
+  renew-out h = sound-out _ h
+
+  module _ (h : n ≡ 0) (r : Bool) (f : r ≡ allBelow 12 (idleAt (m .clients))) where
+    is-all : r ≡ allIdle m
+    unfolding allIdle idleAt client
+    is-all = f
+
+    pub renew-busy : not r ≡ true → 11 ≡ renewCode m
+    unfolding renewCode
+    renew-busy g = rw (← is-all, g) (sound-on 11 h)
+
+    pub renew-fine : not r ≡ false → 0 ≡ renewCode m
+    unfolding renewCode
+    renew-fine g = rw (← is-all, g) (sound-on 0 h)

@@ -1,0 +1,33 @@
+-- What sound memories are to the functions over each of them, and what the check of them tells. Leans on what rules' codes tell. Assumes
+-- nothing.
+use mathlib.Core.Path.{_≡_}
+use Prim.Native.Nat.{ℕ, _≤_, _<_}
+use lib.ListN.{getD}
+use Rattle.laws.proofs.TestLaws.{passed}
+use Rattle.rules.specs.Memory.{Mem, columnsAt}
+use Rattle.rules.specs.Refusals.{columns, isShort, isUnsound}
+use Rattle.rules.proofs.PassedChecks.{Sound, sound}
+use Rattle.nodes.specs.NodeContracts as nodes
+use Rattle.answers.specs.AnswerContracts as answers
+use Rattle.clients.specs.ClientContracts as client-contracts
+use Rattle.checks.specs.CheckContracts.{soundCode}
+
+module _ (m : Mem) (s : Sound m) where
+  pub columns-range : (1 ≤ getD (m .clients) 0 0) × (getD (m .clients) 0 0 ≤ 4)
+  unfolding columns columnsAt
+  columns-range = (s .least, s .most)
+
+  pub nodes-fit : nodes.Fit (m .nodes)
+  nodes-fit = record { long = s .long .nodes; few = s .nodes }
+
+  pub answers-fit : answers.Fit (m .answers)
+  answers-fit = record { long = s .long .answers; few = s .answers }
+
+  pub client-fit : (d : ℕ) → d < 12 → client-contracts.Fit (m .clients) d
+  client-fit d h = record { long = s .long .clients; below = h }
+
+pub sound-memories : (m : Mem) → soundCode m ≡ 0 → Sound m
+unfolding soundCode
+sound-memories m e =
+    let p = passed (isShort m) 0 _ e in
+    sound m (p .0) (passed (isUnsound m) 2 _ (p .1) .0)

@@ -1,0 +1,158 @@
+-- Laws of the check for senseless contents: its ways out, and what a client that passes it and is not idle is known to hold.
+-- Leans on rules and on the laws of ClientReads and of columns. Assumes nothing.
+use mathlib.Core.Path.{_≡_, refl, sym, ap, _∙_}
+use mathlib.Core.Bool.{Bool, true, false, cond, not, _&&_, _||_}
+use mathlib.Core.List.{List}
+use Prim.Native.Nat.{ℕ, _+_, _^_, _≤_, _<_}
+use native.Mathlib.Nat.{pow-le-pow-right}
+use native.Mathlib.Omega.{arith}
+use lib.Dec.{eqb, ltb, leb}
+use lib.ListN.{length, getD, take}
+use lib.Seq.{length-take-le}
+use borrow.Author.Tests.{eq-eqb, ne-eqb, lt-ltb, le-ltb, not-false}
+use Rattle.laws.proofs.ListLaws.{ne-same}
+use Rattle.query.specs.declared.Column.{Column}
+use Rattle.query.specs.Query.{Query, named, readCount, writeCount}
+use Rattle.query.specs.Encoding.{namesAll, isKey}
+use Rattle.query.proofs.NodeLists.{named-most, read-count-most, write-count-most}
+use Rattle.query.proofs.EncodingLaws.{query-in-length}
+use Rattle.columns.specs.ColumnContracts.{four}
+use Rattle.columns.proofs.ColumnLoops.{four-back}
+use Rattle.rules.specs.Sizes.{maxList}
+use Rattle.rules.specs.Answers.{keyIn, lengthIn}
+use Rattle.rules.specs.Client.{Client, kind, steps, entryOf, inserts, idle, isIdle, queryAt, stepsInAll, isBad}
+use Rattle.rules.proofs.ClientLaws.{busy-of}
+
+-- ---- counts of nodes
+pub power-small : (n p : ℕ) → p ≡ 2 ^ n → n ≤ 4 → p ≤ 16
+power-small n p e h = rw e (pow-le-pow-right {n = 2} (omega arith) {i = n} {j = 4} h)
+
+pub named-small : (n k : ℕ) (cols : List Column) → n ≡ named (take k cols) → k ≤ length cols → k ≤ 4 → n ≤ 4
+named-small n k cols e l h =
+    let m : named (take k cols) ≤ length (take k cols) = named-most (take k cols) in
+    let t : length (take k cols) ≡ k = length-take-le k cols l in
+    omega arith
+
+pub length-query : (k : ℕ) (c : Client) → length (queryAt k c) ≡ k
+unfolding queryAt
+length-query k c = query-in-length k (keyIn (entryOf c))
+
+-- the columns that are read are the client's query
+pub columns-back : (k : ℕ) (c : Client) (cols : List Column) → cols ≡ four (queryAt k c) → take k cols ≡ queryAt k c
+columns-back k c cols e = ap (take k) e ∙ four-back k (queryAt k c) (length-query k c)
+
+pub last-most : (x : ℕ) (q : Query) → length q ≤ 4 → stepsInAll x q ≤ 33
+unfolding stepsInAll
+last-most x q h = go (eqb x 1) (read-count-most q h) (write-count-most q h)
+  where
+    go : (y : Bool) → readCount q ≤ 16 → writeCount q ≤ 16 → cond y (readCount q + 3) (writeCount q + 1 + writeCount q) ≤ 33
+    go true a b = omega arith
+    go false a b = omega arith
+
+module _ (x : ℕ) (cols : List Column) (k : ℕ) where
+  pub last-read : (n p : ℕ) → n ≡ named (take k cols) → p ≡ 2 ^ n → x ≡ 1 → p + 3 ≡ stepsInAll x (take k cols)
+  unfolding stepsInAll readCount
+  last-read n p e g h = rw (eq-eqb x 1 h, g, e)
+
+  pub last-write : (p : ℕ) → p ≡ 2 ^ k → k ≤ length cols → (x ≡ 1 → ⊥) → p + 1 + p ≡ stepsInAll x (take k cols)
+  unfolding stepsInAll writeCount
+  last-write p g l h = rw (ne-eqb x 1 h, length-take-le k cols l, g)
+
+  -- an insert with a wildcard
+  pub insert-other : (x ≡ 2 → ⊥) → false ≡ (eqb x 2 && not (namesAll (take k cols)))
+  insert-other h = rw (ne-eqb x 2 h)
+
+  pub insert-names : (n : ℕ) → n ≡ named (take k cols) → k ≤ length cols → x ≡ 2 → not (eqb n k) ≡ (eqb x 2 && not (namesAll (take k cols)))
+  unfolding namesAll
+  insert-names n e l h = rw (eq-eqb x 2 h, length-take-le k cols l, e)
+
+-- ---- the ways out
+module _ (c : Client) where
+  -- a client with a kind is not idle
+  pub kind-busy : (kind c ≡ 0 → ⊥) → isIdle c ≡ false
+  unfolding isIdle kind
+  kind-busy h = ne-same c idle (λ e. h (ap (λ (l : List ℕ). getD l 0 0) e ∙ idle-kind))
+    where
+      idle-kind : getD idle 0 0 ≡ 0
+      idle-kind = unfold idle in refl
+
+-- of a client with a kind, what its other numbers say
+unfoldable isBadBusy : ℕ → Client → Bool
+isBadBusy k c =
+    not (isKey k (keyIn (entryOf c)))
+    || ((eqb (kind c) inserts && not (namesAll (queryAt k c)))
+    || (leb (stepsInAll (kind c) (queryAt k c)) (steps c)
+    || ltb maxList (lengthIn (entryOf c))))
+
+module _ (k : ℕ) (c : Client) where
+  pub bad-none : (r : Bool) → r ≡ isIdle c → kind c ≡ 0 → not r ≡ isBad k c
+  unfolding isBad
+  bad-none true e h = rw (← e)
+  bad-none false e h = rw (← e, h)
+
+  -- a client that is not bad and has no kind is idle
+  pub none-idle : false ≡ isBad k c → kind c ≡ 0 → true ≡ isIdle c
+  none-idle g h = sym (not-false (isIdle c) (bad-none (isIdle c) refl h ∙ sym g))
+
+  bad-busy : (kind c ≡ 0 → ⊥) → kind c ≤ 3 → isBadBusy k c ≡ isBad k c
+  unfolding isBad isBadBusy
+  bad-busy h g = rw (kind-busy c h, ne-eqb (kind c) 0 h, le-ltb 3 (kind c) g)
+
+  pub bad-kind : (x : ℕ) → x ≡ kind c → (x ≡ 0 → ⊥) → 3 < x → true ≡ isBad k c
+  unfolding isBad
+  bad-kind x e h g =
+      let h′ : kind c ≡ 0 → ⊥ = λ z. h (e ∙ z) in
+      let g′ : 3 < kind c = omega arith in
+      rw (kind-busy c h′, ne-eqb (kind c) 0 h′, lt-ltb 3 (kind c) g′)
+
+  -- x: the kind that was read, a: the key's test, b: the insert's, e: the step's
+  module _ (x : ℕ) (is : x ≡ kind c) (some : x ≡ 0 → ⊥) (most : x ≤ 3) where
+    whole : isBadBusy k c ≡ isBad k c
+    whole = bad-busy (λ z. some (is ∙ z)) (omega arith)
+
+    pub bad-key : (a : Bool) → a ≡ not (isKey k (keyIn (entryOf c))) → a ≡ true → true ≡ isBad k c
+    unfolding isBadBusy
+    bad-key a p h = rw (← p, h) at whole
+
+    module _ (a : Bool) (p : a ≡ not (isKey k (keyIn (entryOf c)))) (h : a ≡ false) (cols : List Column) (q : cols ≡ four (queryAt k c)) where
+      insert-is : (b : Bool) → b ≡ (eqb x 2 && not (namesAll (take k cols))) → b ≡ (eqb (kind c) inserts && not (namesAll (queryAt k c)))
+      insert-is b r = r ∙ rw (columns-back k c cols q, is)
+
+      step-is : (e : Bool) → e ≡ leb (stepsInAll x (take k cols)) (steps c) → e ≡ leb (stepsInAll (kind c) (queryAt k c)) (steps c)
+      step-is e t = t ∙ rw (columns-back k c cols q, is)
+
+      pub bad-insert : (b : Bool) → b ≡ (eqb x 2 && not (namesAll (take k cols))) → b ≡ true → true ≡ isBad k c
+      unfolding isBadBusy
+      bad-insert b r g = rw (← p, h, ← insert-is b r, g) at whole
+
+      module _ (b : Bool) (r : b ≡ (eqb x 2 && not (namesAll (take k cols)))) (g : b ≡ false) where
+        pub bad-step : (e : Bool) → e ≡ leb (stepsInAll x (take k cols)) (steps c) → e ≡ true → true ≡ isBad k c
+        unfolding isBadBusy
+        bad-step e t l = rw (← p, h, ← insert-is b r, g, ← step-is e t, l) at whole
+
+        pub bad-length : (e z : Bool) → e ≡ leb (stepsInAll x (take k cols)) (steps c) → e ≡ false → z ≡ ltb 32 (lengthIn (entryOf c)) → z ≡ isBad k c
+        unfolding isBadBusy
+        bad-length e z t l m = m ∙ (rw (← p, h, ← insert-is b r, g, ← step-is e t, l) at whole)
+
+-- ---- what a client that is neither idle nor senseless holds
+pub record Sound (k : ℕ) (c : Client) : Type 0 where
+  pub least : 1 ≤ kind c
+  pub most : kind c ≤ 3
+  pub key : isKey k (keyIn (entryOf c)) ≡ true
+  pub names : kind c ≡ inserts → namesAll (queryAt k c) ≡ true
+  pub step : steps c < stepsInAll (kind c) (queryAt k c)
+  pub last : stepsInAll (kind c) (queryAt k c) ≤ 33
+  pub list : lengthIn (entryOf c) ≤ 32
+
+pub sound-client : (k : ℕ) (c : Client) → k ≤ 4 → isBad k c ≡ false → isIdle c ≡ false → Sound k c
+sound-client k c h e i =
+    let b = busy-of k c e i in
+    record {
+      least = b .low;
+      most = b .high;
+      key = b .key;
+      names = b .names;
+      step = b .going;
+      last = last-most (kind c) (queryAt k c) (let l : length (queryAt k c) ≡ k = length-query k c in omega arith);
+      list = b .short;
+    }

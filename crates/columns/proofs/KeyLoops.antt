@@ -1,0 +1,224 @@
+-- Laws on marks, values and keys, over plain lists. Leans on FillLoop and ColumnLoops. Assumes nothing.
+use mathlib.Core.Path.{_≡_, refl, sym, _∙_}
+use mathlib.Core.Bool.{Bool, true, false, _&&_, not}
+use mathlib.Core.List.{List, [], _∷_, _++_, map}
+use Prim.Native.Nat.{ℕ, zero, suc, _+_, _-_, _*_, _/_, _%_, _^_, _≤_, _<_}
+use native.Mathlib.Nat.{pow-succ', sub-zero}
+use native.Mathlib.Numerals.{add-one}
+use native.Mathlib.Omega.{arith}
+use lib.Dec.{eqb, ltb}
+use lib.ListN.{length, take, drop, getD, set, replicate, length-take, length-drop, length-map, drop-of-length-le}
+use lib.Seq.{take-all, drop-cons, getD-drop, drop-drop}
+use borrow.Author.Tests.{eq-eqb, ne-eqb, lt-ltb, le-ltb, eqb-true, ltb-true, not-true, not-false}
+use Rattle.lists.specs.Lists.{padded, same}
+use Rattle.query.specs.declared.Column.{Column}
+use Rattle.query.specs.declared.Column.the-variants.{Is, Wildcard}
+use Rattle.query.specs.Query.{Query, named}
+use Rattle.query.specs.Encoding.{columnOf, columnValue, marks, columnsIn, queryIn, keyWords, isKey}
+use Rattle.query.proofs.EncodingLaws.{columns-length}
+use Rattle.columns.specs.ColumnContracts.{four}
+use Rattle.columns.specs.KeyContracts.{markOf, keeps, zeroUnder}
+use Rattle.columns.proofs.FillLoop.{Filled, next-rest, fill-none, fill-more, fill-all, drop-map}
+use Rattle.columns.proofs.ColumnLoops.{at-place, past-all}
+
+-- ---- Marks
+pub mark-most : (c : Column) → markOf c ≤ 1
+unfolding markOf
+mark-most (Is v) = omega arith
+mark-most Wildcard = omega arith
+
+pub mark-small : (r : ℕ) (c : Column) → r ≡ markOf c → r ≤ 1
+mark-small r c e = omega (arith, mark-most c)
+
+pub marks-cons : (c : Column) (q : Query) → marks (c ∷ q) ≡ markOf c + 2 * marks q
+unfolding marks markOf
+marks-cons (Is v) q = refl
+marks-cons Wildcard q = refl
+
+pub named-cons : (c : Column) (q : Query) → named (c ∷ q) ≡ markOf c + named q
+unfolding named markOf
+named-cons (Is v) q = omega arith
+named-cons Wildcard q = omega arith
+
+-- n bits, all 1
+unfoldable pub ones : ℕ → ℕ
+ones zero = 0
+ones (suc n) = 1 + 2 * ones n
+
+pub marks-most : (n : ℕ) (q : Query) → length q ≤ n → marks q ≤ ones n
+unfolding marks ones
+marks-most n [] h = omega arith
+marks-most zero (c ∷ q) h = absurd (omega arith)
+marks-most (suc n) (c ∷ q) h = rw marks-cons (omega (arith, mark-most c, marks-most n q (omega arith)))
+
+pub marks-four : (k i : ℕ) (cols : List Column) → k ≤ 4 → marks (drop i (take k cols)) ≤ 15
+unfolding ones
+marks-four k i cols h =
+    let l : length (drop i (take k cols)) ≤ 4 = simp (length-drop, length-take) (omega arith) in
+    marks-most 4 (drop i (take k cols)) l
+
+pub marks-small : (r k : ℕ) (cols : List Column) → r ≡ marks (take k cols) → k ≤ 4 → r ≤ 15
+marks-small r k cols e h = omega (arith, marks-four k 0 cols h)
+
+-- a loop that goes down from k: what it has of the columns from i on, with the column before
+module _ (z : Column) (cols : List Column) (k i : ℕ) (h : 0 < i) (b : i ≤ k) (l : k ≤ length cols) where
+  before : drop (i - 1) (take k cols) ≡ getD cols (i - 1) z ∷ drop i (take k cols)
+  before =
+      let e : i - 1 + 1 ≡ i = omega arith in
+      let w : i - 1 < k = omega arith in
+      rw e at (at-place z cols k (i - 1) w l)
+
+  pub marks-more : (m r : ℕ) → m ≡ marks (drop i (take k cols)) → r ≡ markOf (getD cols (i - 1) z) → r + 2 * m ≡ marks (drop (i - 1) (take k cols))
+  marks-more m r e f = rw (before, marks-cons, e, f)
+
+  pub named-more : (n r : ℕ) → n ≡ named (drop i (take k cols)) → r ≡ markOf (getD cols (i - 1) z) → n + r ≡ named (drop (i - 1) (take k cols))
+  named-more n r e f = rw (before, named-cons, e, f) (omega arith)
+
+pub marks-none : (cols : List Column) (k : ℕ) → 0 ≡ marks (drop k (take k cols))
+unfolding marks
+marks-none cols k = rw (past-all cols k k (omega arith))
+
+pub named-none : (cols : List Column) (k : ℕ) → 0 ≡ named (drop k (take k cols))
+unfolding named
+named-none cols k = rw (past-all cols k k (omega arith))
+
+pub down-all : (f : Query → ℕ) (q : Query) (i n : ℕ) → n ≡ f (drop i q) → i ≤ 0 → n ≡ f q
+down-all f q zero n e h = e
+down-all f q (suc i) n e h = absurd (omega arith)
+
+-- ---- Columns from marks and values
+pub record Reading (k marks : ℕ) (values : List ℕ) (cols : List Column) (left i : ℕ) : Type 0 where
+  pub within : i ≤ k
+  pub rest : drop i (columnsIn k marks values) ≡ columnsIn (k - i) left (drop i values)
+  pub fill : Filled 4 Wildcard (columnsIn k marks values) i cols
+
+pub reading-none : (k m : ℕ) (values : List ℕ) → Reading k m values (replicate 4 Wildcard) m 0
+reading-none k m values = record { within = omega arith; rest = rw sub-zero; fill = fill-none 4 Wildcard (columnsIn k m values) }
+
+pub reading-more : (k m : ℕ) (values : List ℕ) (cols : List Column) (left i : ℕ) (col : Column) → Reading k m values cols left i
+    → col ≡ columnOf (left % 2) (getD values i 0) → i < k → k ≤ 4 → Reading k m values (set cols i col) (left / 2) (i + 1)
+unfolding columnsIn
+reading-more k m values cols left i col t e h b =
+    let d : k - i ≡ suc (k - (i + 1)) = omega arith in
+    let z : i + 0 ≡ i = omega arith in
+    let f : drop i (columnsIn k m values) ≡ col ∷ columnsIn (k - (i + 1)) (left / 2) (drop (i + 1) values) =
+    t .rest ∙ rw (d, getD-drop i values 0 0, z, drop-drop 1 i values, e) in
+    record { within = omega arith; rest = next-rest _ i _ _ f; fill = fill-more 4 Wildcard _ i _ _ _ (t .fill) f (omega arith) }
+
+pub reading-all : (k m : ℕ) (values : List ℕ) (cols : List Column) (left i : ℕ) → Reading k m values cols left i → k ≤ i → cols ≡ four (columnsIn k m values)
+unfolding four columnsIn
+reading-all k m values cols left i t h =
+    let d : k - i ≡ 0 = omega arith in
+    fill-all 4 Wildcard _ i _ (t .fill) (t .rest ∙ rw d)
+
+-- ---- Keys
+-- a word before the values of q
+pub record Keying (q : Query) (i : ℕ) (key : List ℕ) : Type 0 where
+  pub fill : Filled 7 0 (marks q ∷ map columnValue q) (i + 1) key
+
+pub keying-none : (q : Query) (m : ℕ) → m ≡ marks q → Keying q 0 (set (replicate 7 0) 0 m)
+keying-none q m e =
+    let l : List ℕ = marks q ∷ map columnValue q in
+    record { fill = rw e (fill-more 7 0 l 0 (replicate 7 0) (marks q) (map columnValue q) (fill-none 7 0 l) refl (omega arith)) }
+
+pub keying-more : (z : Column) (cols : List Column) (k i : ℕ) (key : List ℕ) (v : ℕ) → Keying (take k cols) i key → v ≡ columnValue (getD cols i z) → i < k
+    → k ≤ length cols → k ≤ 4 → Keying (take k cols) (i + 1) (set key (i + 1) v)
+keying-more z cols k i key v t e h l b =
+    let a : drop (i + 1) (marks (take k cols) ∷ map columnValue (take k cols)) ≡ v ∷ map columnValue (drop (i + 1) (take k cols)) =
+    rw (add-one i, drop-map columnValue i (take k cols), at-place z cols k i h l, e, add-one i) in
+    record { fill = fill-more 7 0 _ (i + 1) _ _ _ (t .fill) a (omega arith) }
+
+pub keying-all : (cols : List Column) (k i : ℕ) (key : List ℕ) → Keying (take k cols) i key → k ≤ i → key ≡ keyWords (take k cols)
+unfolding keyWords padded
+keying-all cols k i key t h =
+    let a : drop (i + 1) (marks (take k cols) ∷ map columnValue (take k cols)) ≡ [] = rw (add-one i, drop-map columnValue i (take k cols), past-all cols k i h) in
+    let s : 7 - suc (length (map columnValue (take k cols))) ≡ 6 - length (map columnValue (take k cols)) = omega arith in
+    fill-all 7 0 _ (i + 1) _ (t .fill) a ∙ rw s
+
+-- ---- No value without a mark
+pub keeps-marked : (m v : ℕ) → m % 2 ≡ 1 → true ≡ keeps m v
+unfolding keeps
+keeps-marked m v e = rw e
+
+pub keeps-unmarked : (m v : ℕ) → (m % 2 ≡ 1 → ⊥) → eqb v 0 ≡ keeps m v
+unfolding keeps
+keeps-unmarked m v n = rw (ne-eqb (m % 2) 1 n)
+
+module _ (values : List ℕ) (left i : ℕ) (h : i < length values) (r : Bool) (e : r ≡ keeps left (getD values i 0)) where
+  pub under-no : not r ≡ true → zeroUnder left (drop i values) ≡ false
+  unfolding zeroUnder
+  under-no n = rw (drop-cons values i 0 h, ← e, not-true r n)
+
+  pub under-on : not r ≡ false → zeroUnder left (drop i values) ≡ zeroUnder (left / 2) (drop (i + 1) values)
+  unfolding zeroUnder
+  under-on n = rw (add-one, drop-cons values i 0 h, ← e, not-false r n)
+
+pub under-end : (values : List ℕ) (left i : ℕ) → length values ≤ i → zeroUnder left (drop i values) ≡ true
+unfolding zeroUnder
+under-end values left i h = rw (drop-of-length-le values h)
+
+-- ---- A key's rule: its marks are below 2 ^ k, and no value stands without a mark
+same-test : (p r : Bool) → (p ≡ true → r ≡ true) → (r ≡ true → p ≡ true) → p ≡ r
+same-test true true f g = refl
+same-test true false f g = sym (f refl)
+same-test false true f g = g refl
+same-test false false f g = refl
+
+swap : (a b c : Bool) → a && (b && c) ≡ b && (a && c)
+swap true true c = refl
+swap true false c = refl
+swap false true c = refl
+swap false false c = refl
+
+zeros-under : (vs : List ℕ) → same vs (replicate (length vs) 0) ≡ zeroUnder 0 vs
+unfolding same zeroUnder keeps
+zeros-under [] = refl
+zeros-under (v ∷ vs) = rw (zeros-under vs)
+
+half-marks : (m M b : ℕ) → m % 2 ≡ b → eqb m (b + 2 * M) ≡ eqb (m / 2) M
+half-marks m M b e =
+    same-test _ _ (λ t. eq-eqb (m / 2) M (omega (arith, eqb-true m (b + 2 * M) t))) (λ t. eq-eqb m (b + 2 * M) (omega (arith, eqb-true (m / 2) M t)))
+
+half-power : (m k : ℕ) → ltb m (2 ^ suc k) ≡ ltb (m / 2) (2 ^ k)
+half-power m k =
+    rw (pow-succ' 2 k)
+    (same-test _ _ (λ t. lt-ltb (m / 2) (2 ^ k) (omega (arith, ltb-true m (2 * 2 ^ k) t))) (λ t. lt-ltb m (2 * 2 ^ k) (omega (arith, ltb-true (m / 2) (2 ^ k) t))))
+
+-- one column more, by its mark
+module _ (k m v : ℕ) (vs l : List ℕ) (q : Query) (r : (eqb (m / 2) (marks q) && same vs l) ≡ (ltb (m / 2) (2 ^ k) && zeroUnder (m / 2) vs)) where
+  key-more : (b : ℕ) → m % 2 ≡ b
+      → (eqb m (marks (columnOf (m % 2) v ∷ q)) && same (v ∷ vs) (columnValue (columnOf (m % 2) v) ∷ l)) ≡ (ltb m (2 ^ suc k) && zeroUnder m (v ∷ vs))
+  unfolding columnOf columnValue marks same zeroUnder keeps
+  key-more zero e =
+      rw (e, half-marks m (marks q) 0 e, half-power m k, swap (eqb (m / 2) (marks q)) (eqb v 0) (same vs l), r)
+      (swap (eqb v 0) (ltb (m / 2) (2 ^ k)) (zeroUnder (m / 2) vs))
+  key-more (suc zero) e = rw (e, half-marks m (marks q) 1 e, half-power m k, eq-eqb v v refl) r
+  key-more (suc (suc b)) e = absurd (omega arith)
+
+key-rule : (k m : ℕ) (vs : List ℕ) → k ≤ length vs
+    → (eqb m (marks (columnsIn k m vs)) && same vs (map columnValue (columnsIn k m vs) ++ replicate (length vs - k) 0)) ≡ (ltb m (2 ^ k) && zeroUnder m vs)
+unfolding columnsIn
+key-rule zero zero vs h = unfold marks in rw (sub-zero (length vs)) (zeros-under vs)
+key-rule zero (suc m) vs h = unfold marks in rw (ne-eqb (suc m) 0 (λ e. omega arith), le-ltb (suc m) 1 (omega arith))
+key-rule (suc k) m [] h = absurd (omega arith)
+key-rule (suc k) m (v ∷ vs) h =
+    let d : suc (length vs) - suc k ≡ length vs - k = omega arith in
+    let l : k ≤ length vs = omega arith in
+    rw d (key-more k m v vs _ (columnsIn k (m / 2) vs) (key-rule k (m / 2) vs l) (m % 2) refl)
+
+pub key-whole : (k : ℕ) (key : List ℕ) → k ≤ 4 → length key ≡ 7 → isKey k key ≡ (ltb (getD key 0 0) (2 ^ k) && zeroUnder (getD key 0 0) (drop 1 key))
+unfolding isKey keyWords queryIn padded same
+key-whole k [] b h = absurd (omega arith)
+key-whole k (m ∷ vs) b h =
+    let l : k ≤ length vs = omega arith in
+    let n : 6 - k ≡ length vs - k = omega arith in
+    rw (length-map (columnsIn k m vs) columnValue, columns-length k m vs, n) (key-rule k m vs l)
+
+pub key-high : (k p : ℕ) (key : List ℕ) → p ≡ 2 ^ k → k ≤ 4 → length key ≡ 7 → p ≤ getD key 0 0 → false ≡ isKey k key
+key-high k p key e b h l = rw (key-whole k key b h, ← e, le-ltb (getD key 0 0) p l)
+
+pub key-low : (k p : ℕ) (key : List ℕ) (r : Bool) → p ≡ 2 ^ k → k ≤ 4 → length key ≡ 7 → getD key 0 0 < p
+    → r ≡ zeroUnder (getD key 0 0) (take (length key - 1) (drop 1 key)) → r ≡ isKey k key
+key-low k p key r e b h l z =
+    let w : length (drop 1 key) ≤ length key - 1 = simp length-drop (omega arith) in
+    rw (key-whole k key b h, ← e, lt-ltb (getD key 0 0) p l) (rw (take-all (length key - 1) (drop 1 key) w) at z)

@@ -1,0 +1,179 @@
+-- The corollaries of demands 2 and 3, for every history. Leans on Demand3Holds, TableOrdered, Works, Steady, WriteEffects and Seen. Assumes nothing.
+use mathlib.Core.Path.{_≡_, refl, sym, ap, _∙_}
+use mathlib.Core.Bool.{Bool, true, false, cond}
+use mathlib.Core.List.{List, [], _∷_}
+use Prim.Native.Nat.{ℕ, zero, suc, _≤_, _<_}
+use native.Mathlib.Omega.{arith}
+use lib.ListN.{length, getD}
+use Rattle.lists.specs.Lists.{same}
+use Rattle.laws.proofs.ListLaws.{same-refl}
+use Rattle.laws.proofs.TestLaws.{or-false-l, or-false-r, clash}
+use Rattle.query.specs.Query.{Query, Record, lies}
+use Rattle.query.specs.Encoding.{queryOf}
+use Rattle.rules.specs.declared.Outcome.{Outcome}
+use Rattle.rules.specs.declared.Outcome.the-variants.{Ended, Full}
+use Rattle.rules.specs.Table.{Table, insert, delete, listOf, has, changes, noRoom, Distinct}
+use Rattle.rules.specs.History.{beginRead}
+use Rattle.records.proofs.RecordSets.{has-list}
+use Rattle.records.proofs.RecordsAscending.{ascending-distinct}
+use Rattle.demands.specs.WholeHistory.{History, plainAt, callAt, resultAt}
+use Rattle.demands.specs.Demand3.{IsList}
+use Rattle.demands.specs.Corollaries.{Ends, Unopposed, EveryAnswer, InsertsSeen, DeletesSeen, Answers, ListAt, tableAt, OneRead, SeesEarlier, NeverBack, QuietIsNow, AnswersAscend, NoneTwice, Corollaries}
+use Rattle.demands.proofs.HistoryRuns.{sound}
+use Rattle.demands.proofs.Demand3Holds.{tables, answers, result-is}
+use Rattle.demands.proofs.TableOrdered.{good-table, demand-2-ascending}
+use Rattle.demands.proofs.LogPlaces.{read-begins}
+use Rattle.demands.proofs.Works.{one-work}
+use Rattle.demands.proofs.Flags.{reading}
+use Rattle.demands.proofs.Steady.{lists-stay, answer-short, answer-steps}
+use Rattle.demands.proofs.WriteEffects.{writes-take}
+use Rattle.demands.proofs.Seen.{inserted, deleted, keeps}
+
+-- ---- Answers
+every-answer : (h : History) → EveryAnswer h
+every-answer h n count cached l e =
+    let s = answer-steps h n _ cached l (result-is h n count cached (sound h n (omega arith) .cols) e) in
+    let w = answers h n (s .0) (s .1) count cached l (s .2) e in
+    (s .0, w .asked, w .b, record { tray = s .1; within = l; calls = s .2; runs = w .runs; says = e })
+
+-- ---- One read at a desk
+asked-eq : {d e : ℕ} {a c : List ℕ} → beginRead d a ≡ beginRead e c → a ≡ c
+asked-eq i = cc
+
+one-read : (h : History) → OneRead h
+one-read h d a a′ b b′ n l u v =
+    let e = one-work h d (reading (queryOf a)) (reading (queryOf a′)) b b′ n
+    (record { begin = beginRead d a; is = read-begins d a; within = l; runs = u })
+    (record { begin = beginRead d a′; is = read-begins d a′; within = l; runs = v }) in
+    (e, asked-eq (sym (u .begins) ∙ ap (callAt h) e ∙ v .begins))
+
+-- ---- The moment of an answer
+moment : (h : History) (d : ℕ) (a : List ℕ) (b n count : ℕ) (cached : Bool) → Answers h d a b n count cached
+    → (j : ℕ) × (b < j) × (j ≤ suc n) × ListAt h a n count j
+moment h d a b n count cached x =
+    let w = answers h n d (x .tray) count cached (x .within) (x .calls) (x .says) in
+    let l = x .within in
+    let e = one-read h d a (w .asked) b (w .b) n (omega arith) (x .runs) (w .runs) in
+    let i = e .0 in
+    let after = w .after in
+    (w .j, omega arith, w .upto, rw (e .1) (w .was))
+
+never-back : (h : History) → NeverBack h
+never-back h d d′ a a′ b n b′ n′ count count′ cached cached′ x y l =
+    let z = moment h d a b n count cached x in
+    let w = moment h d′ a′ b′ n′ count′ cached′ y in
+    (z .0, w .0, (let i = z .2 in let j = w .1 in omega arith), z .3, w .3)
+
+sees-earlier : (h : History) → SeesEarlier h
+sees-earlier h d a b n count cached x e l =
+    let z = moment h d a b n count cached x in
+    (z .0, (let i = z .1 in omega arith), z .2, z .3)
+
+-- the plain table is the table memory's
+table-list : (h : History) (a : List ℕ) (n count j : ℕ) → j ≤ length (h .calls) → ListAt h a n count j
+    → IsList (h .k) (listOf (queryOf a) (tableAt h j)) count (resultAt h n .tray)
+table-list h a n count j l x = rw (tables h j l) x
+
+quiet-is-now : (h : History) → QuietIsNow h
+quiet-is-now h d a b n count cached x k =
+    let z = moment h d a b n count cached x in
+    let l = x .within in
+    let up = z .2 in
+    let e = lists-stay h (queryOf a) b (suc n) (z .0) (omega arith) (z .1) up (λ i o m. k i o (omega arith)) in
+    rw e (table-list h a n count (z .0) (omega arith) (z .3))
+
+answers-ascend : (h : History) → AnswersAscend h
+answers-ascend h d a b n count cached x =
+    let z = moment h d a b n count cached x in
+    let l = x .within in
+    let up = z .2 in (
+      listOf (queryOf a) (tableAt h (z .0)),
+      table-list h a n count (z .0) (omega arith) (z .3),
+      demand-2-ascending h (z .0) (omega arith) .1 (queryOf a),
+      answer-short h n _ cached (x .within) (result-is h n count cached (sound h n (omega arith) .cols) (x .says)),
+    )
+
+-- ---- No record twice
+not-has : (r : Record) (t : Table) → has r t ≡ false → (j : ℕ) → j < length t → r ≡ getD t j [] → ⊥
+unfolding has
+not-has r [] e j l i = omega arith
+not-has r (s ∷ t) e zero l i = clash (rw i (same-refl s)) (or-false-l (same s r) _ e)
+not-has r (s ∷ t) e (suc j) l i = not-has r t (or-false-r (same s r) _ e) j (omega arith) i
+
+distinct-places : (t : Table) → Distinct t → (i j : ℕ) → i < j → j < length t → getD t i [] ≡ getD t j [] → ⊥
+unfolding Distinct
+distinct-places [] o i j l m e = omega arith
+distinct-places (r ∷ t) o i zero l m e = omega arith
+distinct-places (r ∷ t) o zero (suc j) l m e = not-has r t (o .0) j (omega arith) e
+distinct-places (r ∷ t) o (suc i) (suc j) l m e = distinct-places t (o .1) i j (omega arith) (omega arith) e
+
+none-twice : (h : History) → NoneTwice h
+none-twice h n l =
+    let g = good-table h n l in
+    (distinct-places (tableAt h n) (ascending-distinct (tableAt h n) (g .ascending)), g .most)
+
+-- ---- What writes have done
+not-full : (c d f : Bool) → Ended c ≡ cond f Full (Ended d) → f ≡ false
+not-full c d true e = absurd (let z : _≡_ {A = ℕ} 0 1 = cc in omega arith)
+not-full c d false e = refl
+
+-- from its table step on, in the table of every moment up to call n
+insert-stays : (h : History) (d : ℕ) (r : Record) (b e n : ℕ) (changed : Bool) → Ends h d (insert r) b e (Ended changed) → e < n → n < length (h .calls)
+    → Unopposed h true r b n → (j : ℕ) → e < j → j ≤ suc n → has r (tableAt h j) ≡ true
+insert-stays h d r b e n changed x m l u j low up =
+    let z = writes-take h d (insert r) b e (Ended changed) x in
+    let t = z .0 in
+    let after = z .1 in
+    let upto = z .2 in
+    let f : noRoom (insert r) (plainAt h t .table) ≡ false = not-full changed (changes (insert r) (plainAt h t .table)) (noRoom (insert r) (plainAt h t .table)) (z .4) in
+    keeps h true r b n (suc t) l u (omega arith)
+    (ap (has r) (tables h (suc t) (omega arith) ∙ z .3) ∙ inserted r (plainAt h t .table) f) j (omega arith) up
+
+delete-stays : (h : History) (d : ℕ) (q : Query) (r : Record) (b e n : ℕ) (o : Outcome) → Ends h d (delete q) b e o → lies q r ≡ true → e < n → n < length (h .calls)
+    → Unopposed h false r b n → (j : ℕ) → e < j → j ≤ suc n → has r (tableAt h j) ≡ false
+delete-stays h d q r b e n o x y m l u j low up =
+    let z = writes-take h d (delete q) b e o x in
+    let t = z .0 in
+    let after = z .1 in
+    let upto = z .2 in
+    keeps h false r b n (suc t) l u (omega arith)
+    (ap (has r) (tables h (suc t) (omega arith) ∙ z .3) ∙ deleted q r (plainAt h t .table) y) j (omega arith) up
+
+inserts-seen : (h : History) → InsertsSeen h
+inserts-seen h d r b e changed x d′ a b′ n count cached y m i u =
+    let z = moment h d′ a b′ n count cached y in
+    let l = y .within in
+    let low = z .1 in
+    let up = z .2 in
+    let early = y .runs .earlier in (
+      listOf (queryOf a) (tableAt h (z .0)),
+      table-list h a n count (z .0) (omega arith) (z .3),
+      has-list r (queryOf a) (tableAt h (z .0)) ∙ rw (insert-stays h d r b e n changed x (omega arith) l u (z .0) (omega arith) up, i),
+    )
+
+deletes-seen : (h : History) → DeletesSeen h
+deletes-seen h d q b e o x d′ a b′ n count cached y m r i u =
+    let z = moment h d′ a b′ n count cached y in
+    let l = y .within in
+    let low = z .1 in
+    let up = z .2 in
+    let early = y .runs .earlier in (
+      listOf (queryOf a) (tableAt h (z .0)),
+      table-list h a n count (z .0) (omega arith) (z .3),
+      has-list r (queryOf a) (tableAt h (z .0)) ∙ rw (delete-stays h d q r b e n o x i (omega arith) l u (z .0) (omega arith) up),
+    )
+
+pub corollaries : (h : History) → Corollaries h
+corollaries h = record {
+  every-answer = every-answer h;
+  one-read = one-read h;
+  file-was-true = λ d a b n count x. moment h d a b n count true x;
+  sees-earlier = sees-earlier h;
+  never-back = never-back h;
+  quiet-is-now = quiet-is-now h;
+  answers-ascend = answers-ascend h;
+  none-twice = none-twice h;
+  writes-take = writes-take h;
+  inserts-seen = inserts-seen h;
+  deletes-seen = deletes-seen h;
+}

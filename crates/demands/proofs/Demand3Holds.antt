@@ -1,0 +1,111 @@
+-- Demand 3, for every history of the calls that the contracts cite. Leans on HistoryRuns and LogPlaces, and on the machine's theorems. Assumes nothing.
+use mathlib.Core.Path.{_≡_, refl, sym, ap, _∙_, subst}
+use mathlib.Core.Bool.{Bool}
+use mathlib.Core.List.{List, [], _∷_, _++_}
+use Prim.Native.Nat.{ℕ, suc, _*_, _≤_, _<_}
+use native.Mathlib.Omega.{arith}
+use lib.ListN.{length, take}
+use Rattle.query.specs.Encoding.{queryOf, recordOf}
+use Rattle.rules.specs.declared.Outcome.the-variants.{Answered}
+use Rattle.rules.specs.Table.{Table, insert, delete, listOf}
+use Rattle.rules.specs.Memory.{recordsIn}
+use Rattle.rules.specs.Outcome.{StepResult}
+use Rattle.rules.specs.Refusals.{columns}
+use Rattle.rules.specs.History.{Call, Plain, beginRead, beginInsert, beginDelete, step}
+use Rattle.machine.proofs.Keys.{Key, Val, valueOf}
+use Rattle.machine.proofs.Machine as machine
+use Rattle.machine.proofs.Machine.{answered}
+use Rattle.machine.proofs.Transition.{Transition}
+use Rattle.machine.proofs.Trace.{Act, reads, writes}
+use Rattle.machine.proofs.Log.{entry, plainTable, startOf}
+use Rattle.machine.proofs.Histories as histories
+use Rattle.refinement.proofs.Abstraction.{stateOf, callOf, responseIn, responseOf}
+use Rattle.demands.specs.WholeHistory.{History, memAt, plainAt, callAt, resultAt, UnderWay, stepsIn}
+use Rattle.demands.specs.Demand3.{IsList, WasTrue, Demand3}
+use Rattle.demands.proofs.HistoryRuns.{responseAt, entryAt, logTo, sound, transition-at, few-columns, plain-at}
+use Rattle.demands.proofs.LogPlaces.{length-log, take-log, read-begins, insert-begins, delete-begins, under-log, read-places, steps-log}
+
+-- ---- The table
+pub table-is : (h : History) (n : ℕ) → n ≤ length (h .calls) → stateOf (memAt h n) .tab ≡ recordsIn (h .k) (memAt h n .table)
+unfolding stateOf
+table-is h n l = ap (λ k. recordsIn k (memAt h n .table)) (sound h n l .cols)
+
+pub plain-table : (h : History) (n : ℕ) → n ≤ length (h .calls) → plainTable (logTo h n) ≡ plainAt h n .table
+unfolding plainTable
+plain-table h n l = ap (λ (p : Plain). p .table) (plain-at h n l)
+
+pub tables : (h : History) (n : ℕ) → n ≤ length (h .calls) → recordsIn (h .k) (memAt h n .table) ≡ plainAt h n .table
+tables h n l =
+    sym (table-is h n l) ∙ histories.tables (h .k) (few-columns h) (logTo h n) (stateOf (memAt h n)) (sound h n l .run) ∙ plain-table h n l
+
+-- ---- The answers
+abbrev pub said : ℕ → List ℕ → ℕ → Val
+said k tray count = record { count = count; numbers = take (count * k) tray }
+
+answer-is : (k : ℕ) (x : StepResult) (count : ℕ) (cached : Bool) → x .out ≡ Answered count cached → responseOf k x ≡ answered (said k (x .tray) count) cached
+unfolding responseOf responseIn
+answer-is k x count cached e = ap (responseIn k (x .tray)) e
+
+step-is : (h : History) (n d : ℕ) (tray : List ℕ) → callAt h n ≡ step d tray → callOf (callAt h n) ≡ machine.step d
+unfolding callOf
+step-is h n d tray e = ap callOf e
+
+pub result-is : (h : History) (n count : ℕ) (cached : Bool) → columns (memAt h n) ≡ h .k → resultAt h n .out ≡ Answered count cached
+    → responseAt h n ≡ answered (said (h .k) (resultAt h n .tray) count) cached
+unfolding responseAt
+result-is h n count cached k e = ap (λ x. responseOf x (resultAt h n)) k ∙ answer-is (h .k) (resultAt h n) count cached e
+
+log-more : (h : History) (n d : ℕ) (v : Val) (cached : Bool) → callOf (callAt h n) ≡ machine.step d → responseAt h n ≡ answered v cached
+    → logTo h n ++ (entry (machine.step d) (answered v cached) ∷ []) ≡ logTo h (suc n)
+unfolding logTo entryAt
+log-more h n d v cached c a = rw (c, a) refl
+
+-- a value told is a list told
+is-list : (k : ℕ) (q : Key) (t : Table) (tray : List ℕ) (count : ℕ) → said k tray count ≡ valueOf q t → IsList k (listOf (q .asked) t) count tray
+unfolding valueOf
+is-list k q t tray count e =
+    let c : count ≡ length (listOf (q .asked) t) = ap (λ (v : Val). v .count) e in
+    record { counted = c; unsourced = ap (λ n. take (n * k) tray) (sym c) ∙ ap (λ (v : Val). v .numbers) e }
+
+pub answers : (h : History) (n d : ℕ) (tray : List ℕ) (count : ℕ) (cached : Bool) → n < length (h .calls) → callAt h n ≡ step d tray
+    → resultAt h n .out ≡ Answered count cached → WasTrue h d n count
+answers h n d tray count cached l c e =
+    let s = sound h n (omega arith) in
+    let v = said (h .k) (resultAt h n .tray) count in
+    let a = result-is h n count cached (s .cols) e in
+    let o : Transition (stateOf (memAt h n)) (machine.step d) (answered v cached) (stateOf (memAt h (suc n))) =
+    subst (λ x. Transition (stateOf (memAt h n)) (machine.step d) x (stateOf (memAt h (suc n)))) a
+    (subst (λ x. Transition (stateOf (memAt h n)) x (responseAt h n) (stateOf (memAt h (suc n)))) (step-is h n d tray c) (transition-at h n l)) in
+    let w = histories.answers (h .k) (few-columns h) (logTo h n) (stateOf (memAt h n)) (stateOf (memAt h (suc n))) (s .run) d v cached o in
+    let u = read-places h d n (w .key) (omega arith) (w .underWay) in
+    let k = length-log h n in
+    let up : w .moment ≤ suc n = let z = w .upto in omega arith in
+    let m : take (w .moment) (logTo h n ++ (entry (machine.step d) (answered v cached) ∷ [])) ≡ logTo h (w .moment) =
+    ap (take (w .moment)) (log-more h n d v cached (step-is h n d tray c) a) ∙ take-log h (w .moment) (suc n) up in
+    record {
+      asked = u .asked;
+      b = length (w .underWay .earlier);
+      runs = u .runs;
+      j = w .moment;
+      after = w .later;
+      upto = up;
+      was = rw (u .asks) (is-list (h .k) (w .key) (plainAt h (w .moment) .table) (resultAt h n .tray) count
+          (w .was ∙ ap (λ x. valueOf (w .key) (plainTable x)) m ∙ ap (valueOf (w .key)) (plain-table h (w .moment) (omega arith))));
+    }
+
+-- ---- The limits
+limit : (h : History) (begin : Call) (d b n : ℕ) (x : Act) → n ≤ length (h .calls) → callOf begin ≡ startOf x d → UnderWay h begin d b n
+    → stepsIn h d b n < histories.limit x
+unfolding under-log
+limit h begin d b n x l s u =
+    let z = histories.limits (h .k) (few-columns h) (logTo h n) (stateOf (memAt h n)) (sound h n l .run) d x (under-log h begin d b n x l s u) in
+    rw (steps-log h d b n l) z
+
+pub demand-3 : (h : History) → Demand3 h
+demand-3 h = record {
+  tables = tables h;
+  answers = answers h;
+  reads-end = λ d a b n l u. limit h (beginRead d a) d b n (reads (record { asked = queryOf a })) l (read-begins d a) u;
+  inserts-end = λ d a b n l u. limit h (beginInsert d a) d b n (writes (insert (recordOf (queryOf a)))) l (insert-begins d a) u;
+  deletes-end = λ d a b n l u. limit h (beginDelete d a) d b n (writes (delete (queryOf a))) l (delete-begins d a) u;
+}

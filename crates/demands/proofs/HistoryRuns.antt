@@ -1,0 +1,168 @@
+-- A history call by call: its memories are states of the machine, its calls are steps of it, and its plain table is the machine's.
+-- Leans on refinement and on machine's Claims and Histories. Assumes nothing.
+use mathlib.Core.Path.{_≡_, refl, sym, ap, _∙_, subst}
+use mathlib.Core.List.{List, [], _∷_, _++_}
+use Prim.Native.Nat.{ℕ, zero, suc, _≤_, _<_}
+use native.Mathlib.Omega.{arith}
+use lib.ListN.{length, getD, take}
+use Rattle.rules.specs.Memory.{Mem, storeIn, opened}
+use Rattle.rules.specs.Outcome.{number}
+use Rattle.rules.specs.Refusals.{columns}
+use Rattle.rules.specs.History.{Call, beginRead, beginInsert, beginDelete, step, abandon, evictAnswer, evictNode, renew, callResult}
+use Rattle.rules.specs.History.{Plain, plainAtOpening, fed, fedAccepted, memAfter, plainAfter}
+use Rattle.revisions.proofs.EffectiveRevision.{NoDup}
+use Rattle.machine.proofs.Machine as machine
+use Rattle.machine.proofs.Machine.{State, Response}
+use Rattle.machine.proofs.Transition.{Transition}
+use Rattle.machine.proofs.StateInv.{StateInv}
+use Rattle.machine.proofs.Plain as plain
+use Rattle.machine.proofs.Claims.{Hist, next, fresh, Good, good-next, opened-good}
+use Rattle.machine.proofs.Log.{Entry, entry, after}
+use Rattle.machine.proofs.Histories.{Run, after-append}
+use Rattle.refinement.proofs.Abstraction.{stateOf, callOf, responseOf, Fits}
+use Rattle.refinement.proofs.Refinement.{refines, columns-stay, number-is}
+use Rattle.refinement.proofs.Opening.{opened-fits}
+use Rattle.demands.specs.WholeHistory.{History, memAt, plainAt, callAt, resultAt}
+
+-- ---- One call more
+mem-more : (cs : List Call) (m : Mem) (n : ℕ) → n < length cs → memAfter m (take (suc n) cs) ≡ callResult (memAfter m (take n cs)) (getD cs n renew) .mem
+unfolding memAfter
+mem-more [] m n l = absurd (omega arith)
+mem-more (c ∷ cs) m zero l = refl
+mem-more (c ∷ cs) m (suc n) l = mem-more cs (callResult m c .mem) n (omega arith)
+
+plain-more : (cs : List Call) (m : Mem) (p : Plain) (n : ℕ) → n < length cs → plainAfter m p (take (suc n) cs)
+    ≡ fed (plainAfter m p (take n cs)) (getD cs n renew) (number (callResult (memAfter m (take n cs)) (getD cs n renew) .out))
+unfolding memAfter plainAfter
+plain-more [] m p n l = absurd (omega arith)
+plain-more (c ∷ cs) m p zero l = refl
+plain-more (c ∷ cs) m p (suc n) l = plain-more cs (callResult m c .mem) (fed p c (number (callResult m c .out))) n (omega arith)
+
+pub next-mem : (h : History) (n : ℕ) → n < length (h .calls) → memAt h (suc n) ≡ resultAt h n .mem
+unfolding memAt resultAt callAt
+next-mem h n l = mem-more (h .calls) (opened (h .k) (h .lent)) n l
+
+next-plain : (h : History) (n : ℕ) → n < length (h .calls) → plainAt h (suc n) ≡ fed (plainAt h n) (callAt h n) (number (resultAt h n .out))
+unfolding memAt plainAt resultAt callAt
+next-plain h n l = plain-more (h .calls) (opened (h .k) (h .lent)) plainAtOpening n l
+
+-- ---- The machine's log of a history
+-- what the machine answers to call n
+unfoldable pub responseAt : History → ℕ → Response
+responseAt h n = responseOf (columns (memAt h n)) (resultAt h n)
+
+unfoldable pub entryAt : History → ℕ → Entry
+entryAt h n = entry (callOf (callAt h n)) (responseAt h n)
+
+unfoldable pub logTo : History → ℕ → List Entry
+logTo h zero = []
+logTo h (suc n) = logTo h n ++ (entryAt h n ∷ [])
+
+pub after-to : (h : History) (n : ℕ) → after fresh (logTo h (suc n)) ≡ next (after fresh (logTo h n)) (callOf (callAt h n)) (responseAt h n)
+unfolding logTo entryAt
+after-to h n = after-append (logTo h n) fresh (entryAt h n)
+
+-- ---- After n calls
+pub record Sound (h : History) (n : ℕ) : Type 0 where
+  pub fits : Fits (memAt h n)
+  pub cols : columns (memAt h n) ≡ h .k
+  pub good : Good (stateOf (memAt h n)) (after fresh (logTo h n))
+  pub run : Run (machine.opened (h .k)) (logTo h n) (stateOf (memAt h n))
+
+once : (m : Mem) → StateInv (stateOf m) → NoDup (storeIn (m .nodes) .nodes)
+unfolding stateOf
+once m t = t .once
+
+-- the columns of the state
+cols-are : (m : Mem) → stateOf m .cols ≡ columns m
+unfolding stateOf
+cols-are m = refl
+
+opened-cols : (k : ℕ) → machine.opened k .cols ≡ k
+unfolding machine.opened
+opened-cols k = refl
+
+-- as the opening has left it
+opened-columns : (h : History) → columns (opened (h .k) (h .lent)) ≡ h .k
+opened-columns h =
+    let z = opened-fits (h .lent) (h .k) (h .accepted) in
+    sym (cols-are (opened (h .k) (h .lent))) ∙ ap (λ (s : State). s .cols) (z .1) ∙ opened-cols (h .k)
+
+pub few-columns : (h : History) → h .k ≤ 4
+few-columns h =
+    let a = opened-columns h in
+    let b = opened-fits (h .lent) (h .k) (h .accepted) .0 .few in
+    omega arith
+
+sound-opened : (h : History) → Sound h 0
+unfolding memAt memAfter logTo after
+sound-opened h =
+    let z = opened-fits (h .lent) (h .k) (h .accepted) in
+    record {
+      fits = z .0;
+      cols = opened-columns h;
+      good = rw (z .1) (opened-good (h .k) (few-columns h));
+      run = z .1;
+    }
+
+run-more : (l : List Entry) (s m t : State) (c : machine.Call) (a : Response) → Run s l m → Transition m c a t → Run s (l ++ (entry c a ∷ [])) t
+run-more [] s m t c a r o = (t, subst (λ x. Transition x c a t) r o, refl)
+run-more (e ∷ l) s m t c a r o = (r .0, r .1, run-more l (r .0) m t c a (r .2) o)
+
+-- a call of the history is a step of the machine
+transition-then : (h : History) (n : ℕ) → n < length (h .calls) → Sound h n
+    → Transition (stateOf (memAt h n)) (callOf (callAt h n)) (responseAt h n) (stateOf (memAt h (suc n))) × Fits (memAt h (suc n))
+unfolding responseAt resultAt
+transition-then h n l s = rw (next-mem h n l) (refines (memAt h n) (callAt h n) (s .fits) (once (memAt h n) (s .good .inv)))
+
+sound-next : (h : History) (n : ℕ) → n < length (h .calls) → Sound h n → Sound h (suc n)
+unfolding resultAt logTo entryAt
+sound-next h n l s =
+    let d = transition-then h n l s in
+    record {
+      fits = d .1;
+      cols = ap columns (next-mem h n l) ∙ columns-stay (memAt h n) (callAt h n) (s .fits) (once (memAt h n) (s .good .inv)) ∙ s .cols;
+      good = rw (after-to h n) (good-next (stateOf (memAt h n)) (after fresh (logTo h n)) (s .good) (d .0));
+      run = run-more (logTo h n) (machine.opened (h .k)) (stateOf (memAt h n)) (stateOf (memAt h (suc n))) (callOf (callAt h n)) (responseAt h n) (s .run) (d .0);
+    }
+
+pub sound : (h : History) (n : ℕ) → n ≤ length (h .calls) → Sound h n
+sound h zero l = sound-opened h
+sound h (suc n) l = sound-next h n (omega arith) (sound h n (omega arith))
+
+pub transition-at : (h : History) (n : ℕ) → n < length (h .calls) → Transition (stateOf (memAt h n)) (callOf (callAt h n)) (responseAt h n) (stateOf (memAt h (suc n)))
+transition-at h n l = transition-then h n l (sound h n (omega arith)) .0
+
+-- ---- The plain table
+fed-same : (p : Plain) (c : Call) (n : ℕ) → plain.fed p (callOf c) n ≡ fed p c n
+unfolding plain.fed plain.fedAccepted fed fedAccepted callOf
+fed-same p (beginRead d a) n = refl
+fed-same p (beginInsert d a) n = refl
+fed-same p (beginDelete d a) n = refl
+fed-same p (step d tray) n = refl
+fed-same p (abandon d) n = refl
+fed-same p (evictAnswer i) n = refl
+fed-same p (evictNode i) n = refl
+fed-same p renew n = refl
+
+pub number-at : (h : History) (n : ℕ) → machine.number (responseAt h n) ≡ number (resultAt h n .out)
+unfolding responseAt
+number-at h n = number-is (columns (memAt h n)) (resultAt h n)
+
+next-is : (g : Hist) (c : machine.Call) (a : Response) → next g c a .plain ≡ plain.fed (g .plain) c (machine.number a)
+unfolding next
+next-is g c a = refl
+
+pub plain-at : (h : History) (n : ℕ) → n ≤ length (h .calls) → after fresh (logTo h n) .plain ≡ plainAt h n
+plain-at h zero l = start h
+  where
+    start : (h : History) → after fresh (logTo h 0) .plain ≡ plainAt h 0
+    start h = unfold logTo in unfold after in unfold fresh in unfold plainAt in unfold plainAfter in refl
+plain-at h (suc n) l =
+    let g = after fresh (logTo h n) in
+    ap (λ (x : Hist). x .plain) (after-to h n)
+    ∙ next-is g (callOf (callAt h n)) (responseAt h n)
+    ∙ ap (λ p. plain.fed p (callOf (callAt h n)) (machine.number (responseAt h n))) (plain-at h n (omega arith))
+    ∙ fed-same (plainAt h n) (callAt h n) (machine.number (responseAt h n))
+    ∙ ap (fed (plainAt h n) (callAt h n)) (number-at h n)
+    ∙ sym (next-plain h n (omega arith))

@@ -1,0 +1,80 @@
+-- Document 01, "A history and the plain table", for the theorems: a whole history, its calls by number, and what is under way.
+-- Leans on rules' History. Definitions only. Assumes nothing.
+use mathlib.Core.Path.{_≡_}
+use mathlib.Core.Bool.{Bool, true, false, cond, _&&_}
+use mathlib.Core.List.{List}
+use Prim.Native.Nat.{ℕ, zero, suc, _+_, _<_}
+use lib.Dec.{eqb, ltb}
+use lib.ListN.{getD, take}
+use Rattle.rules.specs.declared.Outcome.{Outcome}
+use Rattle.rules.specs.declared.Outcome.the-variants.{Refused, Accepted, Answered, Long, Ended, Full}
+use Rattle.rules.specs.Memory.{Mem, opened}
+use Rattle.rules.specs.Outcome.{StepResult, number}
+use Rattle.rules.specs.Refusals.{openCode}
+use Rattle.rules.specs.History.{Call, beginRead, beginInsert, beginDelete, step, abandon, evictAnswer, evictNode, renew, callResult, isAccepted, Plain, plainAtOpening, memAfter, plainAfter}
+
+-- "A history is an accepted opening, with any k, and after it a list of calls, the empty one too"
+pub record History : Type 0 where
+  pub lent : Mem
+  pub k : ℕ
+  pub accepted : openCode lent k ≡ 0
+  pub calls : List Call
+
+-- the memories and the plain table after the first n calls; calls are numbered from 0
+unfoldable pub memAt : History → ℕ → Mem
+memAt h n = memAfter (opened (h .k) (h .lent)) (take n (h .calls))
+
+unfoldable pub plainAt : History → ℕ → Plain
+plainAt h n = plainAfter (opened (h .k) (h .lent)) plainAtOpening (take n (h .calls))
+
+-- call n, and what it returned and left
+unfoldable pub callAt : History → ℕ → Call
+callAt h n = getD (h .calls) n renew
+
+unfoldable pub resultAt : History → ℕ → StepResult
+resultAt h n = callResult (memAt h n) (callAt h n)
+
+unfoldable pub acceptedAt : History → ℕ → Bool
+acceptedAt h n = isAccepted (number (resultAt h n .out))
+
+-- "one that answers, gives 12, reports the write's end"
+unfoldable pub endsWork : Outcome → Bool
+endsWork (Refused n) = false
+endsWork Accepted = false
+endsWork (Answered n b) = true
+endsWork Long = true
+endsWork (Ended b) = true
+endsWork Full = true
+
+-- "A read or write runs from its accepted begin to the call at its desk that ends it: .. or an accepted abandoning."
+unfoldable pub endsAt : ℕ → Call → Outcome → Bool
+endsAt d (beginRead e a) o = false
+endsAt d (beginInsert e a) o = false
+endsAt d (beginDelete e a) o = false
+endsAt d (step e tray) o = eqb e d && endsWork o
+endsAt d (abandon e) o = eqb e d && isAccepted (number o)
+endsAt d (evictAnswer i) o = false
+endsAt d (evictNode i) o = false
+endsAt d renew o = false
+
+-- what call b began at desk d is under way when call n comes: no call in between has ended it
+pub record UnderWay (h : History) (begin : Call) (d b n : ℕ) : Type 0 where
+  pub begins : callAt h b ≡ begin
+  pub accepted : acceptedAt h b ≡ true
+  pub earlier : b < n
+  pub still : (i : ℕ) → b < i → i < n → endsAt d (callAt h i) (resultAt h i .out) ≡ false
+
+unfoldable pub isStepAt : ℕ → Call → Bool
+isStepAt d (beginRead e a) = false
+isStepAt d (beginInsert e a) = false
+isStepAt d (beginDelete e a) = false
+isStepAt d (step e tray) = eqb e d
+isStepAt d (abandon e) = false
+isStepAt d (evictAnswer i) = false
+isStepAt d (evictNode i) = false
+isStepAt d renew = false
+
+-- how many accepted steps desk d has made after call b and before call n
+unfoldable pub stepsIn : History → ℕ → ℕ → ℕ → ℕ
+stepsIn h d b zero = 0
+stepsIn h d b (suc n) = cond (ltb b n && (isStepAt d (callAt h n) && acceptedAt h n)) 1 0 + stepsIn h d b n

@@ -1,0 +1,337 @@
+-- What stays true of the state alone after every call of a history, and that a call keeps it: one walk over what a call did (transition-kept)
+-- says which desk changed and by what move. Leans on Transition, Moves and FiledAnswers. Assumes nothing.
+use mathlib.Core.Path.{_≡_, refl, sym, ap, _∙_, subst}
+use mathlib.Core.Logic.{inl, inr}
+use mathlib.Core.Bool.{Bool, true, false, _||_, true≢false}
+use mathlib.Core.List.{List, [], _∷_, _++_}
+use Prim.Native.Nat.{ℕ, suc, _+_, _≤_, _<_}
+use native.Mathlib.Omega.{arith}
+use lib.Dec.{eqb, ltb}
+use borrow.Author.Tests.{eqb-true, eqb-false}
+use lib.ListN.{length, getD, take, drop, drop-of-length-le}
+use Rattle.laws.proofs.TestLaws.{byTest}
+use Rattle.rules.specs.Table.{Write, effect, changes, noRoom}
+use Rattle.rules.specs.Nodes.{Store, store}
+use Rattle.revisions.proofs.EffectiveRevision.{effective, pendingOf, pendingIn, NoDup, tally, Raised}
+use Rattle.machine.proofs.Sums.{Words, upd, upd-same, upd-other, in-none}
+use Rattle.machine.proofs.Keys.{Key, Val, valueOf, readLabels, writeLabels, width, widthOf, write-labels-some}
+use Rattle.machine.proofs.Machine.{State, Phase, idle, looking, tabling, filing, announcing, raising, Ans, node, opened}
+use Rattle.machine.proofs.Machine.{at-client, with-store, with-filed, with-tab, filed-in}
+use Rattle.machine.proofs.Machine.{Call, begin-read, begin-write, step, abandon, evict-answer, evict-node, renew, Response}
+use Rattle.machine.proofs.FiledAnswers.{OneEach, in-filed, filed-one, cut-one}
+use Rattle.machine.proofs.PendingLabels.{holds, owes, owing, held-of, held-upd, none-held, reader-holds, reader-owes, tally-take, tally-drop}
+use Rattle.machine.proofs.PendingLabels.{take-whole, raise-up, raise-less, raise-owed, back-up}
+use Rattle.machine.proofs.Moves.{BoundTo, bound-on, IsAns, in-file, in-hand, AnsOk, New, Move, ans-moves, MoveAt, move-at, move-refl}
+use Rattle.machine.proofs.Moves.{same-lists, quiet-move, cut-move, out-move, wrote-lists, isFiling, not-filing, filing-of, grown, length-grown}
+use Rattle.machine.proofs.Moves.{grown-old, grown-new}
+use Rattle.machine.proofs.Transition
+use Rattle.machine.proofs.Transition.{Transition, isReader}
+
+-- a client's own facts
+abbrev pub Fit : ℕ → (Words → ℕ) → Phase → Type 0
+Fit k e idle = Unit
+Fit k e (looking q ns saw) = (width q ≡ k) × (length ns ≤ length (readLabels q)) × BoundTo (length ns) e q ns
+Fit k e (tabling q ns saw) = (width q ≡ k) × BoundTo (length (readLabels q)) e q ns
+Fit k e (filing q ns l) = width q ≡ k
+Fit k e (announcing w i) = (widthOf w ≡ k) × (i ≤ length (writeLabels w))
+Fit k e (raising w j c f) = (widthOf w ≡ k) × (j < length (writeLabels w))
+
+pub record StateInv (s : State) : Type 0 where
+  pub few : s .cols ≤ 4
+  pub once : NoDup (s .store .nodes)
+  pub high : (d : ℕ) → 12 ≤ d → s .clients d ≡ idle
+  pub fit : (d : ℕ) → Fit (s .cols) (effective (s .store)) (s .clients d)
+  pub held : (p : Words) → held-of (s .clients) p ≡ pendingOf (s .store) p
+  pub ans : (q : Key) (r : List ℕ) (l : Val) → IsAns s q r l → AnsOk s q r l
+  pub one : OneEach (s .filed)
+
+fit-on : (k : ℕ) (e f : Words → ℕ) (x : Phase) → ((p : Words) → e p ≤ f p) → Fit k e x → Fit k f x
+fit-on k e f idle m o = tt
+fit-on k e f (looking q ns saw) m o = (o .0, o .1, bound-on (length ns) e f q ns m (o .2))
+fit-on k e f (tabling q ns saw) m o = (o .0, bound-on (length (readLabels q)) e f q ns m (o .1))
+fit-on k e f (filing q ns l) m o = o
+fit-on k e f (announcing w i) m o = o
+fit-on k e f (raising w j c g) m o = o
+
+pub fit-at : (s : State) (d : ℕ) (x : Phase) → StateInv s → s .clients d ≡ x → Fit (s .cols) (effective (s .store)) x
+fit-at s d x v e = subst (λ y. Fit (s .cols) (effective (s .store)) y) e (v .fit d)
+
+-- ---- What a call did, as a move of one desk or none
+-- the desk d becomes x
+pub record At (s t : State) (d : ℕ) (x : Phase) : Type 0 where
+  pub move : MoveAt s t d x
+  pub once : NoDup (t .store .nodes)
+  pub fit : Fit (s .cols) (effective (t .store)) x
+  pub pendings : (p : Words) → tally p (holds x) + pendingOf (s .store) p ≡ tally p (holds (s .clients d)) + pendingOf (t .store) p
+  pub one : OneEach (t .filed)
+
+-- no desk changes
+pub record Aside (s t : State) : Type 0 where
+  pub move : Move s t
+  pub clients : t .clients ≡ s .clients
+  pub once : NoDup (t .store .nodes)
+  pub pendings : (p : Words) → pendingOf (t .store) p ≡ pendingOf (s .store) p
+  pub one : OneEach (t .filed)
+
+-- a renewal
+pub record Anew (s t : State) : Type 0 where
+  pub idle : (d : ℕ) → s .clients d ≡ idle
+  pub clients : t .clients ≡ s .clients
+  pub cols : t .cols ≡ s .cols
+  pub store : t .store ≡ store 1 []
+  pub filed : t .filed ≡ []
+
+pub data Kept (s : State) : Call → State → Type 0 where
+  at : {c : Call} {t : State} (d : ℕ) (x : Phase) → At s t d x → Kept s c t
+  aside : {c : Call} {t : State} → Aside s t → Kept s c t
+  anew : {t : State} → Anew s t → Kept s renew t
+
+-- ---- Each keeps the invariant
+at-inv : (s t : State) (d : ℕ) (x : Phase) → StateInv s → At s t d x → StateInv t
+at-inv s t d x v k =
+    let ds = k .move .clients in
+    let c = k .move .cols in
+    record {
+      few = rw c (v .few);
+      once = k .once;
+      high = λ e l. ap (λ f. f e) ds ∙ upd-other (s .clients) d x e (λ i. let a = k .move .low in omega arith) ∙ v .high e l;
+      fit = λ e. rw c (subst (λ f. Fit (s .cols) (effective (t .store)) (f e)) (sym ds) (byTest (eqb e d)
+          (λ i. subst (λ y. Fit (s .cols) (effective (t .store)) (upd (s .clients) d x y)) (sym (eqb-true e d i)) (rw (upd-same (s .clients) d x) (k .fit)))
+          (λ i. rw (upd-other (s .clients) d x e (eqb-false e d i)) (fit-on (s .cols) (effective (s .store)) (effective (t .store)) (s .clients e) (k .move .mono) (v .fit e)))));
+      held = λ p. let a = held-upd (s .clients) d x p (k .move .low) in let b = v .held p in let c = k .pendings p in
+          subst (λ f. held-of f p ≡ pendingOf (t .store) p) (sym ds) (omega arith);
+      ans = ans-moves (move-at (k .move)) (v .ans);
+      one = k .one;
+    }
+
+aside-inv : (s t : State) → StateInv s → Aside s t → StateInv t
+aside-inv s t v k =
+    let ds = k .clients in
+    let c = k .move .cols in
+    record {
+      few = rw c (v .few);
+      once = k .once;
+      high = λ e l. ap (λ f. f e) ds ∙ v .high e l;
+      fit = λ e. rw c (subst (λ f. Fit (s .cols) (effective (t .store)) (f e)) (sym ds) (fit-on (s .cols) (effective (s .store)) (effective (t .store)) (s .clients e) (k .move .mono) (v .fit e)));
+      held = λ p. subst (λ f. held-of f p ≡ pendingOf (t .store) p) (sym ds) (v .held p ∙ sym (k .pendings p));
+      ans = ans-moves (k .move) (v .ans);
+      one = k .one;
+    }
+
+anew-inv : (s t : State) → StateInv s → Anew s t → StateInv t
+unfolding NoDup pendingOf pendingIn OneEach
+anew-inv s t v k =
+    let at : (d : ℕ) → t .clients d ≡ idle = λ d. ap (λ f. f d) (k .clients) ∙ k .idle d in
+    record {
+      few = rw (k .cols) (v .few);
+      once = rw (k .store) tt;
+      high = λ d l. at d;
+      fit = λ d. rw (at d) tt;
+      held = λ p. none-held (t .clients) p at ∙ sym (rw (k .store) (let z : _≡_ {A = ℕ} 0 0 = refl in z));
+      ans = λ q r l a. elim a [ in-file i ↦ in-none (rw (k .filed) at i) | in-hand d i ↦ not-filing idle refl (sym (at d) ∙ i) ];
+      one = rw (k .filed) tt;
+    }
+
+-- ---- The outcomes that have much in common
+-- a desk that owes nothing becomes one that holds no list; table and answers stay
+quiet-at : {c : Call} (s : State) (t : Store) (d : ℕ) (x : Phase) → StateInv s → d < 12 → ((p : Words) → effective (s .store) p ≤ effective t p)
+    → ((p : Words) → tally p (owes (s .clients d)) ≡ 0) → isFiling x ≡ false
+    → NoDup (t .nodes) → Fit (s .cols) (effective t) x → ((p : Words) → tally p (holds x) + pendingOf (s .store) p ≡ tally p (holds (s .clients d)) + pendingOf t p)
+    → Kept s c (at-client (with-store s t) d x)
+unfolding at-client with-store
+quiet-at s t d x v l m o n u f k = at {t = at-client (with-store s t) d x} d x (record
+    { move = quiet-move s (at-client (with-store s t) d x) d x l refl refl refl refl m o n; once = u; fit = f; pendings = k; one = v .one })
+
+-- a reader's step that leaves the nodes alone
+reader-at : {c : Call} (s : State) (d : ℕ) (x : Phase) → StateInv s → d < 12 → isReader (s .clients d) ≡ true → isFiling x ≡ false
+    → Fit (s .cols) (effective (s .store)) x → ((p : Words) → tally p (holds x) ≡ 0)
+    → Kept s c (at-client s d x)
+unfolding at-client with-store
+reader-at s d x v l e n f h = quiet-at s (s .store) d x v l (λ p. omega arith) (λ p. reader-owes p (s .clients d) e) n (v .once) f
+    (λ p. let a = reader-holds p (s .clients d) e in let b = h p in omega arith)
+
+look-fit : (k : ℕ) (e f : Words → ℕ) (q : Key) (ns : List ℕ) (saw saw′ : Bool) → length ns < length (readLabels q) → ((p : Words) → e p ≤ f p)
+    → Fit k e (looking q ns saw)
+    → Fit k f (looking q (grown ns (f (node q (length ns)))) saw′)
+look-fit k e f q ns saw saw′ l m o =
+    let c = f (node q (length ns)) in
+    let n = length-grown ns c in (
+      o .0,
+      omega arith,
+      λ j b. byTest (eqb j (length ns))
+          (λ i. rw (eqb-true j (length ns) i, grown-new ns c) (omega arith))
+          (λ i. let ne : j ≡ length ns → ⊥ = eqb-false j (length ns) i in
+          let b′ : j < length ns = omega arith in
+          rw (grown-old ns c j b′) (let a = o .2 j b′ in let y = m (node q j) in omega arith)),
+    )
+
+raise-at : {y : Call} (s : State) (t : Store) (d : ℕ) (w : Write) (j : ℕ) (c f : Bool) (x : Phase) → StateInv s → d < 12 → s .clients d ≡ raising w j c f
+    → isFiling x ≡ false
+    → Raised true (getD (writeLabels w) j [] ∷ []) (s .store) t
+    → ((p : Words) → tally p (owes x) ≡ tally p (drop (suc j) (writeLabels w))) → ((p : Words) → tally p (holds x) ≡ tally p (drop (suc j) (writeLabels w)))
+    → Fit (s .cols) (effective t) x
+    → Kept s y (at-client (with-store s t) d x)
+unfolding at-client with-store holds
+raise-at s t d w j c f x v l e nf m ow ho fi =
+    let n = fit-at s d (raising w j c f) v e .1 in
+    at {t = at-client (with-store s t) d x} d x (record {
+      move = record {
+        low = l;
+        cols = refl;
+        clients = refl;
+        lists = same-lists s (at-client (with-store s t) d x) refl;
+        mono = λ p. let a = raise-up (getD (writeLabels w) j []) (s .store) t m p in omega arith;
+        owed = λ p a. rw (ow p) (raise-owed s d w j c f t e n m p a);
+        file = λ q r u a. inl (in-file a);
+        hand = λ q r u a. not-filing x nf a;
+      };
+      once = m .once;
+      fit = fi;
+      one = v .one;
+      pendings = λ p. rw e (let a = tally-drop p (writeLabels w) j n in let b = raise-less (getD (writeLabels w) j []) (s .store) t m p in let c = ho p in omega arith);
+    })
+
+-- ---- The one walk
+pub transition-kept : (s : State) {c : Call} {a : Response} {t : State} → StateInv s → Transition s c a t → Kept s c t
+unfolding at-client with-store with-filed with-tab holds owes owing tally grown
+transition-kept s v (Transition.nothing e) = aside (record { move = move-refl s; clients = refl; once = v .once; pendings = λ p. refl; one = v .one })
+transition-kept s v (Transition.began {d} {q} l e k) =
+    quiet-at s (s .store) d (looking q [] false) v l (λ p. omega arith) (λ p. rw e refl) refl (v .once) (k, omega arith, λ j b. absurd (omega arith)) (λ p. rw e refl)
+transition-kept s v (Transition.began-write {d} {w} l e k o) =
+    quiet-at s (s .store) d (announcing w 0) v l (λ p. omega arith) (λ p. rw e refl) refl (v .once) (k, omega arith) (λ p. rw e refl)
+transition-kept s v (Transition.looked {d} {q} {ns} {saw} {t} l e k m n) =
+    let o = fit-at s d (looking q ns saw) v e in
+    let c = effective t (node q (length ns)) in
+    let y = saw || ltb 0 (pendingOf t (node q (length ns))) in
+    quiet-at s t d (looking q (ns ++ (c ∷ [])) y) v l (m .mono) (λ p. rw e refl) refl (m .once)
+    (look-fit (s .cols) (effective (s .store)) (effective t) q ns saw y k (m .mono) o) (λ p. rw e (let b = m .keep p in omega arith))
+transition-kept s v (Transition.missed {d} {q} {ns} {saw} l e k y) =
+    let o = fit-at s d (looking q ns saw) v e in
+    reader-at s d (tabling q ns saw) v l (rw e refl) refl (o .0, λ j b. o .2 j (omega arith)) (λ p. refl)
+transition-kept s v (Transition.hit {d} l e k i f) = reader-at s d idle v l (rw e refl) refl tt (λ p. refl)
+transition-kept s v (Transition.too-long {d} l e k) = reader-at s d idle v l (rw e refl) refl tt (λ p. refl)
+transition-kept s v (Transition.listed {d} l e k) = reader-at s d idle v l (rw e refl) refl tt (λ p. refl)
+transition-kept s v (Transition.took {d} {q} {ns} l e k) =
+    let o = fit-at s d (tabling q ns false) v e in
+    let t = at-client s d (filing q ns (valueOf q (s .tab))) in
+    at {t = t} d (filing q ns (valueOf q (s .tab))) (record {
+      move = record {
+        low = l;
+        cols = refl;
+        clients = refl;
+        lists = same-lists s t refl;
+        mono = λ p. omega arith;
+        owed = λ p k. let z : tally p (owes (s .clients d)) ≡ 0 = rw e refl in absurd (omega arith);
+        file = λ q r l i. inl (in-file i);
+        hand = λ q′ r l i. inr (filing-of (New t) i (o .1, o .0, refl));
+      };
+      once = v .once;
+      fit = o .0;
+      pendings = λ p. rw e (omega arith);
+      one = v .one;
+    })
+transition-kept s v (Transition.filed {d} {q} {ns} {l = y} l e) =
+    let t = at-client (with-filed s (filed-in q ns y (s .filed))) d idle in
+    at {t = t} d idle (record {
+      move = record {
+        low = l;
+        cols = refl;
+        clients = refl;
+        lists = same-lists s t refl;
+        mono = λ p. omega arith;
+        owed = λ p k. let z : tally p (owes (s .clients d)) ≡ 0 = rw e refl in absurd (omega arith);
+        file = λ q′ r l′ i. inl (elim (in-filed q ns y (s .filed) (v .one) i) [
+          | inl k ↦ in-file (k .0)
+          | inr k ↦ in-hand d (e ∙ sym (ap {B = Phase} (λ (a : Ans). filing (a .query) (a .revs) (a .list)) k))
+        ]);
+        hand = λ q′ r l′ i. not-filing idle refl i;
+      };
+      once = v .once;
+      fit = tt;
+      pendings = λ p. rw e (omega arith);
+      one = filed-one q ns y (s .filed) (v .one);
+    })
+transition-kept s v (Transition.announced {d} {w} {i} {t} l e k m) =
+    let o = fit-at s d (announcing w i) v e in
+    quiet-at s t d (announcing w (suc i)) v l (m .mono) (λ p. rw e refl) refl (m .once) (o .0, k)
+    (λ p. rw e (let a = tally-take p (writeLabels w) i k in let b = m .more p in omega arith))
+transition-kept s v (Transition.wrote {d} {w} {i} l e k) =
+    let o = fit-at s d (announcing w i) v e in
+    let c = changes w (s .tab) in
+    let f = noRoom w (s .tab) in
+    let t = at-client (with-tab s (effect w (s .tab))) d (raising w 0 c f) in
+    at {t = t} d (raising w 0 c f) (record {
+      move = record {
+        low = l;
+        cols = refl;
+        clients = refl;
+        lists = λ q z. wrote-lists s t d w c f q (z ∙ sym (o .0)) l (upd-same (s .clients) d (raising w 0 c f)) refl;
+        mono = λ p. omega arith;
+        owed = λ p a. let b : tally p (owes (s .clients d)) ≡ 0 = rw e refl in absurd (omega arith);
+        file = λ q r u a. inl (in-file a);
+        hand = λ q r u a. not-filing (raising w 0 c f) refl a;
+      };
+      once = v .once;
+      fit = (o .0, write-labels-some w);
+      one = v .one;
+      pendings = λ p. rw e (let a = take-whole p (writeLabels w) i k in omega arith);
+    })
+transition-kept s v (Transition.raised {d} {w} {j} {c} {f} {t} l e k m) =
+    let o = fit-at s d (raising w j c f) v e in
+    raise-at s t d w j c f (raising w (suc j) c f) v l e refl m (λ p. refl) (λ p. refl) (o .0, k)
+transition-kept s v (Transition.last {d} {w} {j} {c} {f} {t} l e k m) =
+    let z : (p : Words) → tally p (drop (suc j) (writeLabels w)) ≡ 0 = λ p. ap (tally p) (drop-of-length-le (writeLabels w) k) in
+    raise-at s t d w j c f idle v l e refl m (λ p. sym (z p)) (λ p. sym (z p)) tt
+transition-kept s v (Transition.abandoned-read {d} l e) = reader-at s d idle v l e refl tt (λ p. refl)
+transition-kept s v (Transition.abandoned-write {d} {w} {i} {t} l e m) =
+    quiet-at s t d idle v l (λ p. let a = back-up (take i (writeLabels w)) (s .store) t m p in omega arith) (λ p. rw e refl) refl (m .once) tt (λ p. rw e (let a = m .less p in omega arith))
+transition-kept s v (Transition.evicted-answer {i} l) = aside (record { move = cut-move s i; clients = refl; once = v .once; pendings = λ p. refl; one = cut-one i (s .filed) (v .one) })
+transition-kept s v (Transition.evicted-node {t} l m) = aside (record { move = out-move s t m; clients = refl; once = m .once; pendings = m .keep; one = v .one })
+transition-kept s v (Transition.renewed i) = anew (record { idle = i; clients = refl; cols = refl; store = refl; filed = refl })
+
+-- ---- So: the invariant, and the move
+kept-inv : (s : State) {c : Call} {t : State} → StateInv s → Kept s c t → StateInv t
+kept-inv s v (at {t = t} d x k) = at-inv s t d x v k
+kept-inv s v (aside {t = t} k) = aside-inv s t v k
+kept-inv s v (anew {t} k) = anew-inv s t v k
+
+pub transition-inv : (s : State) {c : Call} {a : Response} {t : State} → StateInv s → Transition s c a t → StateInv t
+transition-inv s v o = kept-inv s v (transition-kept s v o)
+
+abbrev pub renews : Call → Bool
+renews (begin-read d q) = false
+renews (begin-write d w) = false
+renews (step d) = false
+renews (abandon d) = false
+renews (evict-answer i) = false
+renews (evict-node i) = false
+renews renew = true
+
+kept-move : (s : State) {c : Call} {t : State} → Kept s c t → renews c ≡ false → Move s t
+kept-move s (at d x k) e = move-at (k .move)
+kept-move s (aside k) e = k .move
+kept-move s (anew k) e = absurd (true≢false e)
+
+pub transition-move : (s : State) {c : Call} {a : Response} {t : State} → StateInv s → Transition s c a t → renews c ≡ false → Move s t
+transition-move s v o e = kept-move s (transition-kept s v o) e
+
+kept-cols : (s : State) {c : Call} {t : State} → Kept s c t → t .cols ≡ s .cols
+kept-cols s (at d x k) = k .move .cols
+kept-cols s (aside k) = k .move .cols
+kept-cols s (anew k) = k .cols
+
+pub transition-cols : (s : State) {c : Call} {a : Response} {t : State} → StateInv s → Transition s c a t → t .cols ≡ s .cols
+transition-cols s v o = kept-cols s (transition-kept s v o)
+
+-- an opened hall
+pub opened-inv : (k : ℕ) → k ≤ 4 → StateInv (opened k)
+unfolding opened NoDup pendingOf pendingIn OneEach
+opened-inv k l = record {
+  few = l;
+  once = tt;
+  high = λ d m. refl;
+  fit = λ d. tt;
+  held = λ p. none-held (λ d. idle) p (λ d. refl);
+  ans = λ q r u a. elim a [ in-file k ↦ in-none k | in-hand d k ↦ not-filing idle refl k ];
+  one = tt;
+}

@@ -1,0 +1,57 @@
+-- Every operation on the nodes memory leaves it fit and as long as it was. Leans on the laws of NodeStores and NodeSizes. Assumes nothing.
+use mathlib.Core.Path.{_≡_, refl}
+use mathlib.Core.List.{List, []}
+use mathlib.Core.Option.{Option, none, some}
+use Prim.Native.Nat.{ℕ, _<_}
+use native.Mathlib.Omega.{arith}
+use lib.ListN.{length, getD}
+use Rattle.rules.specs.Nodes.{Words, Store, store, evictNode, added, ensured, announced, raised, releasedAll}
+use Rattle.rules.specs.Memory.{storeIn, withStore}
+use Rattle.nodes.specs.NodeContracts.{Fit, tried, looked, releasedAt}
+use Rattle.nodes.proofs.NodeStores.{Sized, Keeps, count-nodes, sized-in, keeps-store}
+use Rattle.nodes.proofs.NodeSizes.{sized-none, sized-evict, sized-added, sized-released-at, made-present, sized-announced, sized-raised, sized-released-all}
+
+module _ (s : List ℕ) (f : Fit s) where
+  keeps-self : Keeps s s
+  keeps-self = record { fit = f; size = refl }
+
+  -- ---- the operations that always find a way
+  pub keeps-evict : (i : ℕ) → Keeps s (withStore s (evictNode i (storeIn s)))
+  keeps-evict i = keeps-store s (evictNode i (storeIn s)) f (sized-evict i (storeIn s) (sized-in s f))
+
+  pub keeps-added : (p : Words) → length p ≡ 5 → getD s 1 0 < 1024 → Keeps s (withStore s (added p (storeIn s)))
+  keeps-added p h k =
+      let l : length (storeIn s .nodes) ≡ getD s 1 0 = count-nodes s in
+      keeps-store s (added p (storeIn s)) f (sized-added p (storeIn s) h (omega arith) (sized-in s f))
+
+  pub keeps-released-at : (i : ℕ) → i < getD s 1 0 → Keeps s (withStore s (releasedAt i (storeIn s)))
+  keeps-released-at i h =
+      let l : length (storeIn s .nodes) ≡ getD s 1 0 = count-nodes s in
+      keeps-store s (releasedAt i (storeIn s)) f (sized-released-at i (storeIn s) (omega arith) (sized-in s f))
+
+  pub keeps-empty : Keeps s (withStore s (store 1 []))
+  keeps-empty = keeps-store s (store 1 []) f (sized-none 1)
+
+  -- ---- those that may find none
+  pub keeps-tried : (o : Option Store) → ((t : Store) → o ≡ some t → Sized t) → Keeps s (tried s o .mem)
+  unfolding tried
+  keeps-tried none h = keeps-self
+  keeps-tried (some t) h = keeps-store s t f (h t refl)
+
+  pub keeps-announced : (p : Words) → length p ≡ 5 → Keeps s (tried s (announced p (storeIn s)) .mem)
+  keeps-announced p h = keeps-tried (announced p (storeIn s)) (λ t e. sized-announced p (storeIn s) t h (sized-in s f) e)
+
+  pub keeps-raised : (p : Words) → Keeps s (tried s (raised p (storeIn s)) .mem)
+  keeps-raised p = keeps-tried (raised p (storeIn s)) (λ t e. sized-raised p (storeIn s) t (sized-in s f) e)
+
+  pub keeps-released-all : (ps : List Words) → Keeps s (tried s (releasedAll ps (storeIn s)) .mem)
+  keeps-released-all ps = keeps-tried (releasedAll ps (storeIn s)) (λ t e. sized-released-all ps (storeIn s) t (sized-in s f) e)
+
+  looked-mem : (p : Words) (o : Option Store) → looked p s o .mem ≡ tried s o .mem
+  unfolding looked tried
+  looked-mem p none = refl
+  looked-mem p (some t) = refl
+
+  pub keeps-looked : (p : Words) → length p ≡ 5 → Keeps s (looked p s (ensured p (storeIn s)) .mem)
+  keeps-looked p h =
+      rw (looked-mem p (ensured p (storeIn s))) (keeps-tried (ensured p (storeIn s)) (λ t e. made-present p (storeIn s) t h (sized-in s f) e .sized))

@@ -1,0 +1,80 @@
+-- What the steps of a read take for granted: what a step's refusals have ruled out, memory by memory, and which step it is.
+-- Leans on rules and on the crates of the memories. Definitions only. Assumes nothing.
+use mathlib.Core.Path.{_≡_}
+use mathlib.Core.Bool.{false, cond}
+use mathlib.Core.List.{List}
+use Prim.Native.Nat.{ℕ, _+_, _≤_, _<_}
+use lib.ListN.{length, getD}
+use Rattle.query.specs.Query.{readCount}
+use Rattle.rules.specs.Answers.{fetchPlace, someLong}
+use Rattle.rules.specs.Client.{Client, kind, steps, sawPending, entryOf, isIdle, isBad, queryAt, reads}
+use Rattle.rules.specs.Memory.{columnsAt, clientIn, answersIn}
+use Rattle.nodes.specs.NodeContracts as nodes
+use Rattle.answers.specs.AnswerContracts as answers
+use Rattle.clients.specs.ClientContracts as client-contracts
+use Rattle.table.specs.TableContracts as table
+
+-- a read of k columns is under way at client d
+pub record Reads (clients : List ℕ) (d k : ℕ) : Type 0 where
+  pub columns : k ≡ columnsAt clients
+  pub least : 1 ≤ k
+  pub most : k ≤ 4
+  pub below : d < 12
+  pub long : 2000 ≤ length clients
+  pub sound : isBad k (clientIn clients d) ≡ false
+  pub busy : isIdle (clientIn clients d) ≡ false
+  pub kind : kind (clientIn clients d) ≡ reads
+
+-- how many nodes the read has, and how many steps it has made
+abbrev pub looks : List ℕ → ℕ → ℕ → ℕ
+looks clients d k = readCount (queryAt k (clientIn clients d))
+
+abbrev pub made : List ℕ → ℕ → ℕ
+made clients d = steps (clientIn clients d)
+
+-- ---- each step
+pub record Looks (ns clients : List ℕ) (d k : ℕ) : Type 0 where
+  pub read : Reads clients d k
+  pub fit : nodes.Fit ns
+  pub step : made clients d < looks clients d k
+
+-- the search for a filed answer, by the client's own entry
+pub record Finds (filed clients : List ℕ) (d : ℕ) : Type 0 where
+  pub fit : answers.Fit filed
+  pub client : client-contracts.Fit clients d
+  pub few : made clients d ≤ 16
+
+unfoldable pub foundFor : List ℕ → Client → ℕ
+foundFor s c = cond (sawPending c) (getD s 0 0) (fetchPlace (steps c) (entryOf c) (answersIn s))
+
+pub record Fetches (filed clients tray : List ℕ) (d k : ℕ) : Type 0 where
+  pub read : Reads clients d k
+  pub fit : answers.Fit filed
+  pub short : someLong (answersIn filed) ≡ false
+  pub room : 128 ≤ length tray
+  pub step : made clients d ≡ looks clients d k
+
+pub record Gathers (records clients : List ℕ) (d k : ℕ) : Type 0 where
+  pub read : Reads clients d k
+  pub fit : table.Fit k records
+
+pub record Lists (records clients tray : List ℕ) (d k : ℕ) : Type 0 where
+  pub read : Reads clients d k
+  pub fit : table.Fit k records
+  pub room : 128 ≤ length tray
+  pub step : made clients d ≡ looks clients d k + 1
+
+pub record Files (filed clients tray : List ℕ) (d k : ℕ) : Type 0 where
+  pub read : Reads clients d k
+  pub fit : answers.Fit filed
+  pub room : 128 ≤ length tray
+  pub step : made clients d ≡ looks clients d k + 2
+
+-- any of them
+pub record Steps (records ns filed clients tray : List ℕ) (d k : ℕ) : Type 0 where
+  pub read : Reads clients d k
+  pub listed : table.Fit k records
+  pub nodes : nodes.Fit ns
+  pub fit : answers.Fit filed
+  pub short : someLong (answersIn filed) ≡ false
+  pub room : 128 ≤ length tray

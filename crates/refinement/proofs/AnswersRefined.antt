@@ -1,0 +1,170 @@
+-- Fetch and file on the kept entries are fetch and file on the machine's answers. Leans on Abstraction, on rules' Answers and on the machine.
+-- Assumes nothing.
+use mathlib.Core.Path.{_≡_, refl, sym, ap, _∙_}
+use mathlib.Core.Logic.{_⊎_, inl, inr}
+use mathlib.Core.Bool.{Bool, true, false, cond}
+use mathlib.Core.List.{List, [], _∷_, _++_, map}
+use Prim.Native.Nat.{ℕ, zero, suc, _≤_, _<_}
+use native.Mathlib.Omega.{arith}
+use lib.Dec.{ltb, leb}
+use borrow.Author.Tests.{ltb-true, ltb-false}
+use lib.ListN.{length, getD, drop, length-map, length-append}
+use lib.Seq.{getD-take, getD-drop}
+use Rattle.laws.proofs.TestLaws.{byTest, clash}
+use Rattle.lists.specs.Lists.{same, place, without, allBelow}
+use Rattle.laws.proofs.ListLaws.{same-eq, same-refl, length-without}
+use Rattle.laws.proofs.RowLaws.{Wide, wide-without, wide-snoc}
+use Rattle.query.specs.Query.{readCount}
+use Rattle.query.specs.Encoding.{queryIn, isKey, keyWords}
+use Rattle.rules.specs.Sizes.{maxAnswers}
+use Rattle.rules.specs.Answers.{Entry, keyIn, revisionIn, hasKeyOf, atLeast, serves, keyPlace, filed}
+use Rattle.machine.proofs.Sums.{In, here, there, in-append}
+use Rattle.machine.proofs.Keys.{Key, sameKey, sameKey-eq, sameKey-refl, readLabels, length-readLabels}
+use Rattle.machine.proofs.Machine.{holds-for, has-key, cut, room, filed-in}
+use Rattle.refinement.proofs.Abstraction.{keyOf, valueIn, revisionsIn, looksOf, ansOf}
+
+-- ---- Lists of answers
+place-map : {A B : Type 0} (f : A → B) (p : B → Bool) (q : A → Bool) (l : List A) → ((e : A) → In e l → p (f e) ≡ q e) → place p (map f l) ≡ place q l
+unfolding place
+place-map f p q [] h = refl
+place-map f p q (e ∷ l) h = rw (h e (here refl), place-map f p q l (λ x i. h x (there i)))
+
+pub map-without : {A B : Type 0} (f : A → B) (i : ℕ) (l : List A) → map f (without i l) ≡ without i (map f l)
+unfolding without
+map-without f zero [] = refl
+map-without f (suc i) [] = refl
+map-without f zero (x ∷ l) = refl
+map-without f (suc i) (x ∷ l) = ap (λ (t : List _). f x ∷ t) (map-without f i l)
+
+map-snoc : {A B : Type 0} (f : A → B) (l : List A) (x : A) → map f (l ++ (x ∷ [])) ≡ map f l ++ (f x ∷ [])
+map-snoc f [] x = refl
+map-snoc f (y ∷ l) x = ap (λ (t : List _). f y ∷ t) (map-snoc f l x)
+
+pub in-without : {A : Type 0} {a : A} (i : ℕ) (l : List A) → In a (without i l) → In a l
+unfolding without
+in-without zero [] k = k
+in-without (suc i) [] k = k
+in-without zero (x ∷ l) k = there k
+in-without (suc i) (x ∷ l) k = elim k [ here e ↦ here e | there j ↦ there (in-without i l j) ]
+
+-- an answer of the list is that of one of the entries
+pub in-map : {A B : Type 0} (f : A → B) {b : B} (l : List A) → In b (map f l) → (e : A) × In e l × (b ≡ f e)
+in-map f [] k = elim k [ ]
+in-map f (x ∷ l) k = elim k [ here e ↦ (x, here refl, e) | there j ↦ let r = in-map f l j in (r .0, there (r .1), r .2) ]
+
+pub map-in : {A B : Type 0} (f : A → B) {a : A} {l : List A} → In a l → In (f a) (map f l)
+map-in f (here e) = here (ap f e)
+map-in f (there i) = there (map-in f i)
+
+-- ---- Keys
+key-decoded : (k : ℕ) (key : List ℕ) → isKey k key ≡ true → key ≡ keyWords (queryIn k key)
+unfolding isKey
+key-decoded k key e = same-eq key (keyWords (queryIn k key)) e
+
+asked-eq : (k : ℕ) (e x : Entry) → keyOf k e ≡ keyOf k x → queryIn k (keyIn e) ≡ queryIn k (keyIn x)
+unfolding keyOf
+asked-eq k e x h = ap (λ (q : Key). q .asked) h
+
+-- two keys are the same exactly if the queries are
+same-key : (k : ℕ) (e x : Entry) → isKey k (keyIn e) ≡ true → isKey k (keyIn x) ≡ true → sameKey (keyOf k e) (keyOf k x) ≡ same (keyIn e) (keyIn x)
+unfolding keyOf
+same-key k e x h g =
+    byTest (same (keyIn e) (keyIn x))
+    (λ t. rw (t, same-eq (keyIn e) (keyIn x) t) (sameKey-refl (keyOf k x)))
+    (λ t. rw t (byTest (sameKey (keyOf k e) (keyOf k x)) (λ u. absurd (apart t u)) (λ u. u)))
+  where
+    apart : same (keyIn e) (keyIn x) ≡ false → sameKey (keyOf k e) (keyOf k x) ≡ true → ⊥
+    apart t u =
+        let q : queryIn k (keyIn e) ≡ queryIn k (keyIn x) = asked-eq k e x (sameKey-eq (keyOf k e) (keyOf k x) u) in
+        let z : keyIn e ≡ keyIn x = key-decoded k (keyIn e) h ∙ ap keyWords q ∙ sym (key-decoded k (keyIn x) g) in
+        clash (rw z (same-refl (keyIn x))) t
+
+-- ---- Fetch
+below-cong : (n : ℕ) (f g : ℕ → Bool) → ((j : ℕ) → j < n → f j ≡ g j) → allBelow n f ≡ allBelow n g
+unfolding allBelow
+below-cong zero f g h = refl
+below-cong (suc n) f g h = rw (h n (omega arith), below-cong n f g (λ j l. h j (omega arith)))
+
+revision-at : (n : ℕ) (e : Entry) (j : ℕ) → j < n → getD (revisionsIn n e) j 0 ≡ revisionIn e j
+unfolding revisionsIn revisionIn
+revision-at n e j h = getD-take n (drop 8 e) j 0 h ∙ getD-drop 8 e j 0
+
+at-least : (n : ℕ) (x e : Entry) (j : ℕ) → j < n → leb (getD (revisionsIn n x) j 0) (getD (revisionsIn n e) j 0) ≡ atLeast x e j
+unfolding atLeast
+at-least n x e j h = rw (revision-at n x j h, revision-at n e j h)
+
+pub length-looks : (k : ℕ) (x : Entry) → length (readLabels (keyOf k x)) ≡ looksOf k x
+unfolding keyOf looksOf
+length-looks k x = length-readLabels (keyOf k x)
+
+looks-same : (k : ℕ) (e x : Entry) → keyIn e ≡ keyIn x → looksOf k e ≡ looksOf k x
+unfolding looksOf
+looks-same k e x h = ap (λ (t : List ℕ). readCount (queryIn k t)) h
+
+pub serves-holds : (k : ℕ) (x e : Entry) → isKey k (keyIn e) ≡ true → isKey k (keyIn x) ≡ true
+    → holds-for (keyOf k x) (revisionsIn (looksOf k x) x) (ansOf k e) ≡ serves (looksOf k x) x e
+unfolding holds-for ansOf serves hasKeyOf
+serves-holds k x e h g =
+    byTest (same (keyIn e) (keyIn x))
+    (λ t. rw (same-key k e x h g, t, length-looks k x, looks-same k e x (same-eq (keyIn e) (keyIn x) t))
+    (below-cong (looksOf k x) _ (atLeast x e) (λ j l. at-least (looksOf k x) x e j l)))
+    (λ t. rw (same-key k e x h g, t))
+
+-- ---- File
+-- where a file step makes room
+roomFor : Entry → List Entry → List Entry
+roomFor x es = cond (ltb (keyPlace x es) (length es)) (without (keyPlace x es) es) (cond (ltb (length es) maxAnswers) es (without 0 es))
+
+filed-room : (x : Entry) (es : List Entry) → filed x es ≡ roomFor x es ++ (x ∷ [])
+unfolding filed roomFor
+filed-room x es = refl
+
+module _ (k : ℕ) (x : Entry) (es : List Entry) (g : isKey k (keyIn x) ≡ true) (h : (e : Entry) → In e es → isKey k (keyIn e) ≡ true) where
+  key-place : place (has-key (keyOf k x)) (map (ansOf k) es) ≡ keyPlace x es
+  unfolding keyPlace has-key hasKeyOf ansOf
+  key-place = place-map (ansOf k) _ _ es (λ e i. same-key k e x (h e i) g)
+
+  map-room : map (ansOf k) (roomFor x es) ≡ room (keyOf k x) (map (ansOf k) es)
+  unfolding roomFor room cut
+  map-room =
+      rw (key-place, length-map es (ansOf k)) (
+      byTest (ltb (keyPlace x es) (length es))
+      (λ t. rw t (map-without (ansOf k) (keyPlace x es) es))
+      (λ t. rw t (byTest (ltb (length es) maxAnswers) (λ u. rw u) (λ u. rw u (map-without (ansOf k) 0 es)))))
+
+  pub map-filed : map (ansOf k) (filed x es) ≡ filed-in (keyOf k x) (revisionsIn (looksOf k x) x) (valueIn k x) (map (ansOf k) es)
+  unfolding filed-in ansOf
+  map-filed = rw (filed-room x es, map-snoc (ansOf k) (roomFor x es) x, map-room)
+
+in-room : (x : Entry) (es : List Entry) (e : Entry) → In e (roomFor x es) → In e es
+unfolding roomFor
+in-room x es e =
+    byTest (ltb (keyPlace x es) (length es))
+    (λ t. rw t (λ i. in-without (keyPlace x es) es i))
+    (λ t. rw t (byTest (ltb (length es) maxAnswers) (λ u. rw u (λ i. i)) (λ u. rw u (λ i. in-without 0 es i))))
+
+wide-room : (x : Entry) (es : List Entry) → Wide 152 es → Wide 152 (roomFor x es)
+unfolding roomFor
+wide-room x es w =
+    byTest (ltb (keyPlace x es) (length es))
+    (λ t. rw t (wide-without 152 (keyPlace x es) es w))
+    (λ t. rw t (byTest (ltb (length es) maxAnswers) (λ u. rw u w) (λ u. rw u (wide-without 152 0 es w))))
+
+length-room : (x : Entry) (es : List Entry) → length es ≤ maxAnswers → length (roomFor x es) < maxAnswers
+unfolding roomFor
+length-room x es h =
+    byTest (ltb (keyPlace x es) (length es))
+    (λ t. let y = ltb-true _ _ t in let z = length-without (keyPlace x es) es y in rw t (omega arith))
+    (λ t. rw t (byTest (ltb (length es) maxAnswers)
+    (λ u. rw u (ltb-true _ _ u))
+    (λ u. let y = ltb-false (length es) maxAnswers u in let z = length-without 0 es (omega arith) in rw u (omega arith))))
+
+-- what is filed
+pub in-filed : (x : Entry) (es : List Entry) (e : Entry) → In e (filed x es) → In e es ⊎ (e ≡ x)
+in-filed x es e i = elim (in-append (roomFor x es) (rw (filed-room x es) at i)) [ inl j ↦ inl (in-room x es e j) | inr j ↦ inr j ]
+
+pub wide-filed : (x : Entry) (es : List Entry) → Wide 152 es → length x ≡ 152 → Wide 152 (filed x es)
+wide-filed x es w l = rw (filed-room x es) (wide-snoc 152 (roomFor x es) x (wide-room x es w) l)
+
+pub length-filed : (x : Entry) (es : List Entry) → length es ≤ maxAnswers → length (filed x es) ≤ maxAnswers
+length-filed x es h = let z = length-append (roomFor x es) (x ∷ []) in let y = length-room x es h in rw (filed-room x es) (omega arith)

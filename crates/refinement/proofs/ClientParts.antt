@@ -1,0 +1,297 @@
+-- What the changes of a client do to its parts: kind, steps, flags and entry. Leans on rules' Client and on the laws of lists.
+-- Assumes nothing.
+use mathlib.Core.Path.{_≡_, refl, sym, ap, _∙_}
+use mathlib.Core.Bool.{Bool, true, false, cond, not, _||_, or-true, or-false}
+use mathlib.Core.List.{List, [], _∷_, _++_, append-assoc}
+use Prim.Native.Nat.{ℕ, suc, _+_, _-_, _*_, _≤_, _<_}
+use native.Mathlib.Omega.{arith}
+use lib.Dec.{eqb, ltb}
+use lib.ListN.{length, getD, take, drop, set, replicate, length-drop, length-set, List·getD-eq-default}
+use lib.Seq.{take-at, drop-append-le, length-take-le, getD-drop, getD-set-same, getD-set-other, take-set-le, drop-set-lt, drop-set-add, take-suc-set, drop-drop}
+use borrow.Author.Tests.{lt-ltb, le-ltb, eqb-true, eqb-false}
+use Rattle.laws.proofs.TestLaws.{byTest}
+use Rattle.lists.specs.Lists.{padded, flat, written}
+use Rattle.laws.proofs.ListLaws.{length-padded, getD-padded}
+use Rattle.laws.proofs.WrittenLaws.{drop-take, take-written, drop-of-written, getD-before, length-written}
+use Rattle.laws.proofs.RowLaws.{Wide, length-flat}
+use Rattle.query.specs.Query.{Query, Record}
+use Rattle.query.specs.Encoding.{keyWords}
+use Rattle.query.proofs.EncodingLaws.{key-words-length}
+use Rattle.rules.specs.Answers.{Entry, keyIn, lengthIn, listIn}
+use Rattle.rules.specs.Client.{Client, kind, steps, sawPending, didChange, foundFull, entryOf, begun, stepped, flag, noted, holding, wrote}
+use Rattle.rules.proofs.ClientLaws.{list-room}
+use Rattle.refinement.proofs.Abstraction.{valueIn, revisionsIn}
+
+-- ---- Lists
+drop-written-add : (n i : ℕ) (s v : List ℕ) → n + i ≤ length s → drop n (written s (n + i) v) ≡ written (drop n s) i v
+unfolding written
+drop-written-add n i s v h =
+    let l : length (take (n + i) s) ≡ n + i = length-take-le (n + i) s h in
+    let e : n + i - n ≡ i = omega arith in
+    let f : n + (i + length v) ≡ n + i + length v = omega arith in
+    rw (append-assoc, drop-append-le n (take (n + i) s) (v ++ drop (n + i + length v) s) (omega arith), drop-take n (n + i) s, e, append-assoc, drop-drop (i + length v) n s, f)
+
+-- three numbers stored
+module _ (s : List ℕ) (i x j y l z : ℕ) where
+  three-other : (a : ℕ) → (a ≡ i → ⊥) → (a ≡ j → ⊥) → (a ≡ l → ⊥) → getD (set (set (set s i x) j y) l z) a 0 ≡ getD s a 0
+  three-other a e f g =
+      getD-set-other (set (set s i x) j y) l a z 0 g ∙ getD-set-other (set s i x) j a y 0 f ∙ getD-set-other s i a x 0 e
+
+  three-first : (i ≡ j → ⊥) → (i ≡ l → ⊥) → i < length s → getD (set (set (set s i x) j y) l z) i 0 ≡ x
+  three-first f g h =
+      getD-set-other (set (set s i x) j y) l i z 0 g ∙ getD-set-other (set s i x) j i y 0 f ∙ getD-set-same s i x 0 h
+
+  three-second : (j ≡ l → ⊥) → j < length s → getD (set (set (set s i x) j y) l z) j 0 ≡ y
+  three-second g h =
+      let n = length-set s i x in
+      getD-set-other (set (set s i x) j y) l j z 0 g ∙ getD-set-same (set s i x) j y 0 (omega arith)
+
+  three-length : length (set (set (set s i x) j y) l z) ≡ length s
+  three-length = length-set (set (set s i x) j y) l z ∙ length-set (set s i x) j y ∙ length-set s i x
+
+  three-last : l < length s → getD (set (set (set s i x) j y) l z) l 0 ≡ z
+  three-last h = let n = three-length in let m = length-set (set (set s i x) j y) l z in getD-set-same (set (set s i x) j y) l z 0 (omega arith)
+
+-- ---- One step more: the same kind and the same key
+pub record Next (c t : Client) : Type 0 where
+  pub kinds : kind t ≡ kind c
+  pub keys : keyIn (entryOf t) ≡ keyIn (entryOf c)
+  pub one : steps t ≡ steps c + 1
+  pub wide : length t ≡ 157
+
+-- a flag as it is kept
+flag-read : (b : Bool) → not (eqb (flag b) 0) ≡ b
+unfolding flag
+flag-read true = refl
+flag-read false = refl
+
+module _ (c : Client) (w : length c ≡ 157) where
+  -- a number in front of the entry
+  entry-front : (i x : ℕ) → i < 5 → entryOf (set c i x) ≡ entryOf c
+  unfolding entryOf
+  entry-front i x h = drop-set-lt 5 c i x h
+
+  pub length-entry : length (entryOf c) ≡ 152
+  unfolding entryOf
+  length-entry = rw length-drop (omega arith)
+
+  pub stepped-entry : entryOf (stepped c) ≡ entryOf c
+  unfolding stepped
+  stepped-entry = entry-front 1 _ (omega arith)
+
+  pub stepped-next : Next c (stepped c)
+  unfolding stepped kind steps
+  stepped-next = record {
+    kinds = getD-set-other c 1 0 _ 0 (λ e. omega arith);
+    keys = ap keyIn (entry-front 1 _ (omega arith));
+    one = getD-set-same c 1 _ 0 (omega arith);
+    wide = length-set c 1 _ ∙ w;
+  }
+
+  pub stepped-saw : sawPending (stepped c) ≡ sawPending c
+  unfolding stepped sawPending
+  stepped-saw = rw (getD-set-other c 1 2 (steps c + 1) 0 (λ e. omega arith))
+
+  pub stepped-change : didChange (stepped c) ≡ didChange c
+  unfolding stepped didChange
+  stepped-change = rw (getD-set-other c 1 3 (steps c + 1) 0 (λ e. omega arith))
+
+  pub stepped-full : foundFull (stepped c) ≡ foundFull c
+  unfolding stepped foundFull
+  stepped-full = rw (getD-set-other c 1 4 (steps c + 1) 0 (λ e. omega arith))
+
+  -- a look: revision r, p pending writes
+  module _ (j r p : ℕ) (h : j < 16) where
+    looked-at : 13 + j ≡ 5 + (8 + j)
+    looked-at = omega arith
+
+    pub noted-entry : entryOf (noted j r p c) ≡ set (entryOf c) (8 + j) r
+    unfolding noted entryOf stepped
+    noted-entry =
+        drop-set-lt 5 (set (set c 1 (steps c + 1)) (13 + j) r) 2 (cond (eqb p 0) (getD c 2 0) 1) (omega arith)
+        ∙ ap (λ (i : ℕ). drop 5 (set (set c 1 (steps c + 1)) i r)) looked-at
+        ∙ drop-set-add 5 (set c 1 (steps c + 1)) (8 + j) r
+        ∙ ap (λ (e : Entry). set e (8 + j) r) (drop-set-lt 5 c 1 _ (omega arith))
+
+    pub noted-next : Next c (noted j r p c)
+    unfolding noted kind steps stepped keyIn
+    noted-next =
+        let x : ℕ = getD c 1 0 + 1 in
+        let z : ℕ = cond (eqb p 0) (getD c 2 0) 1 in
+        record {
+          kinds = three-other c 1 x (13 + j) r 2 z 0 (λ e. omega arith) (λ e. omega arith) (λ e. omega arith);
+          keys = ap (take 7) noted-entry ∙ take-set-le 7 (entryOf c) (8 + j) r (omega arith);
+          one = three-first c 1 x (13 + j) r 2 z (λ e. omega arith) (λ e. omega arith) (omega arith);
+          wide = three-length c 1 x (13 + j) r 2 z ∙ w;
+        }
+
+    pub noted-revisions : revisionsIn (suc j) (entryOf (noted j r p c)) ≡ revisionsIn j (entryOf c) ++ (r ∷ [])
+    unfolding revisionsIn
+    noted-revisions =
+        let l : length (drop 8 (entryOf c)) ≡ 144 = length-drop 8 (entryOf c) ∙ (let z = length-entry in omega arith) in
+        rw (noted-entry, drop-set-add 8 (entryOf c) j r) (take-suc-set (drop 8 (entryOf c)) j r (omega arith))
+
+    pub noted-length : lengthIn (entryOf (noted j r p c)) ≡ lengthIn (entryOf c)
+    unfolding lengthIn
+    noted-length = rw noted-entry (getD-set-other (entryOf c) (8 + j) 7 r 0 (λ e. omega arith))
+
+    saw-or : (x : ℕ) → not (eqb (cond (eqb p 0) x 1) 0) ≡ (not (eqb x 0) || ltb 0 p)
+    saw-or x =
+        byTest (eqb p 0)
+        (λ e. let z : p ≡ 0 = eqb-true p 0 e in rw (e, le-ltb 0 p (omega arith)) (sym (or-false (not (eqb x 0)))))
+        (λ e. let z : p ≡ 0 → ⊥ = eqb-false p 0 e in rw (e, lt-ltb 0 p (omega arith)) (sym (or-true (not (eqb x 0)))))
+
+    pub noted-saw : sawPending (noted j r p c) ≡ (sawPending c || ltb 0 p)
+    unfolding noted sawPending stepped
+    noted-saw =
+        ap (λ (x : ℕ). not (eqb x 0)) (three-last c 1 (steps c + 1) (13 + j) r 2 (cond (eqb p 0) (getD c 2 0) 1) (omega arith)) ∙ saw-or (getD c 2 0)
+
+  -- a write past its table step
+  module _ (changed full : Bool) where
+    pub wrote-entry : entryOf (wrote changed full c) ≡ entryOf c
+    unfolding wrote entryOf stepped
+    wrote-entry =
+        drop-set-lt 5 (set (set c 1 (steps c + 1)) 3 (flag changed)) 4 (flag full) (omega arith)
+        ∙ drop-set-lt 5 (set c 1 (steps c + 1)) 3 (flag changed) (omega arith)
+        ∙ drop-set-lt 5 c 1 (steps c + 1) (omega arith)
+
+    pub wrote-next : Next c (wrote changed full c)
+    unfolding wrote kind steps stepped
+    wrote-next =
+        let x : ℕ = getD c 1 0 + 1 in
+        record {
+          kinds = three-other c 1 x 3 (flag changed) 4 (flag full) 0 (λ e. omega arith) (λ e. omega arith) (λ e. omega arith);
+          keys = ap keyIn wrote-entry;
+          one = three-first c 1 x 3 (flag changed) 4 (flag full) (λ e. omega arith) (λ e. omega arith) (omega arith);
+          wide = three-length c 1 x 3 (flag changed) 4 (flag full) ∙ w;
+        }
+
+    pub wrote-change : didChange (wrote changed full c) ≡ changed
+    unfolding wrote didChange stepped
+    wrote-change =
+        ap (λ (x : ℕ). not (eqb x 0)) (three-second c 1 (steps c + 1) 3 (flag changed) 4 (flag full) (λ e. omega arith) (omega arith)) ∙ flag-read changed
+
+    pub wrote-full : foundFull (wrote changed full c) ≡ full
+    unfolding wrote foundFull stepped
+    wrote-full = ap (λ (x : ℕ). not (eqb x 0)) (three-last c 1 (steps c + 1) 3 (flag changed) 4 (flag full) (omega arith)) ∙ flag-read full
+
+padded-front : (n x : ℕ) (a r : List ℕ) → length a ≡ x → take x (padded n a ++ r) ≡ a
+unfolding padded
+padded-front n x a r h = rw append-assoc (take-at a (replicate (n - length a) 0 ++ r) x h)
+
+-- ---- A list taken, of records of k numbers
+-- the entry with the list's length
+counted : Client → ℕ → Entry
+counted c n = set (entryOf c) 7 n
+
+module _ (c : Client) (w : length c ≡ 157) (k : ℕ) (l : List Record) (wl : Wide k l) (few : k ≤ 4) (short : length l ≤ 32) where
+  length-list : length (padded 128 (flat l)) ≡ 128
+  length-list = let a = length-flat k l wl in let b = list-room (length l) k short few in length-padded 128 (flat l) (omega arith)
+
+  length-counted : length (counted c (length l)) ≡ 152
+  unfolding counted
+  length-counted = length-set (entryOf c) 7 (length l) ∙ length-entry c w
+
+  holding-entry : entryOf (holding l c) ≡ written (counted c (length l)) 24 (padded 128 (flat l))
+  unfolding holding entryOf stepped counted
+  holding-entry =
+      drop-written-add 5 24 (set (set c 1 (steps c + 1)) 12 (length l)) (padded 128 (flat l)) (rw (length-set, length-set, w) (omega arith))
+      ∙ ap (λ (e : Entry). written e 24 (padded 128 (flat l)))
+      (drop-set-add 5 (set c 1 (steps c + 1)) 7 (length l) ∙ ap (λ (e : Entry). set e 7 (length l)) (drop-set-lt 5 c 1 (steps c + 1) (omega arith)))
+
+  holding-front : (i : ℕ) → i < 5 → getD (holding l c) i 0 ≡ getD (stepped c) i 0
+  unfolding holding
+  holding-front i h =
+      getD-before (set (stepped c) 12 (length l)) 29 (padded 128 (flat l)) (rw (length-set, stepped-next c w .wide) (omega arith)) i 0 (omega arith)
+      ∙ getD-set-other (stepped c) 12 i (length l) 0 (λ e. omega arith)
+
+  long-counted : 24 ≤ length (counted c (length l))
+  long-counted = let a = length-counted in omega arith
+
+  holding-key : keyIn (entryOf (holding l c)) ≡ keyIn (entryOf c)
+  unfolding keyIn counted
+  holding-key =
+      ap (take 7) holding-entry
+      ∙ take-written (counted c (length l)) 24 (padded 128 (flat l)) long-counted 7 (omega arith)
+      ∙ take-set-le 7 (entryOf c) 7 (length l) (omega arith)
+
+  holding-wide : length (holding l c) ≡ 157
+  unfolding holding
+  holding-wide =
+      let a = stepped-next c w .wide in
+      let b = length-set (stepped c) 12 (length l) in
+      let d = length-list in
+      length-written (set (stepped c) 12 (length l)) 29 (padded 128 (flat l)) (omega arith) ∙ b ∙ a
+
+  pub holding-next : Next c (holding l c)
+  unfolding kind steps
+  holding-next = record {
+    kinds = holding-front 0 (omega arith) ∙ stepped-next c w .kinds;
+    keys = holding-key;
+    one = holding-front 1 (omega arith) ∙ stepped-next c w .one;
+    wide = holding-wide;
+  }
+
+  pub holding-revisions : (n : ℕ) → n ≤ 16 → revisionsIn n (entryOf (holding l c)) ≡ revisionsIn n (entryOf c)
+  unfolding revisionsIn counted
+  holding-revisions n h =
+      let e : 8 + n - 8 ≡ n = omega arith in
+      let v : List ℕ = padded 128 (flat l) in
+      let a : take n (drop 8 (written (counted c (length l)) 24 v)) ≡ drop 8 (take (8 + n) (written (counted c (length l)) 24 v)) =
+      rw (drop-take 8 (8 + n) (written (counted c (length l)) 24 v), e) in
+      let b : drop 8 (take (8 + n) (counted c (length l))) ≡ take n (drop 8 (counted c (length l))) = rw (drop-take 8 (8 + n) (counted c (length l)), e) in
+      ap (λ (x : Entry). take n (drop 8 x)) holding-entry
+      ∙ a
+      ∙ ap (drop 8) (take-written (counted c (length l)) 24 v long-counted (8 + n) (omega arith))
+      ∙ b
+      ∙ ap (take n) (drop-set-lt 8 (entryOf c) 7 (length l) (omega arith))
+
+  pub holding-length : lengthIn (entryOf (holding l c)) ≡ length l
+  unfolding lengthIn counted
+  holding-length =
+      ap (λ (x : Entry). getD x 7 0) holding-entry
+      ∙ getD-before (counted c (length l)) 24 (padded 128 (flat l)) long-counted 7 0 (omega arith)
+      ∙ getD-set-same (entryOf c) 7 (length l) 0 (let z = length-entry c w in omega arith)
+
+  holding-list : listIn k (entryOf (holding l c)) ≡ flat l
+  unfolding listIn
+  holding-list =
+      rw holding-length (
+      ap (λ (x : Entry). take (length l * k) (drop 24 x)) holding-entry
+      ∙ ap (take (length l * k)) (drop-of-written (counted c (length l)) 24 (padded 128 (flat l)) long-counted)
+      ∙ padded-front 128 (length l * k) (flat l) (drop (24 + length (padded 128 (flat l))) (counted c (length l))) (length-flat k l wl))
+
+  pub holding-value : valueIn k (entryOf (holding l c)) ≡ record { count = length l; numbers = flat l }
+  unfolding valueIn
+  holding-value = λ i. record { count = holding-length i; numbers = holding-list i }
+
+-- ---- As a begin leaves it
+module _ (x : ℕ) (q : Query) (h : length q ≤ 4) where
+  begun-word : (j : ℕ) → getD (begun x q) j 0 ≡ getD (x ∷ 0 ∷ 0 ∷ 0 ∷ 0 ∷ keyWords q) j 0
+  unfolding begun
+  begun-word j = getD-padded 157 (x ∷ 0 ∷ 0 ∷ 0 ∷ 0 ∷ keyWords q) j
+
+  pub begun-kind : kind (begun x q) ≡ x
+  unfolding kind
+  begun-kind = begun-word 0
+
+  pub begun-steps : steps (begun x q) ≡ 0
+  unfolding steps
+  begun-steps = begun-word 1
+
+  pub begun-saw : sawPending (begun x q) ≡ false
+  unfolding sawPending
+  begun-saw = rw (begun-word 2)
+
+  pub begun-wide : length (begun x q) ≡ 157
+  unfolding begun
+  begun-wide = let a = key-words-length q (omega arith) in length-padded 157 (x ∷ 0 ∷ 0 ∷ 0 ∷ 0 ∷ keyWords q) (omega arith)
+
+  pub begun-key : keyIn (entryOf (begun x q)) ≡ keyWords q
+  unfolding keyIn entryOf begun padded
+  begun-key = take-at (keyWords q) _ 7 (key-words-length q (omega arith))
+
+  pub begun-length : lengthIn (entryOf (begun x q)) ≡ 0
+  unfolding lengthIn entryOf
+  begun-length =
+      getD-drop 5 (begun x q) 7 0 ∙ begun-word 12 ∙ List·getD-eq-default (keyWords q) 0 {n = 7} (let a = key-words-length q (omega arith) in omega arith)

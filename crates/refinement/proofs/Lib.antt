@@ -1,0 +1,14 @@
+pub mod Abstraction
+pub mod ClientParts
+pub mod ClientPhases
+pub mod PhaseSteps
+pub mod MemoryReads
+pub mod StatesAfter
+pub mod RefusedCalls
+pub mod AnswersRefined
+pub mod StepFrame
+pub mod ReadRefined
+pub mod WriteRefined
+pub mod OthersRefined
+pub mod Opening
+pub mod Refinement

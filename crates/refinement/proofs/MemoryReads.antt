@@ -1,0 +1,127 @@
+-- What is read from a memory after something was written into it: records, nodes, filed answers. Leans on rules' Memory and on the
+-- laws of lists. Assumes nothing.
+use mathlib.Core.Path.{_≡_, ap, _∙_}
+use mathlib.Core.List.{List, [], _∷_}
+use Prim.Native.Nat.{ℕ, _+_, _-_, _*_, _≤_}
+use native.Mathlib.Nat.{mul-le-mul-right}
+use native.Mathlib.Omega.{arith}
+use lib.ListN.{length, getD, length-set}
+use lib.Seq.{getD-set-same, getD-set-other}
+use Rattle.lists.specs.Lists.{entriesIn, withEntries}
+use Rattle.laws.proofs.RowLaws.{Wide}
+use Rattle.laws.proofs.EntryLaws.{length-entries, wide-entries, entries-header, entries-with, length-with, count-with}
+use Rattle.rules.specs.Table.{Table}
+use Rattle.rules.specs.Nodes.{Node, Store}
+use Rattle.rules.specs.Answers.{Entry}
+use Rattle.rules.specs.Memory.{recordsIn, withRecords, storeIn, withStore, answersIn, withAnswers}
+use Rattle.revisions.proofs.NodeRows.{Each, AllRows}
+use Rattle.machine.proofs.Sums.{In, here, there}
+
+-- ---- Records
+pub records-room : (k n : ℕ) → k ≤ 4 → n ≤ 2048 → 8 + n * k ≤ 8200
+records-room k n h g = let a : n * k ≤ 2048 * k = mul-le-mul-right k g in omega arith
+
+module _ (k : ℕ) (s : List ℕ) (few : k ≤ 4) (long : 8200 ≤ length s) (count : getD s 0 0 ≤ 2048) where
+  records-fit : 8 + getD s 0 0 * k ≤ length s
+  records-fit = let a = records-room k (getD s 0 0) few count in omega arith
+
+  pub wide-records : Wide k (recordsIn k s)
+  unfolding recordsIn
+  wide-records = wide-entries 0 k s records-fit
+
+  pub length-records : length (recordsIn k s) ≡ getD s 0 0
+  unfolding recordsIn
+  length-records = length-entries 0 k s
+
+  module _ (t : Table) (wt : Wide k t) (most : length t ≤ 2048) where
+    room-records : 8 + length t * k ≤ length s
+    room-records = let a = records-room k (length t) few most in omega arith
+
+    pub records-with : recordsIn k (withRecords k s t) ≡ t
+    unfolding recordsIn withRecords
+    records-with = entries-with 0 k s t wt records-fit room-records (omega arith)
+
+    pub length-with-records : length (withRecords k s t) ≡ length s
+    unfolding withRecords
+    length-with-records = length-with 0 k s t wt records-fit room-records
+
+    pub count-records : getD (withRecords k s t) 0 0 ≡ length t
+    unfolding withRecords
+    count-records = count-with 0 k s t wt records-fit room-records (omega arith)
+
+-- ---- Nodes
+pub rows-wide : (ns : List Node) → AllRows ns → Wide 8 ns
+unfolding Each Wide
+rows-wide [] h = tt
+rows-wide (n ∷ ns) h = (h .0, rows-wide ns (h .1))
+
+pub wide-each : (ns : List Node) → Wide 8 ns → AllRows ns
+unfolding Each Wide
+wide-each [] h = tt
+wide-each (n ∷ ns) h = (h .0, wide-each ns (h .1))
+
+module _ (s : List ℕ) (long : 8200 ≤ length s) (count : getD s 1 0 ≤ 1024) where
+  pub rows-nodes : AllRows (storeIn s .nodes)
+  unfolding storeIn
+  rows-nodes = wide-each (entriesIn 1 8 s) (wide-entries 1 8 s (omega arith))
+
+  pub length-nodes : length (storeIn s .nodes) ≡ getD s 1 0
+  unfolding storeIn
+  length-nodes = length-entries 1 8 s
+
+  module _ (t : Store) (r : AllRows (t .nodes)) (most : length (t .nodes) ≤ 1024) where
+    nodes-there : length (withEntries 1 8 s (t .nodes)) ≡ length s
+    nodes-there = length-with 1 8 s (t .nodes) (rows-wide (t .nodes) r) (omega arith) (omega arith)
+
+    floor-back : getD (withStore s t) 0 0 ≡ t .floor
+    unfolding withStore
+    floor-back = let a = nodes-there in getD-set-same (withEntries 1 8 s (t .nodes)) 0 (t .floor) 0 (omega arith)
+
+    nodes-back : entriesIn 1 8 (withStore s t) ≡ t .nodes
+    unfolding withStore
+    nodes-back =
+        entries-header 1 8 (withEntries 1 8 s (t .nodes)) 0 (t .floor) (omega arith) (λ e. omega arith)
+        ∙ entries-with 1 8 s (t .nodes) (rows-wide (t .nodes) r) (omega arith) (omega arith) (omega arith)
+
+    pub store-with : storeIn (withStore s t) ≡ t
+    unfolding storeIn
+    store-with = λ i. record { floor = floor-back i; nodes = nodes-back i }
+
+    pub length-with-store : length (withStore s t) ≡ length s
+    unfolding withStore
+    length-with-store = length-set (withEntries 1 8 s (t .nodes)) 0 (t .floor) ∙ nodes-there
+
+    pub count-nodes : getD (withStore s t) 1 0 ≡ length (t .nodes)
+    unfolding withStore
+    count-nodes =
+        getD-set-other (withEntries 1 8 s (t .nodes)) 0 1 (t .floor) 0 (λ e. omega arith)
+        ∙ count-with 1 8 s (t .nodes) (rows-wide (t .nodes) r) (omega arith) (omega arith) (omega arith)
+
+-- ---- Filed answers
+module _ (s : List ℕ) (long : 10000 ≤ length s) (count : getD s 0 0 ≤ 64) where
+  pub wide-answers : Wide 152 (answersIn s)
+  unfolding answersIn
+  wide-answers = wide-entries 0 152 s (omega arith)
+
+  pub length-answers : length (answersIn s) ≡ getD s 0 0
+  unfolding answersIn
+  length-answers = length-entries 0 152 s
+
+  module _ (es : List Entry) (we : Wide 152 es) (most : length es ≤ 64) where
+    pub answers-with : answersIn (withAnswers s es) ≡ es
+    unfolding answersIn withAnswers
+    answers-with = entries-with 0 152 s es we (omega arith) (omega arith) (omega arith)
+
+    pub length-with-answers : length (withAnswers s es) ≡ length s
+    unfolding withAnswers
+    length-with-answers = length-with 0 152 s es we (omega arith) (omega arith)
+
+    pub count-answers : getD (withAnswers s es) 0 0 ≡ length es
+    unfolding withAnswers
+    count-answers = count-with 0 152 s es we (omega arith) (omega arith) (omega arith)
+
+-- one of them has its width
+pub wide-in : (w : ℕ) {e : List ℕ} {es : List (List ℕ)} → Wide w es → In e es → length e ≡ w
+unfolding Wide
+wide-in w h (here i) = ap length i ∙ h .0
+wide-in w h (there i) = wide-in w (h .1) i

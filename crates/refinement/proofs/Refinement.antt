@@ -1,0 +1,77 @@
+-- Every call on memories that fit is a step of the machine, and leaves memories that fit, with the same columns. Leans on ReadRefined, WriteRefined and
+-- OthersRefined. Assumes nothing.
+use mathlib.Core.Path.{_≡_, refl}
+use mathlib.Core.List.{List}
+use Prim.Native.Nat.{ℕ}
+use lib.Dec.{eqb}
+use borrow.Author.Tests.{eqb-true, eqb-false}
+use Rattle.laws.proofs.TestLaws.{byTest}
+use Rattle.rules.specs.declared.Outcome.{Outcome}
+use Rattle.rules.specs.declared.Outcome.the-variants.{Refused, Accepted, Answered, Long, Ended, Full}
+use Rattle.rules.specs.Client.{kind, reads}
+use Rattle.rules.specs.Memory.{Mem, storeIn}
+use Rattle.rules.specs.Outcome.{StepResult, number}
+use Rattle.rules.specs.Refusals.{columns, client, stepCode}
+use Rattle.rules.proofs.PassedChecks.{step-passed}
+use Rattle.rules.specs.Steps.{progress}
+use Rattle.rules.specs.Calls.{stepResult}
+use Rattle.rules.specs.History.{Call, beginRead, beginInsert, beginDelete, step, abandon, evictAnswer, evictNode, renew, callResult}
+use Rattle.revisions.proofs.EffectiveRevision.{NoDup}
+use Rattle.machine.proofs.Machine as machine
+use Rattle.machine.proofs.Transition.{Transition}
+use Rattle.refinement.proofs.Abstraction.{stateOf, callOf, responseIn, responseOf, Fits}
+use Rattle.refinement.proofs.StatesAfter.{Simulated}
+use Rattle.refinement.proofs.RefusedCalls.{refused-simulated, step-low}
+use Rattle.refinement.proofs.StepFrame.{Going, going}
+use Rattle.refinement.proofs.ReadRefined.{read-simulated}
+use Rattle.refinement.proofs.WriteRefined.{write-simulated}
+use Rattle.refinement.proofs.OthersRefined.{begin-read-simulated, begin-insert-simulated, begin-delete-simulated, abandon-simulated, evict-answer-simulated, evict-node-simulated, renew-simulated}
+
+-- ---- A step
+progress-simulated : (m : Mem) (tray : List ℕ) (d : ℕ) → Going m d → Simulated m (machine.step d) (progress m tray d)
+unfolding progress
+progress-simulated m tray d g =
+    byTest (eqb (kind (client m d)) reads)
+    (λ t. rw t (read-simulated m tray d g (eqb-true (kind (client m d)) reads t)))
+    (λ t. rw t (write-simulated m tray d g (eqb-false (kind (client m d)) reads t)))
+
+step-simulated : (m : Mem) (tray : List ℕ) (d : ℕ) → Fits m → NoDup (storeIn (m .nodes) .nodes) → Simulated m (machine.step d) (stepResult m tray d)
+unfolding stepResult
+step-simulated m tray d f once =
+    byTest (eqb (stepCode m tray d) 0)
+    (λ t. let s = step-passed m tray d (eqb-true (stepCode m tray d) 0 t) in rw t (progress-simulated m tray d (going m f once d (s .1 .below) (s .1 .busy))))
+    (λ t. rw t (refused-simulated m (machine.step d) (stepCode m tray d) tray f (step-low m tray d) (eqb-false (stepCode m tray d) 0 t)))
+
+-- ---- Every call
+pub call-simulated : (m : Mem) (c : Call) → Fits m → NoDup (storeIn (m .nodes) .nodes) → Simulated m (callOf c) (callResult m c)
+unfolding callResult callOf
+call-simulated m (beginRead d a) f once = begin-read-simulated m f d a
+call-simulated m (beginInsert d a) f once = begin-insert-simulated m f d a
+call-simulated m (beginDelete d a) f once = begin-delete-simulated m f d a
+call-simulated m (step d tray) f once = step-simulated m tray d f once
+call-simulated m (abandon d) f once = abandon-simulated m d f once
+call-simulated m (evictAnswer i) f once = evict-answer-simulated m i f
+call-simulated m (evictNode i) f once = evict-node-simulated m i f once
+call-simulated m renew f once = renew-simulated m f
+
+pub refines : (m : Mem) (c : Call) → Fits m → NoDup (storeIn (m .nodes) .nodes)
+    → Transition (stateOf m) (callOf c) (responseOf (columns m) (callResult m c)) (stateOf (callResult m c .mem)) × Fits (callResult m c .mem)
+refines m c f once = let l = call-simulated m c f once in (l .transition, l .fits)
+
+-- the number of columns stays
+pub columns-stay : (m : Mem) (c : Call) → Fits m → NoDup (storeIn (m .nodes) .nodes) → columns (callResult m c .mem) ≡ columns m
+columns-stay m c f once = call-simulated m c f once .same
+
+-- ---- The number that a call returns is the machine's
+out-number : (k : ℕ) (tray : List ℕ) (o : Outcome) → machine.number (responseIn k tray o) ≡ number o
+unfolding machine.number responseIn number
+out-number k tray (Refused n) = refl
+out-number k tray Accepted = refl
+out-number k tray (Answered n b) = refl
+out-number k tray Long = refl
+out-number k tray (Ended b) = refl
+out-number k tray Full = refl
+
+pub number-is : (k : ℕ) (x : StepResult) → machine.number (responseOf k x) ≡ number (x .out)
+unfolding responseOf
+number-is k x = out-number k (x .tray) (x .out)

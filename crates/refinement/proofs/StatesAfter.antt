@@ -1,0 +1,183 @@
+-- The state that memories stand for after a part of them was changed, and that they still fit. Leans on Abstraction, ClientPhases and MemoryReads.
+-- Assumes nothing.
+use mathlib.Core.Path.{_≡_, refl, sym, ap, _∙_, fun-ext}
+use mathlib.Core.Bool.{false}
+use mathlib.Core.List.{List, map}
+use Prim.Native.Nat.{ℕ, _+_, _*_, _≤_, _<_}
+use native.Mathlib.Omega.{arith}
+use lib.Dec.{eqb}
+use borrow.Author.Tests.{eqb-true, eqb-false, lt-ltb}
+use lib.ListN.{length}
+use Rattle.laws.proofs.TestLaws.{byTest}
+use Rattle.laws.proofs.RowLaws.{Wide}
+use Rattle.rules.specs.Sizes.{maxRecords, maxNodes, maxAnswers, maxClients}
+use Rattle.rules.specs.declared.Outcome.{Outcome}
+use Rattle.rules.specs.Table.{Table}
+use Rattle.rules.specs.Nodes.{Store}
+use Rattle.rules.specs.Answers.{Entry}
+use Rattle.rules.specs.Client.{Client, isBad}
+use Rattle.rules.specs.Memory.{Mem, withTable, withFiled, recordsIn, withRecords, answersIn, withAnswers}
+use Rattle.rules.specs.Outcome.{StepResult, resultWith}
+use Rattle.rules.specs.Refusals.{columns, client}
+use Rattle.rules.proofs.ClientLaws.{client-same, client-other, columns-with, length-with}
+use Rattle.rules.specs.Steps.{nowAt, storeBack}
+use Rattle.revisions.proofs.NodeRows.{AllRows}
+use Rattle.machine.proofs.Sums.{In, upd, upd-same, upd-other}
+use Rattle.machine.proofs.Machine.{Phase, State, Call, at-client, with-store, with-filed, with-tab}
+use Rattle.machine.proofs.Transition.{Transition}
+use Rattle.refinement.proofs.Abstraction.{ansOf, phasesOf, filedOf, stateOf, responseIn, responseOf, Kept, Fits}
+use Rattle.refinement.proofs.ClientPhases.{Left}
+use Rattle.refinement.proofs.MemoryReads.{records-with, length-with-records, count-records}
+use Rattle.refinement.proofs.MemoryReads.{store-with, length-with-store, count-nodes, answers-with, length-with-answers, count-answers}
+
+-- the memories n stand for s; they fit, and have the columns of m
+pub record After (m n : Mem) (s : State) : Type 0 where
+  pub state : stateOf n ≡ s
+  pub fits : Fits n
+  pub same : columns n ≡ columns m
+
+-- what a call left: a step of the machine
+pub record Simulated (m : Mem) (c : Call) (x : StepResult) : Type 0 where
+  pub transition : Transition (stateOf m) c (responseOf (columns m) x) (stateOf (x .mem))
+  pub fits : Fits (x .mem)
+  pub same : columns (x .mem) ≡ columns m
+
+pub simulated : {m n : Mem} {s : State} {c : Call} (o : Outcome) (tray : List ℕ) → After m n s → Transition (stateOf m) c (responseIn (columns m) tray o) s
+    → Simulated m c (resultWith o n tray)
+unfolding responseOf
+simulated o tray a x = record { transition = rw (a .state) x; fits = a .fits; same = a .same }
+
+pub as-it-was : (m : Mem) → Fits m → After m m (stateOf m)
+as-it-was m f = record { state = refl; fits = f; same = refl }
+
+state-eq : {s t : State} → s .cols ≡ t .cols → s .tab ≡ t .tab → s .store ≡ t .store → s .filed ≡ t .filed → s .clients ≡ t .clients → s ≡ t
+state-eq a b c d e = λ i. record { cols = a i; tab = b i; store = c i; filed = d i; clients = e i }
+
+-- ---- A client
+module _ (m : Mem) (f : Fits m) (d : ℕ) (h : d < 12) (c : Client) (x : Phase) (l : Left (columns m) c x) where
+  room : 8 + d * 157 + 157 ≤ length (m .clients)
+  room = let z = f .clients-long in omega arith
+
+  now-columns : columns (nowAt m d c) ≡ columns m
+  unfolding columns nowAt
+  now-columns = columns-with (m .clients) d c (l .wide) room
+
+  now-same : client (nowAt m d c) d ≡ c
+  unfolding client nowAt
+  now-same = client-same (m .clients) d c (l .wide) room
+
+  now-other : (e : ℕ) → (e ≡ d → ⊥) → client (nowAt m d c) e ≡ client m e
+  unfolding client nowAt
+  now-other e ne = client-other (m .clients) d c (l .wide) room e ne
+
+  now-client : (e : ℕ) → phasesOf (nowAt m d c) e ≡ upd (phasesOf m) d x e
+  unfolding phasesOf
+  now-client e =
+      byTest (eqb e d)
+      (λ q. let z : e ≡ d = eqb-true e d q in rw (z, lt-ltb d maxClients h, now-columns, now-same, l .phase) (sym (upd-same _ d x)))
+      (λ q. let z : e ≡ d → ⊥ = eqb-false e d q in rw (now-columns, now-other e z) (sym (upd-other _ d x e z)))
+
+  now-sound : (e : ℕ) → e < maxClients → isBad (columns (nowAt m d c)) (client (nowAt m d c) e) ≡ false
+  now-sound e g =
+      byTest (eqb e d)
+      (λ q. let z : e ≡ d = eqb-true e d q in rw (z, now-columns, now-same) (l .sound))
+      (λ q. let z : e ≡ d → ⊥ = eqb-false e d q in rw (now-columns, now-other e z) (f .sound e g))
+
+  now-fits : Fits (nowAt m d c)
+  unfolding nowAt
+  now-fits = record {
+    table-long = f .table-long;
+    nodes-long = f .nodes-long;
+    answers-long = f .answers-long;
+    clients-long = let z = length-with (m .clients) d c (l .wide) room in let y = f .clients-long in omega arith;
+    some = rw now-columns (f .some);
+    few = rw now-columns (f .few);
+    records = f .records;
+    nodes = f .nodes;
+    answers = f .answers;
+    kept = λ e i. rw now-columns (f .kept e i);
+    sound = now-sound;
+  }
+
+  pub at-now : After m (nowAt m d c) (at-client (stateOf m) d x)
+  unfolding stateOf at-client filedOf nowAt
+  at-now = record {
+    state = state-eq now-columns (ap (λ (k : ℕ). recordsIn k (m .table)) now-columns) refl (ap (λ (k : ℕ). map (ansOf k) (answersIn (m .answers))) now-columns) (fun-ext now-client);
+    fits = now-fits;
+    same = now-columns;
+  }
+
+-- ---- The nodes
+module _ (m : Mem) (f : Fits m) (t : Store) (r : AllRows (t .nodes)) (most : length (t .nodes) ≤ maxNodes) where
+  pub at-store : After m (storeBack m t) (with-store (stateOf m) t)
+  unfolding stateOf with-store filedOf storeBack columns phasesOf client
+  at-store = record {
+    state = state-eq refl refl (store-with (m .nodes) (f .nodes-long) (f .nodes) t r most) refl refl;
+    fits = record {
+      table-long = f .table-long;
+      nodes-long = let z = length-with-store (m .nodes) (f .nodes-long) (f .nodes) t r most in let y = f .nodes-long in omega arith;
+      answers-long = f .answers-long;
+      clients-long = f .clients-long;
+      some = f .some;
+      few = f .few;
+      records = f .records;
+      nodes = let z = count-nodes (m .nodes) (f .nodes-long) (f .nodes) t r most in omega arith;
+      answers = f .answers;
+      kept = f .kept;
+      sound = f .sound;
+    };
+    same = refl;
+  }
+
+-- ---- The table
+module _ (m : Mem) (f : Fits m) (t : Table) (w : Wide (columns m) t) (most : length t ≤ maxRecords) where
+  pub at-table : After m (withTable m (withRecords (columns m) (m .table) t)) (with-tab (stateOf m) t)
+  unfolding stateOf with-tab filedOf columns phasesOf client
+  at-table = record {
+    state = state-eq refl (records-with (columns m) (m .table) (f .few) (f .table-long) (f .records) t w most) refl refl refl;
+    fits = record {
+      table-long = let z = length-with-records (columns m) (m .table) (f .few) (f .table-long) (f .records) t w most in let y = f .table-long in omega arith;
+      nodes-long = f .nodes-long;
+      answers-long = f .answers-long;
+      clients-long = f .clients-long;
+      some = f .some;
+      few = f .few;
+      records = let z = count-records (columns m) (m .table) (f .few) (f .table-long) (f .records) t w most in omega arith;
+      nodes = f .nodes;
+      answers = f .answers;
+      kept = f .kept;
+      sound = f .sound;
+    };
+    same = refl;
+  }
+
+-- ---- The filed answers
+module _ (m : Mem) (f : Fits m) (es : List Entry) (w : Wide 152 es) (most : length es ≤ maxAnswers) (all : (e : Entry) → In e es → Kept (columns m) e) where
+  answers-back : answersIn (withAnswers (m .answers) es) ≡ es
+  answers-back = answers-with (m .answers) (f .answers-long) (f .answers) es w most
+
+  pub at-filed : After m (withFiled m (withAnswers (m .answers) es)) (with-filed (stateOf m) (map (ansOf (columns m)) es))
+  unfolding stateOf with-filed filedOf columns phasesOf client
+  at-filed = record {
+    state = state-eq refl refl refl (ap (map (ansOf (columns m))) answers-back) refl;
+    fits = record {
+      table-long = f .table-long;
+      nodes-long = f .nodes-long;
+      answers-long = let z = length-with-answers (m .answers) (f .answers-long) (f .answers) es w most in let y = f .answers-long in omega arith;
+      clients-long = f .clients-long;
+      some = f .some;
+      few = f .few;
+      records = f .records;
+      nodes = f .nodes;
+      answers = let z = count-answers (m .answers) (f .answers-long) (f .answers) es w most in omega arith;
+      kept = λ e i. all e (rw answers-back at i);
+      sound = f .sound;
+    };
+    same = refl;
+  }
+
+-- ---- A client after another change
+pub then-now : {m n : Mem} {s : State} → After m n s → (d : ℕ) → d < 12 → (c : Client) (x : Phase) → Left (columns m) c x → After m (nowAt n d c) (at-client s d x)
+then-now {m} {n} a d h c x l =
+    let b = at-now n (a .fits) d h c x (rw (a .same) l) in
+    record { state = b .state ∙ ap (λ (t : State). at-client t d x) (a .state); fits = b .fits; same = b .same ∙ a .same }
