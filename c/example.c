@@ -2,7 +2,7 @@
  * Two desks at one table, step by step. An answer to "the settings of bench 3" is filed; then desk 0 puts a correction in, and desk 1 reads
  * meanwhile. Its reads meet the correction's marks, so they pass over the filed answer and take what the table holds at that moment: the old list
  * before the correction's table step, the new one after it. When the correction has ended, the filed answer no longer holds, and the next read
- * files a new one. Leans on mondzafeky.h alone. The Rust example two_desks tells the same and prints the same.
+ * files a new one. Leans on mondzafeky.h alone. The Rust example two_clients tells the same and prints the same.
  */
 #include "mondzafeky.h"
 
@@ -15,12 +15,12 @@
 static uint32_t table[MONDZAFEKY_TABLE_LEAST];
 static uint32_t nodes[MONDZAFEKY_NODES_LEAST];
 static uint32_t answers[MONDZAFEKY_ANSWERS_LEAST];
-static uint32_t desks[MONDZAFEKY_DESKS_LEAST];
+static uint32_t clients[MONDZAFEKY_CLIENTS_LEAST];
 static uint32_t tray[MONDZAFEKY_TRAY_LEAST];
 
 /* The four memories, as every call takes them. */
 #define MEMORIES \
-    table, MONDZAFEKY_TABLE_LEAST, nodes, MONDZAFEKY_NODES_LEAST, answers, MONDZAFEKY_ANSWERS_LEAST, desks, MONDZAFEKY_DESKS_LEAST
+    table, MONDZAFEKY_TABLE_LEAST, nodes, MONDZAFEKY_NODES_LEAST, answers, MONDZAFEKY_ANSWERS_LEAST, clients, MONDZAFEKY_CLIENTS_LEAST
 
 /* Ends the program if a call was not accepted. */
 static void expect_accepted(const char *what, mondzafeky_reply reply)
@@ -40,12 +40,12 @@ static void print_records(uint32_t count)
     }
 }
 
-/* One step, told in a line. Whether the desk's work has ended. */
-static int step(uint32_t desk, const char *work)
+/* One step, told in a line. client: the desk. Whether its work has ended. */
+static int step(uint32_t client, const char *work)
 {
-    mondzafeky_reply reply = mondzafeky_step(MEMORIES, tray, MONDZAFEKY_TRAY_LEAST, desk);
+    mondzafeky_reply reply = mondzafeky_step(MEMORIES, tray, MONDZAFEKY_TRAY_LEAST, client);
     expect_accepted(work, reply);
-    printf("  desk %u, %s: ", (unsigned)desk, work);
+    printf("  desk %u, %s: ", (unsigned)client, work);
     switch (reply.ending) {
     case MONDZAFEKY_FROM_FILE:
     case MONDZAFEKY_FROM_TABLE:
@@ -65,19 +65,19 @@ static int step(uint32_t desk, const char *work)
     }
 }
 
-static void begin_insert(uint32_t desk, uint32_t bench, uint32_t setting)
+static void begin_insert(uint32_t client, uint32_t bench, uint32_t setting)
 {
     const uint32_t record[2 * K] = {1, bench, 1, setting};
-    printf("desk %u begins the insert of (%u, %u)\n", (unsigned)desk, (unsigned)bench, (unsigned)setting);
-    expect_accepted("begin_insert", mondzafeky_begin_insert(MEMORIES, desk, record, 2 * K));
+    printf("desk %u begins the insert of (%u, %u)\n", (unsigned)client, (unsigned)bench, (unsigned)setting);
+    expect_accepted("begin_insert", mondzafeky_begin_insert(MEMORIES, client, record, 2 * K));
 }
 
 /* Any setting of a bench: the second column is a star. */
-static void begin_read(uint32_t desk, uint32_t bench)
+static void begin_read(uint32_t client, uint32_t bench)
 {
     const uint32_t query[2 * K] = {1, bench, 0, 0};
-    printf("desk %u begins the read of (%u, *)\n", (unsigned)desk, (unsigned)bench);
-    expect_accepted("begin_read", mondzafeky_begin_read(MEMORIES, desk, query, 2 * K));
+    printf("desk %u begins the read of (%u, *)\n", (unsigned)client, (unsigned)bench);
+    expect_accepted("begin_read", mondzafeky_begin_read(MEMORIES, client, query, 2 * K));
 }
 
 /* A step for each place in a row of desks: desk 0 inserts, desk 1 reads. */
@@ -88,9 +88,9 @@ static void steps(const char *row)
     }
 }
 
-static void run(uint32_t desk, const char *work)
+static void run(uint32_t client, const char *work)
 {
-    while (!step(desk, work)) {
+    while (!step(client, work)) {
     }
 }
 

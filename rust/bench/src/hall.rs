@@ -65,7 +65,8 @@ pub struct Hall {
     pub table: Memory,
     pub nodes: Memory,
     pub answers: Memory,
-    pub desks: Memory,
+    /// the desks
+    pub clients: Memory,
     pub tray: Memory,
 }
 
@@ -75,7 +76,7 @@ impl Hall {
             table: Memory::zeros(TABLE_LEAST, 0),
             nodes: Memory::zeros(NODES_LEAST, 0),
             answers: Memory::zeros(ANSWERS_LEAST, 0),
-            desks: Memory::zeros(DESKS_LEAST, 0),
+            clients: Memory::zeros(CLIENTS_LEAST, 0),
             tray: Memory::zeros(TRAY_LEAST, 0),
         };
         hall.does(Act::Open(k as u32), ACCEPTED);
@@ -84,13 +85,13 @@ impl Hall {
 
     /// The same with every memory starting so many numbers after a multiple of 64 bytes, below 16.
     pub fn placed(&self, past: usize) -> Hall {
-        let memories = [&self.table, &self.nodes, &self.answers, &self.desks, &self.tray];
-        let [table, nodes, answers, desks, tray] = memories.map(|memory| memory.placed(past));
-        Hall { table, nodes, answers, desks, tray }
+        let memories = [&self.table, &self.nodes, &self.answers, &self.clients, &self.tray];
+        let [table, nodes, answers, clients, tray] = memories.map(|memory| memory.placed(past));
+        Hall { table, nodes, answers, clients, tray }
     }
 
     pub fn columns(&self) -> usize {
-        self.desks[COLUMNS] as usize
+        self.clients[COLUMNS] as usize
     }
 
     /// Makes a call that must answer like this.
@@ -108,7 +109,7 @@ impl Hall {
         self
     }
 
-    /// n nodes: these labels from `place` on, with counter 7, the others foreign, with counters 1 to 50.
+    /// n nodes: these labels from `place` on, with revision 7, the others foreign, with revisions 1 to 50.
     pub fn with_nodes(mut self, n: usize, own: &[Label], place: usize) -> Hall {
         let mut rng = Rng::new(n as u64 + 17);
         let mut labels = foreign_labels(self.columns(), n - own.len(), own, &mut rng);
@@ -116,9 +117,9 @@ impl Hall {
         self.nodes[NODE_COUNT] = n as u32;
         self.nodes[FLOOR] = 3;
         for (i, node) in self.nodes[HEAD..].chunks_mut(NODE_WIDTH).take(n).enumerate() {
-            let counter = if (place..place + own.len()).contains(&i) { 7 } else { 1 + rng.below(50) };
+            let revision = if (place..place + own.len()).contains(&i) { 7 } else { 1 + rng.below(50) };
             node[..LABEL_WIDTH].copy_from_slice(&labels[i]);
-            node[NODE_COUNTER] = counter;
+            node[NODE_REVISION] = revision;
         }
         self
     }
@@ -139,9 +140,9 @@ impl Hall {
     }
 
     /// After the begin and so many accepted steps that end nothing.
-    pub fn begun(mut self, kind: Kind, desk: u32, asked: Asked, steps: u32) -> Hall {
-        self.does(Act::Begin(kind, desk, asked), ACCEPTED);
-        (0..steps).for_each(|_| self.does(Act::Step(desk), ACCEPTED));
+    pub fn begun(mut self, kind: Kind, client: u32, asked: Asked, steps: u32) -> Hall {
+        self.does(Act::Begin(kind, client, asked), ACCEPTED);
+        (0..steps).for_each(|_| self.does(Act::Step(client), ACCEPTED));
         self
     }
 
@@ -149,8 +150,8 @@ impl Hall {
     pub fn entry_for(&self, asked: Asked) -> Entry {
         let looks = query_of(self.columns(), asked).looks();
         let read = Hall { answers: Memory::zeros(ANSWERS_LEAST, 0), ..self.clone() }.begun(Kind::Read, 11, asked, looks + 2);
-        let at = HEAD + 11 * DESK_WIDTH + DESK_ENTRY;
-        read.desks[at..at + ENTRY_WIDTH].try_into().expect("an entry's width")
+        let at = HEAD + 11 * CLIENT_WIDTH + CLIENT_ENTRY;
+        read.clients[at..at + ENTRY_WIDTH].try_into().expect("an entry's width")
     }
 }
 
@@ -164,10 +165,10 @@ pub fn read_labels(k: usize, asked: Asked) -> Vec<Label> {
     (0..query.looks()).map(|number| query.read_label(number)).collect()
 }
 
-/// The labels of a write's nodes, in the order of its marks.
+/// The labels of a write's nodes, in the order of its announcements.
 pub fn write_labels(k: usize, asked: Asked) -> Vec<Label> {
     let query = query_of(k, asked);
-    (0..query.marks()).map(|number| query.write_label::<{ twin::PLAIN }>(number)).collect()
+    (0..query.announcements()).map(|number| query.write_label::<{ twin::PLAIN }>(number)).collect()
 }
 
 fn foreign_query(k: usize, rng: &mut Rng) -> Query {

@@ -98,7 +98,8 @@ struct Run<'a> {
     mix: &'a Mix,
     points: Vec<Point>,
     plain: BTreeSet<Point>,
-    desks: [Option<Work>; DESKS],
+    /// what is under way at each desk
+    clients: [Option<Work>; CLIENTS],
     /// the planes that a cache would hold which is emptied at every write
     naive: HashSet<Point>,
     tally: Tally,
@@ -108,12 +109,12 @@ struct Run<'a> {
 pub fn run(mix: &Mix, setting: Setting, operations: u32, seed: u64) -> Tally {
     let mut run = Run::new(mix, setting, seed);
     let mut begun = 0;
-    while begun < operations || run.desks.iter().any(Option::is_some) {
-        let desk = if setting.mixed { run.rng.below(DESKS as u32) } else { 0 };
-        if run.desks[desk as usize].is_some() {
-            run.step(desk);
+    while begun < operations || run.clients.iter().any(Option::is_some) {
+        let client = if setting.mixed { run.rng.below(CLIENTS as u32) } else { 0 };
+        if run.clients[client as usize].is_some() {
+            run.step(client);
         } else if begun < operations {
-            run.begin(desk);
+            run.begin(client);
             begun += 1;
         }
     }
@@ -140,8 +141,8 @@ impl Run<'_> {
         assert_eq!(perform::<Library>(&mut hall, &Act::Renew), ACCEPTED);
         let plain = quarter.iter().copied().collect();
         let points = if setting.whole_grid { grid().collect() } else { quarter };
-        let desks = [const { None }; DESKS];
-        Run { hall, rng: Rng::new(seed), mix, points, plain, desks, naive: HashSet::new(), tally: Tally::default() }
+        let clients = [const { None }; CLIENTS];
+        Run { hall, rng: Rng::new(seed), mix, points, plain, clients, naive: HashSet::new(), tally: Tally::default() }
     }
 
     fn draw(&mut self) -> (Kind, Asked) {
@@ -165,29 +166,29 @@ impl Run<'_> {
         self.plain.iter().filter(|point| lies(point, asked)).copied().collect()
     }
 
-    fn begin(&mut self, desk: u32) {
+    fn begin(&mut self, client: u32) {
         let (kind, asked) = self.draw();
-        assert_eq!(perform::<Library>(&mut self.hall, &Act::Begin(kind, desk, asked)), ACCEPTED);
+        assert_eq!(perform::<Library>(&mut self.hall, &Act::Begin(kind, client, asked)), ACCEPTED);
         self.tally.calls += 1;
         let lists = if kind == Kind::Read { vec![self.list(&asked)] } else { Vec::new() };
-        self.desks[desk as usize] = Some(Work { kind, asked, steps: 0, lists });
+        self.clients[client as usize] = Some(Work { kind, asked, steps: 0, lists });
     }
 
-    fn step(&mut self, desk: u32) {
+    fn step(&mut self, client: u32) {
         let newest = self.newest_node();
-        let reply = perform::<Library>(&mut self.hall, &Act::Step(desk));
+        let reply = perform::<Library>(&mut self.hall, &Act::Step(client));
         self.tally.calls += 1;
         if newest.is_some() && newest != self.newest_node() {
             self.tally.room_made += 1;
         }
-        let work = self.desks[desk as usize].as_mut().expect("a busy desk");
+        let work = self.clients[client as usize].as_mut().expect("a busy desk");
         work.steps += 1;
         // a write of three columns has eight nodes, and its table step is the next
         if work.kind != Kind::Read && work.steps == 9 {
-            self.write(desk);
+            self.write(client);
         }
         if reply != ACCEPTED {
-            self.end(desk, reply);
+            self.end(client, reply);
         }
     }
 
@@ -198,8 +199,8 @@ impl Run<'_> {
     }
 
     /// The write takes effect on the plain table; a moment for every read under way.
-    fn write(&mut self, desk: u32) {
-        let work = self.desks[desk as usize].as_ref().expect("a busy desk");
+    fn write(&mut self, client: u32) {
+        let work = self.clients[client as usize].as_ref().expect("a busy desk");
         let asked = work.asked;
         if work.kind == Kind::Delete {
             self.plain.retain(|point| !lies(point, &asked));
@@ -207,18 +208,18 @@ impl Run<'_> {
             self.plain.extend(grid().filter(|point| lies(point, &asked)));
         }
         self.naive.clear();
-        for place in 0..DESKS {
-            let Some(read) = self.desks[place].as_ref().filter(|work| work.kind == Kind::Read) else { continue };
+        for place in 0..CLIENTS {
+            let Some(read) = self.clients[place].as_ref().filter(|work| work.kind == Kind::Read) else { continue };
             let list = self.list(&read.asked);
-            let lists = &mut self.desks[place].as_mut().expect("the same desk").lists;
+            let lists = &mut self.clients[place].as_mut().expect("the same desk").lists;
             if lists.last() != Some(&list) {
                 lists.push(list);
             }
         }
     }
 
-    fn end(&mut self, desk: u32, reply: Reply) {
-        let work = self.desks[desk as usize].take().expect("a busy desk");
+    fn end(&mut self, client: u32, reply: Reply) {
+        let work = self.clients[client as usize].take().expect("a busy desk");
         match (work.kind, reply) {
             (Kind::Read, Reply { number: 12, .. }) => {
                 self.tally.long += 1;

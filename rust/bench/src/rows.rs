@@ -15,7 +15,8 @@ pub struct Row {
     pub expected: Reply,
 }
 
-const DESK: u32 = 5;
+/// The desk of every row.
+const CLIENT: u32 = 5;
 /// The record that queries of the rows take their values from.
 const MIDDLE: usize = 1024;
 
@@ -78,7 +79,7 @@ pub fn calls() -> Vec<Row> {
     lists(&mut rows);
     long_lists(&mut rows);
     filings(&mut rows);
-    marks(&mut rows);
+    announcements(&mut rows);
     inserts(&mut rows);
     deletes(&mut rows);
     abandonings(&mut rows);
@@ -94,25 +95,25 @@ fn openings(rows: &mut Vec<Row>) {
 
 fn begins(rows: &mut Vec<Row>) {
     let asked = all_named(4);
-    row(rows, "begin read", "empty hall", Hall::opened(4), Act::Begin(Kind::Read, DESK, asked), ACCEPTED);
-    row(rows, "begin read", "full hall", full(4), Act::Begin(Kind::Read, DESK, asked), ACCEPTED);
-    row(rows, "begin insert", "full hall", full(4), Act::Begin(Kind::Insert, DESK, asked), ACCEPTED);
-    row(rows, "begin delete", "full hall", full(4), Act::Begin(Kind::Delete, DESK, asked), ACCEPTED);
-    let busy = full(4).begun(Kind::Read, DESK, asked, 0);
-    row(rows, "begin read", "refused: the desk is busy", busy, Act::Begin(Kind::Read, DESK, asked), refused(5));
-    row(rows, "step", "refused: the desk is idle", full(4), Act::Step(DESK), refused(6));
+    row(rows, "begin read", "empty hall", Hall::opened(4), Act::Begin(Kind::Read, CLIENT, asked), ACCEPTED);
+    row(rows, "begin read", "full hall", full(4), Act::Begin(Kind::Read, CLIENT, asked), ACCEPTED);
+    row(rows, "begin insert", "full hall", full(4), Act::Begin(Kind::Insert, CLIENT, asked), ACCEPTED);
+    row(rows, "begin delete", "full hall", full(4), Act::Begin(Kind::Delete, CLIENT, asked), ACCEPTED);
+    let busy = full(4).begun(Kind::Read, CLIENT, asked, 0);
+    row(rows, "begin read", "refused: the desk is busy", busy, Act::Begin(Kind::Read, CLIENT, asked), refused(5));
+    row(rows, "step", "refused: the desk is idle", full(4), Act::Step(CLIENT), refused(6));
 }
 
 /// The first look of a read that names four columns.
 fn looks(rows: &mut Vec<Row>) {
     let asked = all_named(4);
     let own = &read_labels(4, asked)[..1];
-    let hall = |n, own, place| full(4).with_nodes(n, own, place).begun(Kind::Read, DESK, asked, 0);
-    row(rows, "look", "node first of 1,024", hall(NODES, own, 0), Act::Step(DESK), ACCEPTED);
-    row(rows, "look", "node last of 1,024", hall(NODES, own, NODES - 1), Act::Step(DESK), ACCEPTED);
-    row(rows, "look", "node missing, added to none", Hall::opened(4).begun(Kind::Read, DESK, asked, 0), Act::Step(DESK), ACCEPTED);
-    row(rows, "look", "node missing, added to 1,023", hall(NODES - 1, &[], 0), Act::Step(DESK), ACCEPTED);
-    row(rows, "look", "node missing, room made in 1,024", hall(NODES, &[], 0), Act::Step(DESK), ACCEPTED);
+    let hall = |n, own, place| full(4).with_nodes(n, own, place).begun(Kind::Read, CLIENT, asked, 0);
+    row(rows, "look", "node first of 1,024", hall(NODES, own, 0), Act::Step(CLIENT), ACCEPTED);
+    row(rows, "look", "node last of 1,024", hall(NODES, own, NODES - 1), Act::Step(CLIENT), ACCEPTED);
+    row(rows, "look", "node missing, added to none", Hall::opened(4).begun(Kind::Read, CLIENT, asked, 0), Act::Step(CLIENT), ACCEPTED);
+    row(rows, "look", "node missing, added to 1,023", hall(NODES - 1, &[], 0), Act::Step(CLIENT), ACCEPTED);
+    row(rows, "look", "node missing, room made in 1,024", hall(NODES, &[], 0), Act::Step(CLIENT), ACCEPTED);
 }
 
 /// A full hall in which a read's nodes stand last.
@@ -124,7 +125,7 @@ fn reading(k: usize, asked: Asked) -> Hall {
 /// The same before the fetch of that read, among 64 answers of which one may be its own.
 fn fetching(asked: Asked, own: Option<(usize, Entry)>) -> Hall {
     let looks = read_labels(4, asked).len() as u32;
-    reading(4, asked).with_answers(ANSWERS, own).begun(Kind::Read, DESK, asked, looks)
+    reading(4, asked).with_answers(ANSWERS, own).begun(Kind::Read, CLIENT, asked, looks)
 }
 
 /// The answer that the read would file, with one revision too low for it to hold.
@@ -138,14 +139,14 @@ fn fetches(rows: &mut Vec<Row>) {
     let asked = all_named(4);
     let own = reading(4, asked).entry_for(asked);
     let old = outdated(&reading(4, asked), asked);
-    row(rows, "fetch", "hit, first of 64", fetching(asked, Some((0, own))), Act::Step(DESK), from_file(1));
-    row(rows, "fetch", "hit, last of 64", fetching(asked, Some((ANSWERS - 1, own))), Act::Step(DESK), from_file(1));
-    row(rows, "fetch", "miss, 64 other queries", fetching(asked, None), Act::Step(DESK), ACCEPTED);
-    row(rows, "fetch", "miss, own answer outdated", fetching(asked, Some((ANSWERS - 1, old))), Act::Step(DESK), ACCEPTED);
+    row(rows, "fetch", "hit, first of 64", fetching(asked, Some((0, own))), Act::Step(CLIENT), from_file(1));
+    row(rows, "fetch", "hit, last of 64", fetching(asked, Some((ANSWERS - 1, own))), Act::Step(CLIENT), from_file(1));
+    row(rows, "fetch", "miss, 64 other queries", fetching(asked, None), Act::Step(CLIENT), ACCEPTED);
+    row(rows, "fetch", "miss, own answer outdated", fetching(asked, Some((ANSWERS - 1, old))), Act::Step(CLIENT), ACCEPTED);
     let wide = Asked::new(&[None, Some(17), None, None]);
     let own = grouped(64, 32, wide).entry_for(wide);
-    let hall = grouped(64, 32, wide).with_answers(ANSWERS, Some((ANSWERS - 1, own))).begun(Kind::Read, DESK, wide, 2);
-    row(rows, "fetch", "hit, last of 64, 32 records", hall, Act::Step(DESK), from_file(32));
+    let hall = grouped(64, 32, wide).with_answers(ANSWERS, Some((ANSWERS - 1, own))).begun(Kind::Read, CLIENT, wide, 2);
+    row(rows, "fetch", "hit, last of 64, 32 records", hall, Act::Step(CLIENT), from_file(32));
 }
 
 /// A full hall whose records come in groups of `width`, numbered in their second column: a query of one such number finds one of each
@@ -158,101 +159,101 @@ fn grouped(width: usize, groups: usize, asked: Asked) -> Hall {
 /// Before the table step of a read.
 fn listing(k: usize, asked: Asked) -> Hall {
     let looks = read_labels(k, asked).len() as u32;
-    reading(k, asked).begun(Kind::Read, DESK, asked, looks + 1)
+    reading(k, asked).begun(Kind::Read, CLIENT, asked, looks + 1)
 }
 
 fn lists(rows: &mut Vec<Row>) {
     let named = [(0b0001, "column 1 of 4"), (0b0011, "columns 1 and 2"), (0b0111, "columns 1 to 3"), (0b1111, "columns 1 to 4")];
     for (bits, text) in named {
-        row(rows, "list", &format!("names {text}"), listing(4, naming(4, bits)), Act::Step(DESK), ACCEPTED);
+        row(rows, "list", &format!("names {text}"), listing(4, naming(4, bits)), Act::Step(CLIENT), ACCEPTED);
     }
-    row(rows, "list", "names column 4", listing(4, naming(4, 0b1000)), Act::Step(DESK), ACCEPTED);
-    row(rows, "list", "names columns 3 and 4", listing(4, naming(4, 0b1100)), Act::Step(DESK), ACCEPTED);
-    row(rows, "list", "k 1, names its column", listing(1, all_named(1)), Act::Step(DESK), ACCEPTED);
-    row(rows, "list", "k 2, names both", listing(2, all_named(2)), Act::Step(DESK), ACCEPTED);
-    row(rows, "list", "k 3, names all three", listing(3, all_named(3)), Act::Step(DESK), ACCEPTED);
+    row(rows, "list", "names column 4", listing(4, naming(4, 0b1000)), Act::Step(CLIENT), ACCEPTED);
+    row(rows, "list", "names columns 3 and 4", listing(4, naming(4, 0b1100)), Act::Step(CLIENT), ACCEPTED);
+    row(rows, "list", "k 1, names its column", listing(1, all_named(1)), Act::Step(CLIENT), ACCEPTED);
+    row(rows, "list", "k 2, names both", listing(2, all_named(2)), Act::Step(CLIENT), ACCEPTED);
+    row(rows, "list", "k 3, names all three", listing(3, all_named(3)), Act::Step(CLIENT), ACCEPTED);
 }
 
 fn long_lists(rows: &mut Vec<Row>) {
     let second = |value| Asked::new(&[None, Some(value), None, None]);
-    let spread = grouped(64, 32, second(17)).begun(Kind::Read, DESK, second(17), 3);
-    row(rows, "list", "32 records, spread", spread, Act::Step(DESK), ACCEPTED);
-    let late = grouped(62, 34, second(1)).begun(Kind::Read, DESK, second(1), 3);
-    row(rows, "list", "long, found at record 1,986", late, Act::Step(DESK), refused(12));
-    let stars = Asked::new(&[None; 4]);
-    row(rows, "list", "long, found at record 33", listing(4, stars), Act::Step(DESK), refused(12));
+    let spread = grouped(64, 32, second(17)).begun(Kind::Read, CLIENT, second(17), 3);
+    row(rows, "list", "32 records, spread", spread, Act::Step(CLIENT), ACCEPTED);
+    let late = grouped(62, 34, second(1)).begun(Kind::Read, CLIENT, second(1), 3);
+    row(rows, "list", "long, found at record 1,986", late, Act::Step(CLIENT), refused(12));
+    let wildcards = Asked::new(&[None; 4]);
+    row(rows, "list", "long, found at record 33", listing(4, wildcards), Act::Step(CLIENT), refused(12));
 }
 
 /// Before the file step of a read.
 fn filing(asked: Asked, n: usize, own: Option<(usize, Entry)>) -> Hall {
     let looks = read_labels(4, asked).len() as u32;
-    reading(4, asked).with_answers(n, own).begun(Kind::Read, DESK, asked, looks + 2)
+    reading(4, asked).with_answers(n, own).begun(Kind::Read, CLIENT, asked, looks + 2)
 }
 
 fn filings(rows: &mut Vec<Row>) {
     let asked = all_named(4);
     let old = outdated(&reading(4, asked), asked);
-    row(rows, "file", "first answer", filing(asked, 0, None), Act::Step(DESK), from_table(1));
-    row(rows, "file", "new, 64th", filing(asked, ANSWERS - 1, None), Act::Step(DESK), from_table(1));
-    row(rows, "file", "same query, first of 64", filing(asked, ANSWERS, Some((0, old))), Act::Step(DESK), from_table(1));
-    row(rows, "file", "same query, last of 64", filing(asked, ANSWERS, Some((ANSWERS - 1, old))), Act::Step(DESK), from_table(1));
-    row(rows, "file", "new, 64 kept", filing(asked, ANSWERS, None), Act::Step(DESK), from_table(1));
+    row(rows, "file", "first answer", filing(asked, 0, None), Act::Step(CLIENT), from_table(1));
+    row(rows, "file", "new, 64th", filing(asked, ANSWERS - 1, None), Act::Step(CLIENT), from_table(1));
+    row(rows, "file", "same query, first of 64", filing(asked, ANSWERS, Some((0, old))), Act::Step(CLIENT), from_table(1));
+    row(rows, "file", "same query, last of 64", filing(asked, ANSWERS, Some((ANSWERS - 1, old))), Act::Step(CLIENT), from_table(1));
+    row(rows, "file", "new, 64 kept", filing(asked, ANSWERS, None), Act::Step(CLIENT), from_table(1));
 }
 
-/// The first mark and the first raise of an insert of the middle record, which is there.
-fn marks(rows: &mut Vec<Row>) {
+/// The first announcement (mark) and the first raise of an insert of the middle record, which is there.
+fn announcements(rows: &mut Vec<Row>) {
     let asked = all_named(4);
     let own = write_labels(4, asked);
-    let hall = |n, own, place, steps| full(4).with_nodes(n, own, place).begun(Kind::Insert, DESK, asked, steps);
-    row(rows, "mark", "node first of 1,024", hall(NODES, &own[..1], 0, 0), Act::Step(DESK), ACCEPTED);
-    row(rows, "mark", "node last of 1,024", hall(NODES, &own[..1], NODES - 1, 0), Act::Step(DESK), ACCEPTED);
-    row(rows, "mark", "node missing, added to 1,023", hall(NODES - 1, &[], 0, 0), Act::Step(DESK), ACCEPTED);
-    row(rows, "mark", "node missing, room made in 1,024", hall(NODES, &[], 0, 0), Act::Step(DESK), ACCEPTED);
-    row(rows, "raise", "node first of 1,024", hall(NODES, &own, 0, 17), Act::Step(DESK), ACCEPTED);
+    let hall = |n, own, place, steps| full(4).with_nodes(n, own, place).begun(Kind::Insert, CLIENT, asked, steps);
+    row(rows, "mark", "node first of 1,024", hall(NODES, &own[..1], 0, 0), Act::Step(CLIENT), ACCEPTED);
+    row(rows, "mark", "node last of 1,024", hall(NODES, &own[..1], NODES - 1, 0), Act::Step(CLIENT), ACCEPTED);
+    row(rows, "mark", "node missing, added to 1,023", hall(NODES - 1, &[], 0, 0), Act::Step(CLIENT), ACCEPTED);
+    row(rows, "mark", "node missing, room made in 1,024", hall(NODES, &[], 0, 0), Act::Step(CLIENT), ACCEPTED);
+    row(rows, "raise", "node first of 1,024", hall(NODES, &own, 0, 17), Act::Step(CLIENT), ACCEPTED);
     let last_first: Vec<_> = own.iter().rev().copied().collect();
-    row(rows, "raise", "node last of 1,024", hall(NODES, &last_first, NODES - 16, 17), Act::Step(DESK), ACCEPTED);
-    row(rows, "raise", "the write's last", hall(NODES, &own, NODES - 16, 32), Act::Step(DESK), UNCHANGED);
+    row(rows, "raise", "node last of 1,024", hall(NODES, &last_first, NODES - 16, 17), Act::Step(CLIENT), ACCEPTED);
+    row(rows, "raise", "the write's last", hall(NODES, &own, NODES - 16, 32), Act::Step(CLIENT), UNCHANGED);
 }
 
 /// Before the table step of a write, its nodes standing last.
 fn writing(kind: Kind, asked: Asked, n: usize) -> Hall {
     let own = write_labels(4, asked);
     let hall = Hall::opened(4).with_records(n, |i| record(4, i)).with_answers(ANSWERS, None);
-    hall.with_nodes(NODES, &own, NODES - own.len()).begun(kind, DESK, asked, 16)
+    hall.with_nodes(NODES, &own, NODES - own.len()).begun(kind, CLIENT, asked, 16)
 }
 
 fn inserts(rows: &mut Vec<Row>) {
     let less = RECORDS - 1;
     let mut between = record(4, MIDDLE);
     between[3] += 1;
-    row(rows, "insert", "front of 2,047", writing(Kind::Insert, the_record([0, 0, 0, 0]), less), Act::Step(DESK), ACCEPTED);
-    row(rows, "insert", "middle of 2,047", writing(Kind::Insert, the_record(between), less), Act::Step(DESK), ACCEPTED);
-    row(rows, "insert", "end of 2,047", writing(Kind::Insert, the_record([9999, 0, 0, 0]), less), Act::Step(DESK), ACCEPTED);
-    row(rows, "insert", "present, in the middle", writing(Kind::Insert, all_named(4), less), Act::Step(DESK), ACCEPTED);
-    row(rows, "insert", "present, first", writing(Kind::Insert, the_record(record(4, 0)), less), Act::Step(DESK), ACCEPTED);
-    row(rows, "insert", "full", writing(Kind::Insert, the_record(between), RECORDS), Act::Step(DESK), ACCEPTED);
+    row(rows, "insert", "front of 2,047", writing(Kind::Insert, the_record([0, 0, 0, 0]), less), Act::Step(CLIENT), ACCEPTED);
+    row(rows, "insert", "middle of 2,047", writing(Kind::Insert, the_record(between), less), Act::Step(CLIENT), ACCEPTED);
+    row(rows, "insert", "end of 2,047", writing(Kind::Insert, the_record([9999, 0, 0, 0]), less), Act::Step(CLIENT), ACCEPTED);
+    row(rows, "insert", "present, in the middle", writing(Kind::Insert, all_named(4), less), Act::Step(CLIENT), ACCEPTED);
+    row(rows, "insert", "present, first", writing(Kind::Insert, the_record(record(4, 0)), less), Act::Step(CLIENT), ACCEPTED);
+    row(rows, "insert", "full", writing(Kind::Insert, the_record(between), RECORDS), Act::Step(CLIENT), ACCEPTED);
 }
 
 fn deletes(rows: &mut Vec<Row>) {
     let none = Asked::new(&[Some(9999), None, None, None]);
     let quarter = Asked::new(&[None, Some(2), None, None]);
     let delete = |asked| writing(Kind::Delete, asked, RECORDS);
-    row(rows, "delete", "none", delete(none), Act::Step(DESK), ACCEPTED);
-    row(rows, "delete", "4 in the middle", delete(naming(4, 0b0001)), Act::Step(DESK), ACCEPTED);
-    row(rows, "delete", "1, all columns named", delete(all_named(4)), Act::Step(DESK), ACCEPTED);
-    row(rows, "delete", "every fourth", delete(quarter), Act::Step(DESK), ACCEPTED);
-    row(rows, "delete", "all", delete(Asked::new(&[None; 4])), Act::Step(DESK), ACCEPTED);
+    row(rows, "delete", "none", delete(none), Act::Step(CLIENT), ACCEPTED);
+    row(rows, "delete", "4 in the middle", delete(naming(4, 0b0001)), Act::Step(CLIENT), ACCEPTED);
+    row(rows, "delete", "1, all columns named", delete(all_named(4)), Act::Step(CLIENT), ACCEPTED);
+    row(rows, "delete", "every fourth", delete(quarter), Act::Step(CLIENT), ACCEPTED);
+    row(rows, "delete", "all", delete(Asked::new(&[None; 4])), Act::Step(CLIENT), ACCEPTED);
 }
 
 fn abandonings(rows: &mut Vec<Row>) {
     let asked = all_named(4);
     let own = write_labels(4, asked);
-    let write = |steps| full(4).with_nodes(NODES, &own, NODES - 16).begun(Kind::Insert, DESK, asked, steps);
-    row(rows, "abandon", "a read", fetching(asked, None), Act::Abandon(DESK), ACCEPTED);
-    row(rows, "abandon", "a write with no mark", write(0), Act::Abandon(DESK), ACCEPTED);
-    row(rows, "abandon", "a write with 1 mark", write(1), Act::Abandon(DESK), ACCEPTED);
-    row(rows, "abandon", "a write with 16 marks", write(16), Act::Abandon(DESK), ACCEPTED);
-    row(rows, "abandon", "refused: committed", write(17), Act::Abandon(DESK), refused(7));
+    let write = |steps| full(4).with_nodes(NODES, &own, NODES - 16).begun(Kind::Insert, CLIENT, asked, steps);
+    row(rows, "abandon", "a read", fetching(asked, None), Act::Abandon(CLIENT), ACCEPTED);
+    row(rows, "abandon", "a write with no mark", write(0), Act::Abandon(CLIENT), ACCEPTED);
+    row(rows, "abandon", "a write with 1 mark", write(1), Act::Abandon(CLIENT), ACCEPTED);
+    row(rows, "abandon", "a write with 16 marks", write(16), Act::Abandon(CLIENT), ACCEPTED);
+    row(rows, "abandon", "refused: committed", write(17), Act::Abandon(CLIENT), refused(7));
 }
 
 fn evictions(rows: &mut Vec<Row>) {
@@ -276,7 +277,7 @@ fn whole_reads(rows: &mut Vec<Row>, k: usize, asked: Asked, text: &str) {
     let hall = reading(k, asked);
     let (own, old) = (hall.entry_for(asked), outdated(&hall, asked));
     let count = own[ENTRY_LENGTH];
-    let read = Act::Whole(Kind::Read, DESK, asked);
+    let read = Act::Whole(Kind::Read, CLIENT, asked);
     let filed = |entry| hall.clone().with_answers(ANSWERS, Some((ANSWERS - 1, entry)));
     row(rows, "whole read", &format!("k {k}, {text}, filed"), filed(own), read, from_file(count));
     row(rows, "whole read", &format!("k {k}, {text}, from the table"), filed(old), read, from_table(count));
@@ -296,10 +297,10 @@ fn whole_writes(rows: &mut Vec<Row>, k: usize) {
         let own = write_labels(k, asked);
         full(k).with_records(n, spaced).with_nodes(NODES, &own, NODES - own.len())
     };
-    let insert = Act::Whole(Kind::Insert, DESK, asked);
+    let insert = Act::Whole(Kind::Insert, CLIENT, asked);
     row(rows, "whole insert", &format!("k {k}, middle of 2,047"), hall(asked, RECORDS - 1), insert, CHANGED);
     let there = Asked::new(&spaced(MIDDLE).map(Some)[..k]);
-    let delete = Act::Whole(Kind::Delete, DESK, there);
+    let delete = Act::Whole(Kind::Delete, CLIENT, there);
     row(rows, "whole delete", &format!("k {k}, 1 of 2,048"), hall(there, RECORDS), delete, CHANGED);
 }
 
@@ -310,7 +311,7 @@ fn light_reads(rows: &mut Vec<Row>) {
     let hall = Hall::opened(4).with_records(RECORDS, |i| record(4, i)).with_nodes(96, &own, 96 - own.len());
     let filed = hall.clone().with_answers(12, Some((11, hall.entry_for(asked))));
     let old = hall.clone().with_answers(12, Some((11, outdated(&hall, asked))));
-    let read = Act::Whole(Kind::Read, DESK, asked);
+    let read = Act::Whole(Kind::Read, CLIENT, asked);
     row(rows, "whole read", "k 4, 96 nodes, 12 answers, filed", filed, read, from_file(1));
     row(rows, "whole read", "k 4, 96 nodes, 12 answers, from the table", old, read, from_table(1));
 }

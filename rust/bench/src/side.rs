@@ -63,9 +63,9 @@ pub const ACCEPTED: Reply = Reply { number: 0, count: 0, ending: 0 };
 
 pub trait Side {
     fn open(h: &mut Hall, k: u32) -> Reply;
-    fn begin(h: &mut Hall, kind: Kind, desk: u32, query: &[u32]) -> Reply;
-    fn step(h: &mut Hall, desk: u32) -> Reply;
-    fn abandon(h: &mut Hall, desk: u32) -> Reply;
+    fn begin(h: &mut Hall, kind: Kind, client: u32, query: &[u32]) -> Reply;
+    fn step(h: &mut Hall, client: u32) -> Reply;
+    fn abandon(h: &mut Hall, client: u32) -> Reply;
     fn evict_answer(h: &mut Hall, place: u32) -> Reply;
     fn evict_node(h: &mut Hall, place: u32) -> Reply;
     fn renew(h: &mut Hall) -> Reply;
@@ -83,26 +83,26 @@ macro_rules! side {
                 side!(h, $memories, m, m.open(k))
             }
             #[inline(always)]
-            fn begin(h: &mut Hall, kind: Kind, desk: u32, query: &[u32]) -> Reply {
+            fn begin(h: &mut Hall, kind: Kind, client: u32, query: &[u32]) -> Reply {
                 match kind {
-                    Kind::Read => side!(h, $memories, m, m.begin_read(desk, query)),
-                    Kind::Insert => side!(h, $memories, m, m.begin_insert(desk, query)),
-                    Kind::Delete => side!(h, $memories, m, m.begin_delete(desk, query)),
+                    Kind::Read => side!(h, $memories, m, m.begin_read(client, query)),
+                    Kind::Insert => side!(h, $memories, m, m.begin_insert(client, query)),
+                    Kind::Delete => side!(h, $memories, m, m.begin_delete(client, query)),
                 }
             }
             #[inline(always)]
-            fn step(h: &mut Hall, desk: u32) -> Reply {
+            fn step(h: &mut Hall, client: u32) -> Reply {
                 let tray = &mut h.tray;
                 let r = <$memories>::step(
-                    &mut Lend { table: &mut h.table, nodes: &mut h.nodes, answers: &mut h.answers, desks: &mut h.desks }.into(),
+                    &mut Lend { table: &mut h.table, nodes: &mut h.nodes, answers: &mut h.answers, clients: &mut h.clients }.into(),
                     tray,
-                    desk,
+                    client,
                 );
                 Reply { number: r.number, count: r.count, ending: r.ending }
             }
             #[inline(always)]
-            fn abandon(h: &mut Hall, desk: u32) -> Reply {
-                side!(h, $memories, m, m.abandon(desk))
+            fn abandon(h: &mut Hall, client: u32) -> Reply {
+                side!(h, $memories, m, m.abandon(client))
             }
             #[inline(always)]
             fn evict_answer(h: &mut Hall, place: u32) -> Reply {
@@ -119,7 +119,7 @@ macro_rules! side {
         }
     };
     ($h:ident, $memories:ty, $m:ident, $call:expr) => {{
-        let mut $m: $memories = Lend { table: &mut $h.table, nodes: &mut $h.nodes, answers: &mut $h.answers, desks: &mut $h.desks }.into();
+        let mut $m: $memories = Lend { table: &mut $h.table, nodes: &mut $h.nodes, answers: &mut $h.answers, clients: &mut $h.clients }.into();
         let r = $call;
         Reply { number: r.number, count: r.count, ending: r.ending }
     }};
@@ -130,20 +130,21 @@ struct Lend<'a> {
     table: &'a mut [u32],
     nodes: &'a mut [u32],
     answers: &'a mut [u32],
-    desks: &'a mut [u32],
+    /// the desks
+    clients: &'a mut [u32],
 }
 
 impl<'a> From<Lend<'a>> for mondzafeky::Memories<'a> {
     #[inline(always)]
     fn from(m: Lend<'a>) -> Self {
-        mondzafeky::Memories { table: m.table, nodes: m.nodes, answers: m.answers, desks: m.desks }
+        mondzafeky::Memories { table: m.table, nodes: m.nodes, answers: m.answers, clients: m.clients }
     }
 }
 
 impl<'a> From<Lend<'a>> for twin::Memories<'a> {
     #[inline(always)]
     fn from(m: Lend<'a>) -> Self {
-        twin::Memories { table: m.table, nodes: m.nodes, answers: m.answers, desks: m.desks }
+        twin::Memories { table: m.table, nodes: m.nodes, answers: m.answers, clients: m.clients }
     }
 }
 
@@ -156,21 +157,21 @@ pub fn perform<S: Side>(h: &mut Hall, act: &Act) -> Reply {
     match act {
         Act::Nothing => ACCEPTED,
         Act::Open(k) => S::open(h, *k),
-        Act::Begin(kind, desk, asked) => S::begin(h, *kind, *desk, asked.words()),
-        Act::Step(desk) => S::step(h, *desk),
-        Act::Abandon(desk) => S::abandon(h, *desk),
+        Act::Begin(kind, client, asked) => S::begin(h, *kind, *client, asked.words()),
+        Act::Step(client) => S::step(h, *client),
+        Act::Abandon(client) => S::abandon(h, *client),
         Act::EvictAnswer(place) => S::evict_answer(h, *place),
         Act::EvictNode(place) => S::evict_node(h, *place),
         Act::Renew => S::renew(h),
-        Act::Whole(kind, desk, asked) => whole::<S>(h, *kind, *desk, asked),
+        Act::Whole(kind, client, asked) => whole::<S>(h, *kind, *client, asked),
     }
 }
 
 /// A read or write from its begin to the step that ends it; the last reply.
-fn whole<S: Side>(h: &mut Hall, kind: Kind, desk: u32, asked: &Asked) -> Reply {
-    let mut reply = S::begin(h, kind, desk, asked.words());
+fn whole<S: Side>(h: &mut Hall, kind: Kind, client: u32, asked: &Asked) -> Reply {
+    let mut reply = S::begin(h, kind, client, asked.words());
     while reply == ACCEPTED {
-        reply = S::step(h, desk);
+        reply = S::step(h, client);
     }
     reply
 }

@@ -95,14 +95,14 @@ impl Prepared {
             changed(&hall.table, &left.table),
             changed(&hall.nodes, &left.nodes),
             changed(&hall.answers, &left.answers),
-            changed(&hall.desks, &left.desks),
+            changed(&hall.clients, &left.clients),
         ];
         Prepared { hall, act, changes }
     }
 
     pub fn restore(&mut self) {
         let h = &mut self.hall;
-        for (memory, changes) in [&mut h.table, &mut h.nodes, &mut h.answers, &mut h.desks].into_iter().zip(&self.changes) {
+        for (memory, changes) in [&mut h.table, &mut h.nodes, &mut h.answers, &mut h.clients].into_iter().zip(&self.changes) {
             changes.iter().for_each(|(at, was)| memory[*at..*at + was.len()].copy_from_slice(was));
         }
     }

@@ -23,31 +23,32 @@ impl Asked {
     }
 }
 
+/// A call. client: the desk, 0 to 11 or any other number.
 #[derive(Clone, Copy, PartialEq, Eq, Debug)]
 pub enum Call {
     Open {
         k: u32,
     },
     BeginRead {
-        desk: u32,
+        client: u32,
         asked: Asked,
     },
     BeginInsert {
-        desk: u32,
+        client: u32,
         asked: Asked,
     },
     BeginDelete {
-        desk: u32,
+        client: u32,
         asked: Asked,
     },
     /// the tray is another each time: its length, and the number that its contents are made from
     Step {
-        desk: u32,
+        client: u32,
         tray: u32,
         fill: u32,
     },
     Abandon {
-        desk: u32,
+        client: u32,
     },
     EvictAnswer {
         place: u32,
@@ -91,11 +92,11 @@ impl Call {
         let (m, tray) = hall.lend();
         match self {
             Call::Open { k } => side.open(m, *k),
-            Call::BeginRead { desk, asked } => side.begin_read(m, *desk, asked.words()),
-            Call::BeginInsert { desk, asked } => side.begin_insert(m, *desk, asked.words()),
-            Call::BeginDelete { desk, asked } => side.begin_delete(m, *desk, asked.words()),
-            Call::Step { desk, .. } => side.step(m, tray, *desk),
-            Call::Abandon { desk } => side.abandon(m, *desk),
+            Call::BeginRead { client, asked } => side.begin_read(m, *client, asked.words()),
+            Call::BeginInsert { client, asked } => side.begin_insert(m, *client, asked.words()),
+            Call::BeginDelete { client, asked } => side.begin_delete(m, *client, asked.words()),
+            Call::Step { client, .. } => side.step(m, tray, *client),
+            Call::Abandon { client } => side.abandon(m, *client),
             Call::EvictAnswer { place } => side.evict_answer(m, *place),
             Call::EvictNode { place } => side.evict_node(m, *place),
             Call::Renew => side.renew(m),
@@ -125,11 +126,11 @@ impl fmt::Display for Call {
         let name = self.kind().map_or("damage", |kind| KIND_NAMES[kind]);
         match self {
             Call::Open { k } => write!(f, "{name} k {k}"),
-            Call::BeginRead { desk, asked } | Call::BeginInsert { desk, asked } | Call::BeginDelete { desk, asked } => {
-                write!(f, "{name} desk {desk} {asked}")
+            Call::BeginRead { client, asked } | Call::BeginInsert { client, asked } | Call::BeginDelete { client, asked } => {
+                write!(f, "{name} desk {client} {asked}")
             }
-            Call::Step { desk, tray, .. } if *tray < 128 => write!(f, "{name} desk {desk}, tray of {tray}"),
-            Call::Step { desk, .. } | Call::Abandon { desk } => write!(f, "{name} desk {desk}"),
+            Call::Step { client, tray, .. } if *tray < 128 => write!(f, "{name} desk {client}, tray of {tray}"),
+            Call::Step { client, .. } | Call::Abandon { client } => write!(f, "{name} desk {client}"),
             Call::EvictAnswer { place } | Call::EvictNode { place } => write!(f, "{name} place {place}"),
             Call::Renew => write!(f, "{name}"),
             Call::Damage { memory, place, value } => {

@@ -10,26 +10,26 @@ use std::fmt;
 const READ_STEPS: u32 = 19;
 const WRITE_STEPS: u32 = 33;
 
-/// What is wrong after a call.
+/// What is wrong after a call. client: the desk.
 #[derive(Clone, Copy, PartialEq, Eq, Debug)]
 pub enum Complaint {
     /// the table memory does not hold the plain table
     Table,
     /// an answer that was its query's list at no moment of its read
-    Stale { desk: u32 },
+    Stale { client: u32 },
     /// a read or write that goes on past its last step
-    Endless { desk: u32 },
+    Endless { client: u32 },
     /// an ending of something that is not under way at the desk
-    Ending { desk: u32 },
+    Ending { client: u32 },
 }
 
 impl fmt::Display for Complaint {
     fn fmt(&self, f: &mut fmt::Formatter) -> fmt::Result {
         match self {
             Complaint::Table => write!(f, "the table memory does not hold the plain table"),
-            Complaint::Stale { desk } => write!(f, "desk {desk}: the answer was its query's list at no moment of the read (stale)"),
-            Complaint::Endless { desk } => write!(f, "desk {desk}: not ended with its last step"),
-            Complaint::Ending { desk } => write!(f, "desk {desk}: an ending of nothing that is under way there"),
+            Complaint::Stale { client } => write!(f, "desk {client}: the answer was its query's list at no moment of the read (stale)"),
+            Complaint::Endless { client } => write!(f, "desk {client}: not ended with its last step"),
+            Complaint::Ending { client } => write!(f, "desk {client}: an ending of nothing that is under way there"),
         }
     }
 }
@@ -78,53 +78,53 @@ impl Checker {
 
     fn feed(&mut self, call: &Call, reply: Reply, hall: &Hall) -> Option<Complaint> {
         match call {
-            Call::BeginRead { desk, asked } => self.begin(*desk, Kind::Read, *asked),
-            Call::BeginInsert { desk, asked } => self.begin(*desk, Kind::Insert, *asked),
-            Call::BeginDelete { desk, asked } => self.begin(*desk, Kind::Delete, *asked),
-            Call::Step { desk, .. } => return self.step(*desk, reply, hall.tray()),
-            Call::Abandon { desk } => self.notes[*desk as usize] = None,
+            Call::BeginRead { client, asked } => self.begin(*client, Kind::Read, *asked),
+            Call::BeginInsert { client, asked } => self.begin(*client, Kind::Insert, *asked),
+            Call::BeginDelete { client, asked } => self.begin(*client, Kind::Delete, *asked),
+            Call::Step { client, .. } => return self.step(*client, reply, hall.tray()),
+            Call::Abandon { client } => self.notes[*client as usize] = None,
             _ => {}
         }
         None
     }
 
-    fn begin(&mut self, desk: u32, kind: Kind, asked: Asked) {
+    fn begin(&mut self, client: u32, kind: Kind, asked: Asked) {
         let lists = if kind == Kind::Read { self.list(&asked).into_iter().collect() } else { Vec::new() };
-        self.notes[desk as usize] = Some(Note { kind, asked, steps: 0, ended: false, lists });
+        self.notes[client as usize] = Some(Note { kind, asked, steps: 0, ended: false, lists });
     }
 
-    fn step(&mut self, desk: u32, reply: Reply, tray: &[u32]) -> Option<Complaint> {
+    fn step(&mut self, client: u32, reply: Reply, tray: &[u32]) -> Option<Complaint> {
         let k = self.k;
-        let Some(note) = &mut self.notes[desk as usize] else {
-            return Some(Complaint::Ending { desk });
+        let Some(note) = &mut self.notes[client as usize] else {
+            return Some(Complaint::Ending { client });
         };
         note.steps += 1;
         let (kind, asked, steps) = (note.kind, note.asked, note.steps);
         if kind != Kind::Read && steps == (1 << k) + 1 {
             self.take_effect(kind, asked);
         }
-        self.ending(desk, reply, tray)
+        self.ending(client, reply, tray)
     }
 
-    fn ending(&mut self, desk: u32, reply: Reply, tray: &[u32]) -> Option<Complaint> {
+    fn ending(&mut self, client: u32, reply: Reply, tray: &[u32]) -> Option<Complaint> {
         let k = self.k;
-        let note = self.notes[desk as usize].as_mut()?;
+        let note = self.notes[client as usize].as_mut()?;
         let reads = note.kind == Kind::Read;
         let ends_read = matches!(reply.ending, 1 | 2) || reply.number == 12;
         let ends_write = matches!(reply.ending, 3 | 4) || reply.number == 13;
         if note.ended || ends_read && !reads || ends_write && reads {
-            return Some(Complaint::Ending { desk });
+            return Some(Complaint::Ending { client });
         }
         note.ended = ends_read || ends_write;
         if matches!(reply.ending, 1 | 2) {
             self.answers += 1;
             let held = tray.get(..reply.count as usize * k);
             if !held.is_some_and(|held| note.lists.iter().any(|list| list == held)) {
-                return Some(Complaint::Stale { desk });
+                return Some(Complaint::Stale { client });
             }
         }
         let last = if reads { READ_STEPS } else { WRITE_STEPS };
-        (note.steps >= last && !note.ended).then_some(Complaint::Endless { desk })
+        (note.steps >= last && !note.ended).then_some(Complaint::Endless { client })
     }
 
     fn take_effect(&mut self, kind: Kind, asked: Asked) {
@@ -153,12 +153,12 @@ impl Checker {
 
     /// The table has changed: a new moment for each read under way.
     fn note_lists(&mut self) {
-        for desk in 0..12 {
-            let Some(asked) = self.notes[desk].as_ref().filter(|n| n.kind == Kind::Read && !n.ended).map(|n| n.asked) else {
+        for client in 0..12 {
+            let Some(asked) = self.notes[client].as_ref().filter(|n| n.kind == Kind::Read && !n.ended).map(|n| n.asked) else {
                 continue;
             };
             let list = self.list(&asked);
-            if let (Some(note), Some(list)) = (&mut self.notes[desk], list) {
+            if let (Some(note), Some(list)) = (&mut self.notes[client], list) {
                 if note.lists.last() != Some(&list) {
                     note.lists.push(list);
                 }

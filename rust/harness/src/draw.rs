@@ -21,7 +21,7 @@ pub struct Mixing {
     evictions: u32,
     abandonings: u32,
     odd: u32,
-    /// a desk that runs on alone for so many calls
+    /// a client, the desk, that runs on alone for so many calls
     burst: (u32, u32),
     /// calls until every desk is led to its end; then calls in which that is tried
     before_drain: u32,
@@ -99,17 +99,17 @@ impl Mixing {
             return eviction(rng, hall);
         }
         if roll < self.evictions + self.abandonings {
-            return Call::Abandon { desk: rng.below(12) };
+            return Call::Abandon { client: rng.below(12) };
         }
-        let desk = self.desk(rng);
-        if hall.kind_at(desk) == IDLE {
-            self.begin(rng, hall, desk)
+        let client = self.client(rng);
+        if hall.kind_at(client) == IDLE {
+            self.begin(rng, hall, client)
         } else {
-            step(rng, desk)
+            step(rng, client)
         }
     }
 
-    fn desk(&mut self, rng: &mut Rng) -> u32 {
+    fn client(&mut self, rng: &mut Rng) -> u32 {
         if self.burst.1 > 0 {
             self.burst.1 -= 1;
         } else {
@@ -124,10 +124,10 @@ impl Mixing {
     /// Leads busy desks on; when none is left, renews or not, and goes on mixing.
     fn drain(&mut self, rng: &mut Rng, hall: &Hall) -> Call {
         let first = rng.below(12);
-        let busy = (0..12).map(|i| (first + i) % 12).find(|desk| hall.kind_at(*desk) != IDLE);
+        let busy = (0..12).map(|i| (first + i) % 12).find(|client| hall.kind_at(*client) != IDLE);
         self.draining -= 1;
         match busy {
-            Some(desk) if self.draining > 0 => step(rng, desk),
+            Some(client) if self.draining > 0 => step(rng, client),
             _ => {
                 self.draining = 0;
                 self.before_drain = 200 + rng.below(2000);
@@ -140,21 +140,21 @@ impl Mixing {
         }
     }
 
-    fn begin(&mut self, rng: &mut Rng, hall: &Hall, desk: u32) -> Call {
+    fn begin(&mut self, rng: &mut Rng, hall: &Hall, client: u32) -> Call {
         let [reads, inserts, deletes] = self.kinds;
         let roll = rng.below(reads + inserts + deletes);
         if roll < reads {
-            return Call::BeginRead { desk, asked: self.query(rng, hall, false) };
+            return Call::BeginRead { client, asked: self.query(rng, hall, false) };
         }
         let count = hall.get(0, COUNT);
         let inserting = if self.band > 0 { count < self.band || rng.chance(1, 2) } else { roll < reads + inserts };
         if inserting {
-            return Call::BeginInsert { desk, asked: self.query(rng, hall, true) };
+            return Call::BeginInsert { client, asked: self.query(rng, hall, true) };
         }
         if self.band > 0 {
-            return Call::BeginDelete { desk, asked: record_in(rng, hall, self.k) };
+            return Call::BeginDelete { client, asked: record_in(rng, hall, self.k) };
         }
-        Call::BeginDelete { desk, asked: self.query(rng, hall, false) }
+        Call::BeginDelete { client, asked: self.query(rng, hall, false) }
     }
 
     /// A query that a begin accepts; some of them take up a record that is in the table.
@@ -182,9 +182,9 @@ impl Mixing {
 }
 
 /// A step, mostly with a tray of the least length.
-pub fn step(rng: &mut Rng, desk: u32) -> Call {
+pub fn step(rng: &mut Rng, client: u32) -> Call {
     let tray = 128 + if rng.chance(1, 8) { rng.below(9) } else { 0 };
-    Call::Step { desk, tray, fill: rng.any() }
+    Call::Step { client, tray, fill: rng.any() }
 }
 
 /// A record of the table as a query that names every column; zeros where there is none.
@@ -215,7 +215,7 @@ fn eviction(rng: &mut Rng, hall: &Hall) -> Call {
     }
 }
 
-fn odd_desk(rng: &mut Rng) -> u32 {
+fn odd_client(rng: &mut Rng) -> u32 {
     match rng.below(4) {
         0 => rng.below(12),
         1 => 11,
@@ -243,15 +243,15 @@ fn odd_query(rng: &mut Rng, k: u32) -> Asked {
 
 /// A call that is turned down more often than not.
 pub fn odd_call(rng: &mut Rng, hall: &Hall, k: u32) -> Call {
-    let (desk, asked) = (odd_desk(rng), odd_query(rng, k));
+    let (client, asked) = (odd_client(rng), odd_query(rng, k));
     match rng.below(10) {
         0 => Call::Open { k: rng.pick(&[0, 5, 6, u32::MAX]) },
-        1 => Call::BeginRead { desk, asked },
-        2 => Call::BeginInsert { desk, asked },
-        3 => Call::BeginDelete { desk, asked },
-        4 => Call::Step { desk: rng.below(12), tray: rng.pick(&[0, 1, 127]), fill: rng.any() },
-        5 => step(rng, desk),
-        6 => Call::Abandon { desk },
+        1 => Call::BeginRead { client, asked },
+        2 => Call::BeginInsert { client, asked },
+        3 => Call::BeginDelete { client, asked },
+        4 => Call::Step { client: rng.below(12), tray: rng.pick(&[0, 1, 127]), fill: rng.any() },
+        5 => step(rng, client),
+        6 => Call::Abandon { client },
         7 => Call::EvictAnswer { place: rng.pick(&[hall.get(2, COUNT), 64, u32::MAX]) },
         8 => Call::EvictNode { place: rng.pick(&[hall.get(1, NODE_COUNT), 1024, u32::MAX]) },
         _ => Call::Renew,
@@ -265,17 +265,17 @@ pub fn any_call(rng: &mut Rng, hall: &Hall) -> Call {
     if rng.chance(1, 12) {
         return odd_call(rng, hall, k.clamp(1, 5));
     }
-    let (desk, values) = (rng.below(13), rng.pick(&[1, 3, 6]));
+    let (client, values) = (rng.below(13), rng.pick(&[1, 3, 6]));
     match rng.below(24) {
         0 => Call::Open { k: rng.below(6) },
-        1..4 => Call::BeginRead { desk, asked: plain_query(rng, k, values, 10) },
-        4..7 => Call::BeginInsert { desk, asked: plain_query(rng, k, values, 16) },
-        7..9 => Call::BeginDelete { desk, asked: plain_query(rng, k, values, 10) },
+        1..4 => Call::BeginRead { client, asked: plain_query(rng, k, values, 10) },
+        4..7 => Call::BeginInsert { client, asked: plain_query(rng, k, values, 16) },
+        7..9 => Call::BeginDelete { client, asked: plain_query(rng, k, values, 10) },
         9 => Call::EvictAnswer { place: place(rng, hall.get(2, COUNT)) },
         10 => Call::EvictNode { place: place(rng, hall.get(1, NODE_COUNT)) },
         11 => Call::Renew,
-        12..15 => Call::Abandon { desk },
-        _ => step(rng, desk),
+        12..15 => Call::Abandon { client },
+        _ => step(rng, client),
     }
 }
 

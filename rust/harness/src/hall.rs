@@ -3,10 +3,10 @@
 use crate::side::Lent;
 use twin::layout::*;
 
-pub const LEAST: [usize; 4] = [TABLE_LEAST, NODES_LEAST, ANSWERS_LEAST, DESKS_LEAST];
+pub const LEAST: [usize; 4] = [TABLE_LEAST, NODES_LEAST, ANSWERS_LEAST, CLIENTS_LEAST];
 pub const MEMORY_NAMES: [&str; 5] = ["table", "nodes", "answers", "desks", "tray"];
 
-/// The memories in their order: table, nodes, answers, desks, tray.
+/// The memories in their order: table, nodes, answers, clients (the desks), tray.
 #[derive(Clone, PartialEq)]
 pub struct Hall {
     pub memories: [Vec<u32>; 5],
@@ -15,13 +15,13 @@ pub struct Hall {
 impl Hall {
     /// All 0; the tray is made anew for each step.
     pub fn zeros(lengths: [usize; 4]) -> Hall {
-        let [table, nodes, answers, desks] = lengths.map(|n| vec![0; n]);
-        Hall { memories: [table, nodes, answers, desks, Vec::new()] }
+        let [table, nodes, answers, clients] = lengths.map(|n| vec![0; n]);
+        Hall { memories: [table, nodes, answers, clients, Vec::new()] }
     }
 
     pub fn lend(&mut self) -> (Lent<'_>, &mut [u32]) {
-        let [table, nodes, answers, desks, tray] = &mut self.memories;
-        (Lent { table, nodes, answers, desks }, tray)
+        let [table, nodes, answers, clients, tray] = &mut self.memories;
+        (Lent { table, nodes, answers, clients }, tray)
     }
 
     pub fn table(&self) -> &[u32] {
@@ -36,7 +36,7 @@ impl Hall {
         &self.memories[2]
     }
 
-    pub fn desks(&self) -> &[u32] {
+    pub fn clients(&self) -> &[u32] {
         &self.memories[3]
     }
 
@@ -53,12 +53,12 @@ impl Hall {
         self.get(3, COLUMNS)
     }
 
-    pub fn kind_at(&self, desk: u32) -> u32 {
-        self.desk_number(desk, DESK_KIND)
+    pub fn kind_at(&self, client: u32) -> u32 {
+        self.client_number(client, CLIENT_KIND)
     }
 
-    pub fn desk_number(&self, desk: u32, at: usize) -> u32 {
-        self.get(3, HEAD + desk as usize * DESK_WIDTH + at)
+    pub fn client_number(&self, client: u32, at: usize) -> u32 {
+        self.get(3, HEAD + client as usize * CLIENT_WIDTH + at)
     }
 
     /// How many numbers all memories have.
@@ -97,7 +97,7 @@ pub fn describe(memory: usize, place: usize, k: u32) -> String {
         (0, _) => format!("record {}, column {}", at / k.max(1) as usize, at % k.max(1) as usize),
         (1, _) => format!("node {}, {}", at / NODE_WIDTH, in_node(at % NODE_WIDTH)),
         (2, _) => format!("answer {}, {}", at / ENTRY_WIDTH, in_entry(at % ENTRY_WIDTH)),
-        _ => format!("desk {}, {}", at / DESK_WIDTH, in_desk(at % DESK_WIDTH)),
+        _ => format!("desk {}, {}", at / CLIENT_WIDTH, in_client(at % CLIENT_WIDTH)),
     }
 }
 
@@ -105,8 +105,8 @@ fn in_node(at: usize) -> String {
     match at {
         0 => "tags".to_string(),
         1..=4 => format!("value of column {}", at - 1),
-        NODE_MARKS => "marks".to_string(),
-        NODE_COUNTER => "counter".to_string(),
+        NODE_PENDING => "marks".to_string(),
+        NODE_REVISION => "counter".to_string(),
         _ => "kept number".to_string(),
     }
 }
@@ -122,13 +122,13 @@ fn in_entry(at: usize) -> String {
     }
 }
 
-fn in_desk(at: usize) -> String {
+fn in_client(at: usize) -> String {
     match at {
-        DESK_KIND => "kind".to_string(),
-        DESK_STEPS => "steps".to_string(),
-        DESK_SAW => "saw a mark".to_string(),
-        DESK_CHANGED => "changed".to_string(),
-        DESK_FULL => "full".to_string(),
-        _ => in_entry(at - DESK_ENTRY),
+        CLIENT_KIND => "kind".to_string(),
+        CLIENT_STEPS => "steps".to_string(),
+        CLIENT_SAW => "saw a mark".to_string(),
+        CLIENT_CHANGED => "changed".to_string(),
+        CLIENT_FULL => "full".to_string(),
+        _ => in_entry(at - CLIENT_ENTRY),
     }
 }

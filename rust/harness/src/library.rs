@@ -6,7 +6,7 @@ use mondzafeky::Memories;
 pub struct Library;
 
 fn over(m: Lent<'_>) -> Memories<'_> {
-    Memories { table: m.table, nodes: m.nodes, answers: m.answers, desks: m.desks }
+    Memories { table: m.table, nodes: m.nodes, answers: m.answers, clients: m.clients }
 }
 
 fn plain(reply: mondzafeky::Reply) -> Reply {
@@ -17,20 +17,20 @@ impl Side for Library {
     fn open(&self, m: Lent, k: u32) -> Reply {
         plain(over(m).open(k))
     }
-    fn begin_read(&self, m: Lent, desk: u32, query: &[u32]) -> Reply {
-        plain(over(m).begin_read(desk, query))
+    fn begin_read(&self, m: Lent, client: u32, query: &[u32]) -> Reply {
+        plain(over(m).begin_read(client, query))
     }
-    fn begin_insert(&self, m: Lent, desk: u32, query: &[u32]) -> Reply {
-        plain(over(m).begin_insert(desk, query))
+    fn begin_insert(&self, m: Lent, client: u32, query: &[u32]) -> Reply {
+        plain(over(m).begin_insert(client, query))
     }
-    fn begin_delete(&self, m: Lent, desk: u32, query: &[u32]) -> Reply {
-        plain(over(m).begin_delete(desk, query))
+    fn begin_delete(&self, m: Lent, client: u32, query: &[u32]) -> Reply {
+        plain(over(m).begin_delete(client, query))
     }
-    fn step(&self, m: Lent, tray: &mut [u32], desk: u32) -> Reply {
-        plain(over(m).step(tray, desk))
+    fn step(&self, m: Lent, tray: &mut [u32], client: u32) -> Reply {
+        plain(over(m).step(tray, client))
     }
-    fn abandon(&self, m: Lent, desk: u32) -> Reply {
-        plain(over(m).abandon(desk))
+    fn abandon(&self, m: Lent, client: u32) -> Reply {
+        plain(over(m).abandon(client))
     }
     fn evict_answer(&self, m: Lent, place: u32) -> Reply {
         plain(over(m).evict_answer(place))

@@ -196,8 +196,8 @@ impl<'a> Run<'a> {
         let start = match self.rng.below(8) {
             0 => start::noise(&mut self.rng),
             1 => start::sound_headers(&mut self.rng),
-            2 => start::idle_desks(&mut self.rng),
-            _ => start::plausible_desks(&mut self.rng),
+            2 => start::idle_clients(&mut self.rng),
+            _ => start::plausible_clients(&mut self.rng),
         };
         let mut made = Made::new(2, start);
         if self.rng.chance(1, 4) {
@@ -251,14 +251,14 @@ impl<'a> Run<'a> {
         let mut made = Made::new(4, start);
         let k = made.left.columns().clamp(1, 4);
         for step in 0..4 {
-            let (desk, fill) = (self.rng.below(12), self.rng.any());
-            self.make(&mut made, Call::Step { desk, tray: [0, 127, 128, 129][step], fill })?;
+            let (client, fill) = (self.rng.below(12), self.rng.any());
+            self.make(&mut made, Call::Step { client, tray: [0, 127, 128, 129][step], fill })?;
         }
-        let (desk, asked) = (self.rng.below(12), draw::plain_query(&mut self.rng, k, 4, 16));
-        self.make(&mut made, Call::BeginRead { desk, asked })?;
-        self.make(&mut made, Call::BeginInsert { desk, asked })?;
-        self.make(&mut made, Call::BeginDelete { desk, asked })?;
-        let rest = [Call::Abandon { desk }, Call::EvictAnswer { place: 0 }, Call::EvictNode { place: 0 }, Call::Renew, Call::Open { k }];
+        let (client, asked) = (self.rng.below(12), draw::plain_query(&mut self.rng, k, 4, 16));
+        self.make(&mut made, Call::BeginRead { client, asked })?;
+        self.make(&mut made, Call::BeginInsert { client, asked })?;
+        self.make(&mut made, Call::BeginDelete { client, asked })?;
+        let rest = [Call::Abandon { client }, Call::EvictAnswer { place: 0 }, Call::EvictNode { place: 0 }, Call::Renew, Call::Open { k }];
         self.make_all(&mut made, rest.to_vec())
     }
 }

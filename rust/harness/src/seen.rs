@@ -42,9 +42,9 @@ pub enum Before {
     Look { missing: bool, nodes: u32 },
     ReadTable { matches: usize },
     File { kept: u32 },
-    Mark { marks: Option<u32>, nodes: u32 },
+    Announce { pending: Option<u32>, nodes: u32 },
     Insert { records: u32 },
-    Raise { counter: Option<u32> },
+    Raise { revision: Option<u32> },
 }
 
 pub fn before(call: &Call, hall: &Hall) -> Before {
@@ -55,31 +55,33 @@ pub fn before(call: &Call, hall: &Hall) -> Before {
     }
     match call {
         Call::BeginInsert { .. } | Call::BeginDelete { .. } => {
-            let counters = twin::nodes::all(hall.nodes()).iter().map(|node| node[NODE_COUNTER]);
-            Before::WriteBegin { highest: counters.fold(hall.nodes()[FLOOR], u32::max) }
+            let revisions = twin::nodes::all(hall.nodes()).iter().map(|node| node[NODE_REVISION]);
+            Before::WriteBegin { highest: revisions.fold(hall.nodes()[FLOOR], u32::max) }
         }
-        Call::Step { desk, .. } if *desk < 12 => before_step(*desk, hall),
+        Call::Step { client, .. } if *client < 12 => before_step(*client, hall),
         _ => Before::Nothing,
     }
 }
 
-fn before_step(desk: u32, hall: &Hall) -> Before {
-    let own = &hall.desks()[HEAD + desk as usize * DESK_WIDTH..][..DESK_WIDTH];
-    let Some(query) = Query::kept(hall.columns() as usize, own[DESK_ENTRY..].first_chunk().unwrap()) else {
+fn before_step(client: u32, hall: &Hall) -> Before {
+    let own = &hall.clients()[HEAD + client as usize * CLIENT_WIDTH..][..CLIENT_WIDTH];
+    let Some(query) = Query::kept(hall.columns() as usize, own[CLIENT_ENTRY..].first_chunk().unwrap()) else {
         return Before::Nothing;
     };
-    let (kind, steps, nodes) = (own[DESK_KIND], own[DESK_STEPS], hall.nodes()[NODE_COUNT]);
+    let (kind, steps, nodes) = (own[CLIENT_KIND], own[CLIENT_STEPS], hall.nodes()[NODE_COUNT]);
     let node = |label| twin::nodes::find(hall.nodes(), &label).map(|place| twin::nodes::all(hall.nodes())[place]);
-    let (looks, marks) = (query.looks(), query.marks());
+    let (looks, announcements) = (query.looks(), query.announcements());
     match kind {
         READ if steps < looks => Before::Look { missing: node(query.read_label(steps)).is_none(), nodes },
         READ if steps == looks + 1 => Before::ReadTable { matches: matches(hall, &query) },
         READ if steps == looks + 2 => Before::File { kept: hall.answers()[COUNT] },
-        INSERT | DELETE if steps < marks => Before::Mark { marks: node(query.write_label::<PLAIN>(steps)).map(|n| n[NODE_MARKS]), nodes },
-        INSERT if steps == marks => Before::Insert { records: hall.table()[COUNT] },
-        INSERT | DELETE if steps > marks && steps <= 2 * marks => {
-            let node = node(query.write_label::<PLAIN>(steps - marks - 1));
-            Before::Raise { counter: node.filter(|n| n[NODE_MARKS] > 0).map(|n| n[NODE_COUNTER]) }
+        INSERT | DELETE if steps < announcements => {
+            Before::Announce { pending: node(query.write_label::<PLAIN>(steps)).map(|n| n[NODE_PENDING]), nodes }
+        }
+        INSERT if steps == announcements => Before::Insert { records: hall.table()[COUNT] },
+        INSERT | DELETE if steps > announcements && steps <= 2 * announcements => {
+            let node = node(query.write_label::<PLAIN>(steps - announcements - 1));
+            Before::Raise { revision: node.filter(|n| n[NODE_PENDING] > 0).map(|n| n[NODE_REVISION]) }
         }
         _ => Before::Nothing,
     }
@@ -98,28 +100,28 @@ pub fn limit_met(call: &Call, before: Before, reply: Reply, hall: &Hall) -> Opti
         (Before::ReadTable { matches: 32 }, 0) => Some(0),
         (Before::ReadTable { matches: 33 }, 12) => Some(1),
         (Before::Insert { records: 2047 }, 0) if hall.table()[COUNT] == 2048 => Some(2),
-        (Before::Insert { records: 2048 }, 0) => Some(if desk_of(call, hall, DESK_FULL) == 1 { 4 } else { 3 }),
+        (Before::Insert { records: 2048 }, 0) => Some(if client_of(call, hall, CLIENT_FULL) == 1 { 4 } else { 3 }),
         (Before::File { kept: 63 }, 0) if hall.answers()[COUNT] == 64 => Some(5),
         (Before::File { kept: 64 }, 0) => Some(6),
-        (Before::Look { missing: true, nodes } | Before::Mark { marks: None, nodes }, number) => match (nodes, number) {
+        (Before::Look { missing: true, nodes } | Before::Announce { pending: None, nodes }, number) => match (nodes, number) {
             (1023, 0) => Some(7),
             (1024, 0) => Some(8),
             (1024, 3) => Some(9),
             _ => None,
         },
-        (Before::Mark { marks: Some(11), .. }, 0) => Some(10),
-        (Before::Mark { marks: Some(12), .. }, 3) => Some(11),
+        (Before::Announce { pending: Some(11), .. }, 0) => Some(10),
+        (Before::Announce { pending: Some(12), .. }, 3) => Some(11),
         (Before::WriteBegin { highest: WORN }, 0) => Some(12),
         (Before::WriteBegin { highest }, 10) if highest == WORN + 1 => Some(13),
-        (Before::Raise { counter: Some(counter) }, 0) if counter == u32::MAX - 1 => Some(14),
-        (Before::Raise { counter: Some(u32::MAX) }, 3) => Some(15),
+        (Before::Raise { revision: Some(revision) }, 0) if revision == u32::MAX - 1 => Some(14),
+        (Before::Raise { revision: Some(u32::MAX) }, 3) => Some(15),
         _ => by_argument(call, accepted, reply.number),
     }
 }
 
-fn desk_of(call: &Call, hall: &Hall, at: usize) -> u32 {
+fn client_of(call: &Call, hall: &Hall, at: usize) -> u32 {
     match call {
-        Call::Step { desk, .. } => hall.desk_number(*desk, at),
+        Call::Step { client, .. } => hall.client_number(*client, at),
         _ => 0,
     }
 }
@@ -127,7 +129,7 @@ fn desk_of(call: &Call, hall: &Hall, at: usize) -> u32 {
 fn by_argument(call: &Call, accepted: bool, number: u32) -> Option<usize> {
     match call {
         Call::Step { tray: 127, .. } if number == 1 => Some(22),
-        Call::Step { desk, .. } | Call::BeginRead { desk, .. } | Call::Abandon { desk } => match (desk, number) {
+        Call::Step { client, .. } | Call::BeginRead { client, .. } | Call::Abandon { client } => match (client, number) {
             (11, 0) => Some(16),
             (12, 4) => Some(17),
             _ => None,

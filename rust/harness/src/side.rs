@@ -9,16 +9,17 @@ pub struct Lent<'a> {
     pub table: &'a mut [u32],
     pub nodes: &'a mut [u32],
     pub answers: &'a mut [u32],
-    pub desks: &'a mut [u32],
+    /// the desks
+    pub clients: &'a mut [u32],
 }
 
 pub trait Side {
     fn open(&self, m: Lent, k: u32) -> Reply;
-    fn begin_read(&self, m: Lent, desk: u32, query: &[u32]) -> Reply;
-    fn begin_insert(&self, m: Lent, desk: u32, query: &[u32]) -> Reply;
-    fn begin_delete(&self, m: Lent, desk: u32, query: &[u32]) -> Reply;
-    fn step(&self, m: Lent, tray: &mut [u32], desk: u32) -> Reply;
-    fn abandon(&self, m: Lent, desk: u32) -> Reply;
+    fn begin_read(&self, m: Lent, client: u32, query: &[u32]) -> Reply;
+    fn begin_insert(&self, m: Lent, client: u32, query: &[u32]) -> Reply;
+    fn begin_delete(&self, m: Lent, client: u32, query: &[u32]) -> Reply;
+    fn step(&self, m: Lent, tray: &mut [u32], client: u32) -> Reply;
+    fn abandon(&self, m: Lent, client: u32) -> Reply;
     fn evict_answer(&self, m: Lent, place: u32) -> Reply;
     fn evict_node(&self, m: Lent, place: u32) -> Reply;
     fn renew(&self, m: Lent) -> Reply;
@@ -29,7 +30,7 @@ pub struct Twin<const FAULT: u8>;
 
 impl<const FAULT: u8> Twin<FAULT> {
     fn over(m: Lent<'_>) -> Memories<'_, FAULT> {
-        Memories { table: m.table, nodes: m.nodes, answers: m.answers, desks: m.desks }
+        Memories { table: m.table, nodes: m.nodes, answers: m.answers, clients: m.clients }
     }
 }
 
@@ -37,20 +38,20 @@ impl<const FAULT: u8> Side for Twin<FAULT> {
     fn open(&self, m: Lent, k: u32) -> Reply {
         Self::over(m).open(k)
     }
-    fn begin_read(&self, m: Lent, desk: u32, query: &[u32]) -> Reply {
-        Self::over(m).begin_read(desk, query)
+    fn begin_read(&self, m: Lent, client: u32, query: &[u32]) -> Reply {
+        Self::over(m).begin_read(client, query)
     }
-    fn begin_insert(&self, m: Lent, desk: u32, query: &[u32]) -> Reply {
-        Self::over(m).begin_insert(desk, query)
+    fn begin_insert(&self, m: Lent, client: u32, query: &[u32]) -> Reply {
+        Self::over(m).begin_insert(client, query)
     }
-    fn begin_delete(&self, m: Lent, desk: u32, query: &[u32]) -> Reply {
-        Self::over(m).begin_delete(desk, query)
+    fn begin_delete(&self, m: Lent, client: u32, query: &[u32]) -> Reply {
+        Self::over(m).begin_delete(client, query)
     }
-    fn step(&self, m: Lent, tray: &mut [u32], desk: u32) -> Reply {
-        Self::over(m).step(tray, desk)
+    fn step(&self, m: Lent, tray: &mut [u32], client: u32) -> Reply {
+        Self::over(m).step(tray, client)
     }
-    fn abandon(&self, m: Lent, desk: u32) -> Reply {
-        Self::over(m).abandon(desk)
+    fn abandon(&self, m: Lent, client: u32) -> Reply {
+        Self::over(m).abandon(client)
     }
     fn evict_answer(&self, m: Lent, place: u32) -> Reply {
         Self::over(m).evict_answer(place)
@@ -70,7 +71,7 @@ pub const FAULTS: [(&str, Fault); 6] = [
     ("one-bit", Fault::OneBit),
     ("late-look", Fault::LateLook),
     ("stacked", Fault::Stacked),
-    ("no-marks", Fault::NoMarks),
+    ("no-marks", Fault::NoPending),
 ];
 
 pub fn fault_named(name: &str) -> Option<Fault> {
@@ -86,6 +87,6 @@ pub fn twin_with(fault: Fault) -> &'static dyn Side {
         Fault::OneBit => &Twin::<{ Fault::OneBit as u8 }>,
         Fault::LateLook => &Twin::<{ Fault::LateLook as u8 }>,
         Fault::Stacked => &Twin::<{ Fault::Stacked as u8 }>,
-        Fault::NoMarks => &Twin::<{ Fault::NoMarks as u8 }>,
+        Fault::NoPending => &Twin::<{ Fault::NoPending as u8 }>,
     }
 }

@@ -63,48 +63,48 @@ pub fn sound_headers(rng: &mut Rng) -> Hall {
     hall
 }
 
-/// Noise with sound headers in which every desk is idle, but for one number of one desk in some.
-pub fn idle_desks(rng: &mut Rng) -> Hall {
+/// Noise with sound headers in which every client (desk) is idle, but for one number of one client in some.
+pub fn idle_clients(rng: &mut Rng) -> Hall {
     let mut hall = sound_headers(rng);
-    hall.memories[3][HEAD..HEAD + DESKS * DESK_WIDTH].fill(0);
+    hall.memories[3][HEAD..HEAD + CLIENTS * CLIENT_WIDTH].fill(0);
     if rng.chance(1, 3) {
-        hall.memories[3][HEAD + rng.below((DESKS * DESK_WIDTH) as u32) as usize] = 1 + rng.below(3);
+        hall.memories[3][HEAD + rng.below((CLIENTS * CLIENT_WIDTH) as u32) as usize] = 1 + rng.below(3);
     }
     hall
 }
 
-/// Noise with sound headers in which each desk is idle or in the midst of a read or a write, with what it needs around it.
-pub fn plausible_desks(rng: &mut Rng) -> Hall {
+/// Noise with sound headers in which each client is idle or in the midst of a read or a write, with what it needs around it.
+pub fn plausible_clients(rng: &mut Rng) -> Hall {
     let mut hall = sound_headers(rng);
-    for desk in 0..12 {
+    for client in 0..12 {
         if rng.chance(2, 3) {
-            seat(rng, &mut hall, desk);
+            seat(rng, &mut hall, client);
         } else {
-            hall.memories[3][HEAD + desk * DESK_WIDTH..][..DESK_WIDTH].fill(0);
+            hall.memories[3][HEAD + client * CLIENT_WIDTH..][..CLIENT_WIDTH].fill(0);
         }
     }
     hall
 }
 
-/// A desk in the midst of a read or a write. Its other numbers stay as they are.
-fn seat(rng: &mut Rng, hall: &mut Hall, desk: usize) {
+/// A client in the midst of a read or a write. Its other numbers stay as they are.
+fn seat(rng: &mut Rng, hall: &mut Hall, client: usize) {
     let k = hall.columns();
     let kind = 1 + rng.below(3);
     let asked = plain_query(rng, k, 3, if kind == INSERT { 16 } else { 10 });
     let query = Query::arrived(k as usize, asked.words());
-    let last = if kind == READ { query.looks() + 3 } else { 2 * query.marks() + 1 };
+    let last = if kind == READ { query.looks() + 3 } else { 2 * query.announcements() + 1 };
     let steps = if rng.chance(1, 3) { last - 1 - rng.below(last.min(3)) } else { rng.below(last) };
-    let place = HEAD + desk * DESK_WIDTH;
-    let own = &mut hall.memories[3][place..place + DESK_WIDTH];
-    own[DESK_KIND] = kind;
-    own[DESK_STEPS] = steps;
-    for flag in [DESK_SAW, DESK_CHANGED, DESK_FULL] {
+    let place = HEAD + client * CLIENT_WIDTH;
+    let own = &mut hall.memories[3][place..place + CLIENT_WIDTH];
+    own[CLIENT_KIND] = kind;
+    own[CLIENT_STEPS] = steps;
+    for flag in [CLIENT_SAW, CLIENT_CHANGED, CLIENT_FULL] {
         own[flag] = rng.pick(&[0, 0, 0, 1, 2]);
     }
-    own[DESK_ENTRY..DESK_ENTRY + KEY_WIDTH].copy_from_slice(&query.key());
-    own[DESK_ENTRY + ENTRY_LENGTH] = rng.below(33);
+    own[CLIENT_ENTRY..CLIENT_ENTRY + KEY_WIDTH].copy_from_slice(&query.key());
+    own[CLIENT_ENTRY + ENTRY_LENGTH] = rng.below(33);
     if rng.chance(1, 8) {
-        spoil(rng, &mut hall.memories[3][place..place + DESK_WIDTH], last);
+        spoil(rng, &mut hall.memories[3][place..place + CLIENT_WIDTH], last);
     } else if kind == READ {
         seat_read(rng, hall, place, &query);
     } else {
@@ -115,12 +115,12 @@ fn seat(rng: &mut Rng, hall: &mut Hall, desk: usize) {
 /// One number of a desk just out of range: kind, step, list length, or one of the key.
 fn spoil(rng: &mut Rng, own: &mut [u32], last: u32) {
     let (place, value) = match rng.below(6) {
-        0 => (DESK_KIND, rng.pick(&[0, 4])),
-        1 => (DESK_STEPS, last),
-        2 => (DESK_ENTRY + ENTRY_LENGTH, 33),
-        3 => (DESK_ENTRY, own[DESK_ENTRY] ^ 1 << rng.below(6)),
-        4 => (DESK_ENTRY + 1 + rng.below(4) as usize, 1 + rng.below(3)),
-        _ => (DESK_ENTRY + 5 + rng.below(2) as usize, 1),
+        0 => (CLIENT_KIND, rng.pick(&[0, 4])),
+        1 => (CLIENT_STEPS, last),
+        2 => (CLIENT_ENTRY + ENTRY_LENGTH, 33),
+        3 => (CLIENT_ENTRY, own[CLIENT_ENTRY] ^ 1 << rng.below(6)),
+        4 => (CLIENT_ENTRY + 1 + rng.below(4) as usize, 1 + rng.below(3)),
+        _ => (CLIENT_ENTRY + 5 + rng.below(2) as usize, 1),
     };
     own[place] = value;
 }
@@ -131,7 +131,7 @@ fn seat_read(rng: &mut Rng, hall: &mut Hall, place: usize, query: &Query) {
     if count == 0 {
         return;
     }
-    let noted: Vec<u32> = hall.memories[3][place + DESK_ENTRY + ENTRY_REVISIONS..][..16].to_vec();
+    let noted: Vec<u32> = hall.memories[3][place + CLIENT_ENTRY + ENTRY_REVISIONS..][..16].to_vec();
     for _ in 0..rng.below(4) {
         let entry = &mut hall.memories[2][HEAD + rng.below(count) as usize * ENTRY_WIDTH..][..ENTRY_WIDTH];
         entry[..KEY_WIDTH].copy_from_slice(&query.key());
@@ -145,11 +145,11 @@ fn seat_read(rng: &mut Rng, hall: &mut Hall, place: usize, query: &Query) {
     }
 }
 
-/// The nodes that a write has marked and not raised are there, marked.
+/// The nodes that a write has announced itself at and not raised are there, marked.
 fn seat_write(rng: &mut Rng, hall: &mut Hall, query: &Query, steps: u32) {
-    let marks = query.marks();
-    let first = steps.saturating_sub(marks + 1);
-    for number in first..steps.min(marks).max(first + 1).min(marks) {
+    let announcements = query.announcements();
+    let first = steps.saturating_sub(announcements + 1);
+    for number in first..steps.min(announcements).max(first + 1).min(announcements) {
         if rng.chance(15, 16) {
             put_node(rng, hall, &query.write_label::<PLAIN>(number));
         }
@@ -168,9 +168,9 @@ fn put_node(rng: &mut Rng, hall: &mut Hall, label: &Label) {
     let node = &mut nodes[HEAD + place * NODE_WIDTH..][..NODE_WIDTH];
     if found.is_none() {
         node[..LABEL_WIDTH].copy_from_slice(label);
-        node[NODE_MARKS] = 0;
+        node[NODE_PENDING] = 0;
     }
-    node[NODE_MARKS] = node[NODE_MARKS].saturating_add(1);
+    node[NODE_PENDING] = node[NODE_PENDING].saturating_add(1);
     if rng.chance(1, 12) {
         // a second node with this label
         let again = HEAD + rng.below(count) as usize * NODE_WIDTH;
@@ -187,17 +187,17 @@ pub fn near_limits(rng: &mut Rng) -> Hall {
     fill_nodes(rng, &mut hall);
     fill_answers(rng, &mut hall);
     if rng.chance(2, 3) {
-        for desk in 0..rng.below(12) as usize {
-            seat(rng, &mut hall, desk);
+        for client in 0..rng.below(12) as usize {
+            seat(rng, &mut hall, client);
         }
     }
-    set_counters(rng, &mut hall);
+    set_revisions(rng, &mut hall);
     if hall.get(1, NODE_COUNT) > 0 && rng.chance(1, 2) {
         // every write comes to the node of all stars, or to one of its neighbours
-        let stars = Query::arrived(hall.columns() as usize, &[0; 8][..2 * hall.columns() as usize]).read_label(0);
-        put_node(rng, &mut hall, &stars);
-        let place = twin::nodes::find(hall.nodes(), &stars).unwrap();
-        hall.memories[1][HEAD + place * NODE_WIDTH + NODE_MARKS] = 9 + rng.below(5);
+        let wildcards = Query::arrived(hall.columns() as usize, &[0; 8][..2 * hall.columns() as usize]).read_label(0);
+        put_node(rng, &mut hall, &wildcards);
+        let place = twin::nodes::find(hall.nodes(), &wildcards).unwrap();
+        hall.memories[1][HEAD + place * NODE_WIDTH + NODE_PENDING] = 9 + rng.below(5);
     }
     hall
 }
@@ -219,17 +219,17 @@ fn fill_table(rng: &mut Rng, hall: &mut Hall) {
     }
 }
 
-/// Nodes whose labels differ, unmarked, marked or both.
+/// Nodes whose labels differ, free of pending writes, or with one, or both.
 fn fill_nodes(rng: &mut Rng, hall: &mut Hall) {
     let count = rng.pick(&[0, 3, 40, 1008, 1022, 1023, 1024]);
-    let unmarked = rng.pick(&[0, 1, 8, 16]);
+    let free = rng.pick(&[0, 1, 8, 16]);
     hall.memories[1][NODE_COUNT] = count;
     for i in 0..count {
         let node = &mut hall.memories[1][HEAD + i as usize * NODE_WIDTH..][..NODE_WIDTH];
         node[0] = TAG_VALUE;
         node[1] = 100_000 + i;
-        node[NODE_MARKS] = (rng.below(16) >= unmarked) as u32;
-        node[NODE_COUNTER] = 1 + rng.below(9);
+        node[NODE_PENDING] = (rng.below(16) >= free) as u32;
+        node[NODE_REVISION] = 1 + rng.below(9);
     }
 }
 
@@ -247,8 +247,8 @@ fn fill_answers(rng: &mut Rng, hall: &mut Hall) {
     }
 }
 
-/// The floor and some counters near 4,294,967,103 or near the largest number.
-fn set_counters(rng: &mut Rng, hall: &mut Hall) {
+/// The floor and some revisions (counters) near 4,294,967,103 or near the largest number.
+fn set_revisions(rng: &mut Rng, hall: &mut Hall) {
     let near = rng.pick(&[1, 1, WORN - 1, u32::MAX - 3]);
     if near == 1 {
         return;
@@ -258,11 +258,11 @@ fn set_counters(rng: &mut Rng, hall: &mut Hall) {
     }
     for i in 0..hall.get(1, NODE_COUNT) as usize {
         if rng.chance(1, 2) {
-            hall.memories[1][HEAD + i * NODE_WIDTH + NODE_COUNTER] = near + rng.below(if near == WORN - 1 { 2 } else { 4 });
+            hall.memories[1][HEAD + i * NODE_WIDTH + NODE_REVISION] = near + rng.below(if near == WORN - 1 { 2 } else { 4 });
         }
     }
     if near == WORN - 1 && rng.chance(1, 2) && hall.get(1, NODE_COUNT) > 0 {
-        hall.memories[1][HEAD + NODE_COUNTER] = WORN + rng.below(2);
+        hall.memories[1][HEAD + NODE_REVISION] = WORN + rng.below(2);
     }
 }
 
@@ -273,7 +273,7 @@ pub fn damage(rng: &mut Rng, hall: &Hall) -> Call {
         0 => hall.get(0, COUNT).min(RECORDS as u32) * hall.columns().min(4),
         1 => hall.get(1, NODE_COUNT).min(NODES as u32) * NODE_WIDTH as u32,
         2 => hall.get(2, COUNT).min(ANSWERS as u32) * ENTRY_WIDTH as u32,
-        _ => (DESKS * DESK_WIDTH) as u32,
+        _ => (CLIENTS * CLIENT_WIDTH) as u32,
     };
     let place = match rng.below(10) {
         0 => rng.below(HEAD as u32),
@@ -295,7 +295,7 @@ pub fn damage(rng: &mut Rng, hall: &Hall) -> Call {
 /// A place in use; of a desk mostly one of the numbers that are not its list.
 fn damaged_entry(rng: &mut Rng, memory: usize, used: u32) -> u32 {
     if memory == 3 && rng.chance(3, 4) {
-        return rng.below(DESKS as u32) * DESK_WIDTH as u32 + rng.below((DESK_ENTRY + ENTRY_LIST) as u32);
+        return rng.below(CLIENTS as u32) * CLIENT_WIDTH as u32 + rng.below((CLIENT_ENTRY + ENTRY_LIST) as u32);
     }
     rng.below(used)
 }

@@ -26,7 +26,7 @@ macro_rules! call {
             #[allow(clippy::too_many_arguments)]
             fn $export(
                 table: *mut u32, table_len: usize, nodes: *mut u32, nodes_len: usize,
-                answers: *mut u32, answers_len: usize, desks: *mut u32, desks_len: usize,
+                answers: *mut u32, answers_len: usize, clients: *mut u32, clients_len: usize,
                 $($lent: *mut u32, lent_len: usize,)? $($n: u32,)? $($query: *const u32, query_len: usize,)?
             ) -> Reply;
         }
@@ -37,7 +37,7 @@ macro_rules! call {
             unsafe {
                 $export(
                     m.table.as_mut_ptr(), m.table.len(), m.nodes.as_mut_ptr(), m.nodes.len(),
-                    m.answers.as_mut_ptr(), m.answers.len(), m.desks.as_mut_ptr(), m.desks.len(),
+                    m.answers.as_mut_ptr(), m.answers.len(), m.clients.as_mut_ptr(), m.clients.len(),
                     $($lent.as_mut_ptr(), $lent.len(),)? $($n,)? $($query.as_ptr(), $query.len(),)?
                 )
             }
@@ -46,11 +46,11 @@ macro_rules! call {
 }
 
 call!(mondzafeky_open, open, num k);
-call!(mondzafeky_begin_read, begin_read, num desk, read query);
-call!(mondzafeky_begin_insert, begin_insert, num desk, read query);
-call!(mondzafeky_begin_delete, begin_delete, num desk, read query);
-call!(mondzafeky_step, step, mut tray, num desk);
-call!(mondzafeky_abandon, abandon, num desk);
+call!(mondzafeky_begin_read, begin_read, num client, read query);
+call!(mondzafeky_begin_insert, begin_insert, num client, read query);
+call!(mondzafeky_begin_delete, begin_delete, num client, read query);
+call!(mondzafeky_step, step, mut tray, num client);
+call!(mondzafeky_abandon, abandon, num client);
 call!(mondzafeky_evict_answer, evict_answer, num place);
 call!(mondzafeky_evict_node, evict_node, num place);
 call!(mondzafeky_renew, renew);

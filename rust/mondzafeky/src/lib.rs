@@ -1,16 +1,16 @@
 //! Cached query answers that are never stale: safe calls over the proved library.
 //!
-//! One table of records of one to four columns, filed answers, and revision nodes that tell which answers still hold. Twelve desks each have at
-//! most one read or write under way and move it by single steps, mixed in every order. docs/CALLS.md has the calls, docs/LAYOUT.md what stands
-//! where in the memories.
+//! One table of records of one to four columns, filed answers, and revision nodes that tell which answers still hold. Twelve clients (the
+//! desks of the documents) each have at most one read or write under way and move it by single steps, mixed in every order. docs/CALLS.md has
+//! the calls, docs/LAYOUT.md what stands where in the memories.
 //!
 //! Every function takes memories of any length and contents and any arguments, and ends. What a call does to every number of every memory is
 //! proved in the library; this crate only hands the slices over. It allocates nothing.
 //!
 //! ```
 //! let (mut table, mut nodes) = ([0; mondzafeky::TABLE_LEAST], [0; mondzafeky::NODES_LEAST]);
-//! let (mut answers, mut desks) = ([0; mondzafeky::ANSWERS_LEAST], [0; mondzafeky::DESKS_LEAST]);
-//! let mut hall = mondzafeky::Memories { table: &mut table, nodes: &mut nodes, answers: &mut answers, desks: &mut desks };
+//! let (mut answers, mut clients) = ([0; mondzafeky::ANSWERS_LEAST], [0; mondzafeky::CLIENTS_LEAST]);
+//! let mut hall = mondzafeky::Memories { table: &mut table, nodes: &mut nodes, answers: &mut answers, clients: &mut clients };
 //! assert_eq!(hall.open(1).number, mondzafeky::number::ACCEPTED);
 //! assert_eq!(hall.begin_read(0, &[1, 5]).number, mondzafeky::number::ACCEPTED);
 //! let mut tray = [0; mondzafeky::TRAY_LEAST];
@@ -30,12 +30,12 @@ pub const TABLE_LEAST: usize = 8_200;
 pub const NODES_LEAST: usize = 8_200;
 /// The least length of the answers memory.
 pub const ANSWERS_LEAST: usize = 10_000;
-/// The least length of the desks memory.
-pub const DESKS_LEAST: usize = 2_000;
+/// The least length of the clients memory, in which the desks lie.
+pub const CLIENTS_LEAST: usize = 2_000;
 /// The least length of a tray.
 pub const TRAY_LEAST: usize = 128;
-/// How many desks there are: 0 to 11.
-pub const DESKS: u32 = 12;
+/// How many clients, or desks, there are: 0 to 11.
+pub const CLIENTS: u32 = 12;
 /// The most records that a read lists.
 pub const LIST: u32 = 32;
 
@@ -49,8 +49,8 @@ pub mod number {
     pub const COLUMNS: u32 = 2;
     /// The memories hold what no call leaves there.
     pub const UNSOUND: u32 = 3;
-    /// The desk is above 11.
-    pub const NO_DESK: u32 = 4;
+    /// The client, the desk, is above 11.
+    pub const NO_CLIENT: u32 = 4;
     /// A begin at a busy desk.
     pub const TAKEN: u32 = 5;
     /// A step or an abandoning at an idle desk.
@@ -59,8 +59,8 @@ pub mod number {
     pub const COMMITTED: u32 = 7;
     /// No answer or node at that place.
     pub const NO_ENTRY: u32 = 8;
-    /// A write is pending at that node.
-    pub const MARKED: u32 = 9;
+    /// A write is pending at that node: it is marked.
+    pub const PENDING: u32 = 9;
     /// A write begins while the floor or a counter is too high: renew.
     pub const WORN: u32 = 10;
     /// A renewal with a busy desk.
@@ -95,8 +95,8 @@ pub struct Memories<'a> {
     pub nodes: &'a mut [u32],
     /// The filed answers.
     pub answers: &'a mut [u32],
-    /// The number of columns, and what is under way at each desk.
-    pub desks: &'a mut [u32],
+    /// The number of columns, and what is under way at each client, the desk of the documents.
+    pub clients: &'a mut [u32],
 }
 
 impl Memories<'_> {
@@ -105,30 +105,31 @@ impl Memories<'_> {
         calls::open(self, k)
     }
 
-    /// Begins a read. `query` has for each column a mark and a value: mark 1 names the value, mark 0 is a star and its value is 0. Refusals: 1 to 5.
-    pub fn begin_read(&mut self, desk: u32, query: &[u32]) -> Reply {
-        calls::begin_read(self, desk, query)
+    /// Begins a read at `client`, the desk, 0 to 11. `query` has for each column a mark and a value: mark 1 names the value, mark 0 is a star and
+    /// its value is 0. Refusals: 1 to 5.
+    pub fn begin_read(&mut self, client: u32, query: &[u32]) -> Reply {
+        calls::begin_read(self, client, query)
     }
 
     /// Begins an insert of the record that `query` names, a value in every column. Refusals: 1 to 5, 10.
-    pub fn begin_insert(&mut self, desk: u32, query: &[u32]) -> Reply {
-        calls::begin_insert(self, desk, query)
+    pub fn begin_insert(&mut self, client: u32, query: &[u32]) -> Reply {
+        calls::begin_insert(self, client, query)
     }
 
     /// Begins a delete of every record that `query` matches. Refusals: 1 to 5, 10.
-    pub fn begin_delete(&mut self, desk: u32, query: &[u32]) -> Reply {
-        calls::begin_delete(self, desk, query)
+    pub fn begin_delete(&mut self, client: u32, query: &[u32]) -> Reply {
+        calls::begin_delete(self, client, query)
     }
 
-    /// One step of what is under way at the desk. An answer writes `count` records of k numbers each from the tray's start, and nothing else of
-    /// it. Refusals: 1 (the tray too), 3, 4, 6; ends a read with 12, an insert with 13.
-    pub fn step(&mut self, tray: &mut [u32], desk: u32) -> Reply {
-        calls::step(self, tray, desk)
+    /// One step of what is under way at `client`, the desk. An answer writes `count` records of k numbers each from the tray's start, and nothing
+    /// else of it. Refusals: 1 (the tray too), 3, 4, 6; ends a read with 12, an insert with 13.
+    pub fn step(&mut self, tray: &mut [u32], client: u32) -> Reply {
+        calls::step(self, tray, client)
     }
 
     /// Gives up a read, or a write before its table step. Refusals: 1, 3, 4, 6, 7.
-    pub fn abandon(&mut self, desk: u32) -> Reply {
-        calls::abandon(self, desk)
+    pub fn abandon(&mut self, client: u32) -> Reply {
+        calls::abandon(self, client)
     }
 
     /// Puts out the filed answer at `place`, 0 the oldest. Refusals: 1, 3, 8.
@@ -148,9 +149,9 @@ impl Memories<'_> {
 
     /// Steps a desk until its read or write has ended, or a step is refused: at most 33 steps on memories that a history of calls left. The last
     /// step's reply.
-    pub fn run(&mut self, tray: &mut [u32], desk: u32) -> Reply {
+    pub fn run(&mut self, tray: &mut [u32], client: u32) -> Reply {
         loop {
-            let reply = self.step(tray, desk);
+            let reply = self.step(tray, client);
             if reply.number != number::ACCEPTED || reply.ending != ending::NONE {
                 return reply;
             }

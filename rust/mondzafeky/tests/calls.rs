@@ -1,17 +1,17 @@
 //! The safe calls: short memories and senseless arguments are refused and alter nothing; a whole read and a whole write.
-use mondzafeky::{ending, number, Memories, Reply, ANSWERS_LEAST, DESKS_LEAST, NODES_LEAST, TABLE_LEAST, TRAY_LEAST};
+use mondzafeky::{ending, number, Memories, Reply, ANSWERS_LEAST, CLIENTS_LEAST, NODES_LEAST, TABLE_LEAST, TRAY_LEAST};
 
 struct Owned {
     table: Vec<u32>,
     nodes: Vec<u32>,
     answers: Vec<u32>,
-    desks: Vec<u32>,
+    clients: Vec<u32>,
 }
 
 impl Owned {
     fn of(lengths: [usize; 4], fill: u32) -> Owned {
-        let [table, nodes, answers, desks] = lengths.map(|n| vec![fill; n]);
-        Owned { table, nodes, answers, desks }
+        let [table, nodes, answers, clients] = lengths.map(|n| vec![fill; n]);
+        Owned { table, nodes, answers, clients }
     }
 
     fn opened(k: u32) -> Owned {
@@ -21,15 +21,15 @@ impl Owned {
     }
 
     fn lent(&mut self) -> Memories<'_> {
-        Memories { table: &mut self.table, nodes: &mut self.nodes, answers: &mut self.answers, desks: &mut self.desks }
+        Memories { table: &mut self.table, nodes: &mut self.nodes, answers: &mut self.answers, clients: &mut self.clients }
     }
 
     fn all(&self) -> [Vec<u32>; 4] {
-        [self.table.clone(), self.nodes.clone(), self.answers.clone(), self.desks.clone()]
+        [self.table.clone(), self.nodes.clone(), self.answers.clone(), self.clients.clone()]
     }
 }
 
-const LEAST: [usize; 4] = [TABLE_LEAST, NODES_LEAST, ANSWERS_LEAST, DESKS_LEAST];
+const LEAST: [usize; 4] = [TABLE_LEAST, NODES_LEAST, ANSWERS_LEAST, CLIENTS_LEAST];
 
 fn accepted() -> Reply {
     Reply { number: 0, count: 0, ending: 0 }
@@ -107,8 +107,8 @@ fn memories_of_any_contents_are_taken() {
             let mut tray = vec![fill; TRAY_LEAST + extra];
             for n in [1, 0, 11, 12, u32::MAX] {
                 let mut m = owned.lent();
-                m.desks.fill(fill);
-                m.desks[0] = 2;
+                m.clients.fill(fill);
+                m.clients[0] = 2;
                 every_call(&mut m, &mut tray, &[1, fill, 1, fill], n);
             }
             assert!(owned.all().iter().zip(LEAST).all(|(s, n)| s[n..].iter().all(|&x| x == fill)), "past the least length");
@@ -123,7 +123,7 @@ fn the_refusals_that_a_caller_can_meet() {
     let mut m = owned.lent();
     assert_eq!(m.open(0), refused(number::COLUMNS));
     assert_eq!(m.open(5), refused(number::COLUMNS));
-    assert_eq!(m.begin_read(12, &[1, 5]), refused(number::NO_DESK));
+    assert_eq!(m.begin_read(12, &[1, 5]), refused(number::NO_CLIENT));
     assert_eq!(m.step(&mut tray, 0), refused(number::IDLE));
     assert_eq!(m.abandon(0), refused(number::IDLE));
     assert_eq!(m.evict_answer(0), refused(number::NO_ENTRY));
@@ -132,13 +132,13 @@ fn the_refusals_that_a_caller_can_meet() {
     assert_eq!(m.begin_read(3, &[1, 5]), refused(number::TAKEN));
     assert_eq!(m.renew(), refused(number::OCCUPIED));
     assert_eq!(m.step(&mut tray, 3), accepted());
-    assert_eq!(m.evict_node(0), refused(number::MARKED));
+    assert_eq!(m.evict_node(0), refused(number::PENDING));
     assert_eq!(m.step(&mut tray, 3), accepted());
     assert_eq!(m.step(&mut tray, 3), accepted());
     assert_eq!(m.abandon(3), refused(number::COMMITTED));
     m.nodes[0] = 4_294_967_104;
     assert_eq!(m.begin_insert(0, &[1, 6]), refused(number::WORN));
-    m.desks[0] = 5;
+    m.clients[0] = 5;
     assert_eq!(m.renew(), refused(number::UNSOUND));
 }
 

@@ -1,4 +1,4 @@
-//! The answers memory: fetch, file, put out (document 01, "One desk, step by step"). Leans on layout.
+//! The answers memory: fetch, file, evict (put out) (document 01, "One desk, step by step"). Leans on layout.
 //! The count in memory is known to be at most 64 and the memory to be long enough: refusals come first.
 
 use crate::layout::*;
@@ -21,8 +21,8 @@ pub fn fetch<'a>(answers: &'a [u32], own: &Entry, looks: usize) -> Option<&'a En
     all(answers).iter().find(holds)
 }
 
-/// The answer at a place is removed and the rest close up.
-pub fn put_out(answers: &mut [u32], place: usize) {
+/// An answer is put out: the one at a place is removed and the rest close up.
+pub fn evict(answers: &mut [u32], place: usize) {
     let last = answers[COUNT] as usize - 1;
     answers.copy_within(HEAD + (place + 1) * ENTRY_WIDTH..HEAD + (last + 1) * ENTRY_WIDTH, HEAD + place * ENTRY_WIDTH);
     answers[HEAD + last * ENTRY_WIDTH..HEAD + (last + 1) * ENTRY_WIDTH].fill(0);
@@ -32,9 +32,9 @@ pub fn put_out(answers: &mut [u32], place: usize) {
 /// The answer to the same query is taken out; failing that, if 64 are kept, the oldest is; this one goes last.
 pub fn file(answers: &mut [u32], own: &Entry) {
     if let Some(place) = all(answers).iter().position(|entry| has_key_of(entry, own)) {
-        put_out(answers, place);
+        evict(answers, place);
     } else if answers[COUNT] as usize == ANSWERS {
-        put_out(answers, 0);
+        evict(answers, 0);
     }
     let place = HEAD + answers[COUNT] as usize * ENTRY_WIDTH;
     answers[place..place + ENTRY_WIDTH].copy_from_slice(own);

@@ -28,8 +28,8 @@ pub enum Fault {
     LateLook,
     /// a write's changed value becomes a star and that star a ?
     Stacked,
-    /// looks see no marks
-    NoMarks,
+    /// looks see no pending writes, the marks
+    NoPending,
 }
 
 /// The number for a plain twin, to be given as `Memories<'_, PLAIN>` where it is not the default.
@@ -66,7 +66,8 @@ pub struct Memories<'a, const FAULT: u8 = PLAIN> {
     pub table: &'a mut [u32],
     pub nodes: &'a mut [u32],
     pub answers: &'a mut [u32],
-    pub desks: &'a mut [u32],
+    /// the desks
+    pub clients: &'a mut [u32],
 }
 
 impl<const FAULT: u8> Memories<'_, FAULT> {
@@ -80,64 +81,64 @@ impl<const FAULT: u8> Memories<'_, FAULT> {
         self.table[..TABLE_LEAST].fill(0);
         self.nodes[..NODES_LEAST].fill(0);
         self.answers[..ANSWERS_LEAST].fill(0);
-        self.desks[..DESKS_LEAST].fill(0);
+        self.clients[..CLIENTS_LEAST].fill(0);
         self.nodes[FLOOR] = 1;
-        self.desks[COLUMNS] = k;
+        self.clients[COLUMNS] = k;
         Reply::ACCEPTED
     }
 
-    pub fn begin_read(&mut self, desk: u32, query: &[u32]) -> Reply {
-        self.begin(READ, desk, query)
+    pub fn begin_read(&mut self, client: u32, query: &[u32]) -> Reply {
+        self.begin(READ, client, query)
     }
 
-    pub fn begin_insert(&mut self, desk: u32, query: &[u32]) -> Reply {
-        self.begin(INSERT, desk, query)
+    pub fn begin_insert(&mut self, client: u32, query: &[u32]) -> Reply {
+        self.begin(INSERT, client, query)
     }
 
-    pub fn begin_delete(&mut self, desk: u32, query: &[u32]) -> Reply {
-        self.begin(DELETE, desk, query)
+    pub fn begin_delete(&mut self, client: u32, query: &[u32]) -> Reply {
+        self.begin(DELETE, client, query)
     }
 
-    fn begin(&mut self, kind: u32, desk: u32, asked: &[u32]) -> Reply {
-        let refusal = self.begin_refusal(kind, desk, asked);
+    fn begin(&mut self, kind: u32, client: u32, asked: &[u32]) -> Reply {
+        let refusal = self.begin_refusal(kind, client, asked);
         if refusal != 0 {
             return Reply::refused(refusal);
         }
-        let key = Query::arrived(self.desks[COLUMNS] as usize, asked).key();
-        let own = self.desk_mut(desk);
-        own[DESK_KIND] = kind;
-        own[DESK_ENTRY..DESK_ENTRY + KEY_WIDTH].copy_from_slice(&key);
+        let key = Query::arrived(self.clients[COLUMNS] as usize, asked).key();
+        let own = self.client_mut(client);
+        own[CLIENT_KIND] = kind;
+        own[CLIENT_ENTRY..CLIENT_ENTRY + KEY_WIDTH].copy_from_slice(&key);
         Reply::ACCEPTED
     }
 
     /// One step of what is under way at the desk. Only an answer writes to the tray.
-    pub fn step(&mut self, tray: &mut [u32], desk: u32) -> Reply {
+    pub fn step(&mut self, tray: &mut [u32], client: u32) -> Reply {
         if self.is_short() || tray.len() < TRAY_LEAST {
             return Reply::refused(1);
         }
-        match self.busy_query(desk) {
+        match self.busy_query(client) {
             Err(refusal) => Reply::refused(refusal),
-            Ok(query) if self.desk(desk)[DESK_KIND] == READ => self.read_step(tray, desk, &query),
-            Ok(query) => self.write_step(desk, &query),
+            Ok(query) if self.client(client)[CLIENT_KIND] == READ => self.read_step(tray, client, &query),
+            Ok(query) => self.write_step(client, &query),
         }
     }
 
-    pub fn abandon(&mut self, desk: u32) -> Reply {
+    pub fn abandon(&mut self, client: u32) -> Reply {
         if self.is_short() {
             return Reply::refused(1);
         }
-        let query = match self.busy_query(desk) {
+        let query = match self.busy_query(client) {
             Err(refusal) => return Reply::refused(refusal),
             Ok(query) => query,
         };
-        let (kind, steps) = (self.desk(desk)[DESK_KIND], self.desk(desk)[DESK_STEPS]);
-        if kind != READ && steps > query.marks() {
+        let (kind, steps) = (self.client(client)[CLIENT_KIND], self.client(client)[CLIENT_STEPS]);
+        if kind != READ && steps > query.announcements() {
             return Reply::refused(7);
         }
-        if kind != READ && nodes::take_back::<FAULT>(self.nodes, &query, steps).is_none() {
+        if kind != READ && nodes::release_all::<FAULT>(self.nodes, &query, steps).is_none() {
             return Reply::refused(3);
         }
-        self.desk_mut(desk).fill(0);
+        self.client_mut(client).fill(0);
         Reply::ACCEPTED
     }
 
@@ -149,7 +150,7 @@ impl<const FAULT: u8> Memories<'_, FAULT> {
         if place >= self.answers[COUNT] {
             return Reply::refused(8);
         }
-        answers::put_out(self.answers, place as usize);
+        answers::evict(self.answers, place as usize);
         Reply::ACCEPTED
     }
 
@@ -160,9 +161,9 @@ impl<const FAULT: u8> Memories<'_, FAULT> {
         }
         match nodes::all(self.nodes).get(place as usize) {
             None => Reply::refused(8),
-            Some(node) if node[NODE_MARKS] != 0 => Reply::refused(9),
+            Some(node) if node[NODE_PENDING] != 0 => Reply::refused(9),
             Some(_) => {
-                nodes::put_out(self.nodes, place as usize);
+                nodes::evict(self.nodes, place as usize);
                 Reply::ACCEPTED
             }
         }
@@ -173,7 +174,7 @@ impl<const FAULT: u8> Memories<'_, FAULT> {
         if refusal != 0 {
             return Reply::refused(refusal);
         }
-        if self.desks[HEAD..HEAD + DESKS * DESK_WIDTH].iter().any(|number| *number != 0) {
+        if self.clients[HEAD..HEAD + CLIENTS * CLIENT_WIDTH].iter().any(|number| *number != 0) {
             return Reply::refused(11);
         }
         nodes::renew(self.nodes);

@@ -1,4 +1,5 @@
-//! The nodes memory: looks, marks, raises, and nodes put out (document 01, "One desk, step by step"). Leans on layout and query.
+//! The nodes memory: looks, announcements (marks), raises, and nodes evicted (put out) (document 01, "One desk, step by step"). Leans on layout
+//! and query.
 //! The count in memory is known to be at most 1,024 and the memory to be long enough: refusals come first.
 
 use crate::layout::*;
@@ -18,96 +19,97 @@ pub fn find(nodes: &[u32], label: &Label) -> Option<usize> {
     all(nodes).iter().position(|node| node[..LABEL_WIDTH] == label[..])
 }
 
-/// 10: the floor or a counter is above 4,294,967,103.
+/// 10: the floor or a revision, a counter, is above 4,294,967,103.
 pub fn is_worn(nodes: &[u32]) -> bool {
-    nodes[FLOOR] > WORN || all(nodes).iter().any(|node| node[NODE_COUNTER] > WORN)
+    nodes[FLOOR] > WORN || all(nodes).iter().any(|node| node[NODE_REVISION] > WORN)
 }
 
-/// A node leaves: the floor becomes the larger of floor and its counter, the rest close up.
-pub fn put_out(nodes: &mut [u32], place: usize) {
+/// A node is put out: the floor becomes the larger of floor and its revision, the rest close up.
+pub fn evict(nodes: &mut [u32], place: usize) {
     let last = nodes[NODE_COUNT] as usize - 1;
-    nodes[FLOOR] = nodes[FLOOR].max(at(nodes, place)[NODE_COUNTER]);
+    nodes[FLOOR] = nodes[FLOOR].max(at(nodes, place)[NODE_REVISION]);
     nodes.copy_within(HEAD + (place + 1) * NODE_WIDTH..HEAD + (last + 1) * NODE_WIDTH, HEAD + place * NODE_WIDTH);
     at(nodes, last).fill(0);
     nodes[NODE_COUNT] = last as u32;
 }
 
-/// The place of the label's node, which is added if it is missing; none if no unmarked node can make room for it.
+/// The place of the label's node, which is added if it is missing; none if no node without pending writes can make room for it.
 fn ensure<const FAULT: u8>(nodes: &mut [u32], label: &Label) -> Option<usize> {
     if let Some(place) = find(nodes, label) {
         return Some(place);
     }
     if nodes[NODE_COUNT] as usize == NODES {
-        let oldest = all(nodes).iter().position(|node| node[NODE_MARKS] == 0)?;
-        put_out(nodes, oldest);
+        let oldest = all(nodes).iter().position(|node| node[NODE_PENDING] == 0)?;
+        evict(nodes, oldest);
     }
     let place = nodes[NODE_COUNT] as usize;
-    let counter = if FAULT == Fault::BackAtOne as u8 { 1 } else { nodes[FLOOR] };
+    let revision = if FAULT == Fault::BackAtOne as u8 { 1 } else { nodes[FLOOR] };
     let [tags, v0, v1, v2, v3] = *label;
-    *at(nodes, place) = [tags, v0, v1, v2, v3, 0, counter, 0];
+    *at(nodes, place) = [tags, v0, v1, v2, v3, 0, revision, 0];
     nodes[NODE_COUNT] += 1;
     Some(place)
 }
 
-/// A look: the node's counter, and whether it has marks.
+/// A look: the node's revision, and whether it has pending writes (marks).
 pub fn look<const FAULT: u8>(nodes: &mut [u32], label: &Label) -> Option<(u32, bool)> {
     let place = ensure::<FAULT>(nodes, label)?;
     let node = at(nodes, place);
-    let marked = node[NODE_MARKS] != 0 && FAULT != Fault::NoMarks as u8;
-    Some((node[NODE_COUNTER], marked))
+    let pending = node[NODE_PENDING] != 0 && FAULT != Fault::NoPending as u8;
+    Some((node[NODE_REVISION], pending))
 }
 
-/// Marks go up by one; none if the node has 12 or more. (A node that was missing has none, so nothing was altered then.)
-pub fn mark<const FAULT: u8>(nodes: &mut [u32], label: &Label) -> Option<()> {
+/// The mark step: pending writes go up by one; none if the node has 12 or more. (A node that was missing has none, so nothing was altered then.)
+pub fn announce<const FAULT: u8>(nodes: &mut [u32], label: &Label) -> Option<()> {
     let place = ensure::<FAULT>(nodes, label)?;
     let node = at(nodes, place);
     if FAULT == Fault::EarlyRaise as u8 {
-        node[NODE_COUNTER] = node[NODE_COUNTER].checked_add(1)?;
+        node[NODE_REVISION] = node[NODE_REVISION].checked_add(1)?;
     } else if FAULT == Fault::OneBit as u8 {
-        node[NODE_MARKS] = 1;
-    } else if node[NODE_MARKS] >= MARKS {
+        node[NODE_PENDING] = 1;
+    } else if node[NODE_PENDING] >= PENDING {
         return None;
     } else {
-        node[NODE_MARKS] += 1;
+        node[NODE_PENDING] += 1;
     }
     Some(())
 }
 
-/// Counter up by one, marks down by one; none if the node is missing or unmarked, or its counter at its largest.
+/// Revision up by one, pending writes down by one; none if the node is missing or has none, or its revision is at its largest.
 pub fn raise<const FAULT: u8>(nodes: &mut [u32], label: &Label) -> Option<()> {
     if FAULT == Fault::EarlyRaise as u8 {
         return Some(());
     }
     let place = find(nodes, label)?;
     let node = at(nodes, place);
-    let marks = if FAULT == Fault::OneBit as u8 { 0 } else { node[NODE_MARKS].checked_sub(1)? };
-    node[NODE_COUNTER] = node[NODE_COUNTER].checked_add(1)?;
-    node[NODE_MARKS] = marks;
+    let pending = if FAULT == Fault::OneBit as u8 { 0 } else { node[NODE_PENDING].checked_sub(1)? };
+    node[NODE_REVISION] = node[NODE_REVISION].checked_add(1)?;
+    node[NODE_PENDING] = pending;
     Some(())
 }
 
-/// Takes back the marks of a write's first `count` nodes: all of them, or none if one is missing or unmarked.
-/// The labels of one write differ, so each mark is tested on its own.
-pub fn take_back<const FAULT: u8>(nodes: &mut [u32], query: &Query, count: u32) -> Option<()> {
+/// Takes back the marks of a write's first `count` nodes: all of them, or none if one is missing or has no pending write.
+/// The labels of one write differ, so each is tested on its own.
+pub fn release_all<const FAULT: u8>(nodes: &mut [u32], query: &Query, count: u32) -> Option<()> {
     if FAULT == Fault::EarlyRaise as u8 {
         return Some(());
     }
     let mut places = [0; 16];
     for number in 0..count {
         let place = find(nodes, &query.write_label::<FAULT>(number))?;
-        if all(nodes)[place][NODE_MARKS] == 0 && FAULT != Fault::OneBit as u8 {
+        if all(nodes)[place][NODE_PENDING] == 0 && FAULT != Fault::OneBit as u8 {
             return None;
         }
         places[number as usize] = place;
     }
-    unmark::<FAULT>(nodes, &places[..count as usize]);
+    release::<FAULT>(nodes, &places[..count as usize]);
     Some(())
 }
 
-fn unmark<const FAULT: u8>(nodes: &mut [u32], places: &[usize]) {
+/// One pending write fewer at each place.
+fn release<const FAULT: u8>(nodes: &mut [u32], places: &[usize]) {
     for &place in places {
         let node = at(nodes, place);
-        node[NODE_MARKS] = if FAULT == Fault::OneBit as u8 { 0 } else { node[NODE_MARKS] - 1 };
+        node[NODE_PENDING] = if FAULT == Fault::OneBit as u8 { 0 } else { node[NODE_PENDING] - 1 };
     }
 }
 

@@ -51,8 +51,8 @@ impl Query {
         1 << self.named.count_ones()
     }
 
-    /// how many nodes a write of this query marks and raises
-    pub fn marks(&self) -> u32 {
+    /// how many nodes a write of this query announces itself at (marks) and raises
+    pub fn announcements(&self) -> u32 {
         1 << self.k
     }
 
@@ -62,7 +62,7 @@ impl Query {
         let mut bits = number;
         for c in 0..self.k {
             let tag = if !self.names(c) {
-                TAG_STAR
+                TAG_WILDCARD
             } else if take_bit(&mut bits) {
                 TAG_ANY
             } else {
@@ -76,7 +76,7 @@ impl Query {
 
     /// Node `number` of a write: a named value stays or becomes a star, a star stays or becomes ?.
     pub fn write_label<const FAULT: u8>(&self, number: u32) -> Label {
-        let changed_value = if FAULT == Fault::Stacked as u8 { TAG_ANY } else { TAG_STAR };
+        let changed_value = if FAULT == Fault::Stacked as u8 { TAG_ANY } else { TAG_WILDCARD };
         let mut label = [0; LABEL_WIDTH];
         for c in 0..self.k {
             let tag = match (self.names(c), number >> c & 1 == 1) {
@@ -85,7 +85,7 @@ impl Query {
                     TAG_VALUE
                 }
                 (true, true) => changed_value,
-                (false, false) => TAG_STAR,
+                (false, false) => TAG_WILDCARD,
                 (false, true) => TAG_ANY,
             };
             label[0] |= tag << (8 * c);

@@ -6,23 +6,23 @@ use crate::query::{self, Query};
 use crate::{answers, nodes, Memories};
 
 impl<const FAULT: u8> Memories<'_, FAULT> {
-    /// a desk below 12, in a memory that is long enough
-    pub(crate) fn desk(&self, desk: u32) -> &[u32; DESK_WIDTH] {
-        &self.desks[HEAD..DESKS_LEAST].as_chunks().0[desk as usize]
+    /// client: the desk, below 12, in a memory that is long enough
+    pub(crate) fn client(&self, client: u32) -> &[u32; CLIENT_WIDTH] {
+        &self.clients[HEAD..CLIENTS_LEAST].as_chunks().0[client as usize]
     }
 
-    pub(crate) fn desk_mut(&mut self, desk: u32) -> &mut [u32; DESK_WIDTH] {
-        &mut self.desks[HEAD..DESKS_LEAST].as_chunks_mut().0[desk as usize]
+    pub(crate) fn client_mut(&mut self, client: u32) -> &mut [u32; CLIENT_WIDTH] {
+        &mut self.clients[HEAD..CLIENTS_LEAST].as_chunks_mut().0[client as usize]
     }
 
     /// 1: a lent memory is below its least length.
     pub(crate) fn is_short(&self) -> bool {
-        self.table.len() < TABLE_LEAST || self.nodes.len() < NODES_LEAST || self.answers.len() < ANSWERS_LEAST || self.desks.len() < DESKS_LEAST
+        self.table.len() < TABLE_LEAST || self.nodes.len() < NODES_LEAST || self.answers.len() < ANSWERS_LEAST || self.clients.len() < CLIENTS_LEAST
     }
 
     /// 3: k, an entry count or a filed list's length is out of range.
     fn is_unsound(&self) -> bool {
-        !(1..=4).contains(&self.desks[COLUMNS])
+        !(1..=4).contains(&self.clients[COLUMNS])
             || self.table[COUNT] as usize > RECORDS
             || self.nodes[NODE_COUNT] as usize > NODES
             || self.answers[COUNT] as usize > ANSWERS
@@ -40,35 +40,35 @@ impl<const FAULT: u8> Memories<'_, FAULT> {
         }
     }
 
-    fn is_idle(&self, desk: u32) -> bool {
-        self.desk(desk).iter().all(|number| *number == 0)
+    fn is_idle(&self, client: u32) -> bool {
+        self.client(client).iter().all(|number| *number == 0)
     }
 
     /// The query of a desk that is not idle, if its kind, query, step and list length are in range.
-    fn sound_query(&self, desk: u32) -> Option<Query> {
-        let own = self.desk(desk);
-        let kind = own[DESK_KIND];
-        let query = Query::kept(self.desks[COLUMNS] as usize, own[DESK_ENTRY..].first_chunk()?)?;
-        let steps = if kind == READ { query.looks() + 3 } else { 2 * query.marks() + 1 };
+    fn sound_query(&self, client: u32) -> Option<Query> {
+        let own = self.client(client);
+        let kind = own[CLIENT_KIND];
+        let query = Query::kept(self.clients[COLUMNS] as usize, own[CLIENT_ENTRY..].first_chunk()?)?;
+        let steps = if kind == READ { query.looks() + 3 } else { 2 * query.announcements() + 1 };
         let sound = (READ..=DELETE).contains(&kind)
             && (kind != INSERT || query.names_all())
-            && own[DESK_STEPS] < steps
-            && own[DESK_ENTRY + ENTRY_LENGTH] as usize <= LIST;
+            && own[CLIENT_STEPS] < steps
+            && own[CLIENT_ENTRY + ENTRY_LENGTH] as usize <= LIST;
         sound.then_some(query)
     }
 
     /// For a begin, in memories of any contents.
-    pub(crate) fn begin_refusal(&self, kind: u32, desk: u32, asked: &[u32]) -> u32 {
+    pub(crate) fn begin_refusal(&self, kind: u32, client: u32, asked: &[u32]) -> u32 {
         if self.is_short() {
             1
-        } else if query::is_refused(self.desks[COLUMNS], asked, kind == INSERT) {
+        } else if query::is_refused(self.clients[COLUMNS], asked, kind == INSERT) {
             2
         } else if self.is_unsound() {
             3
-        } else if desk as usize >= DESKS {
+        } else if client as usize >= CLIENTS {
             4
-        } else if !self.is_idle(desk) {
-            if self.sound_query(desk).is_some() {
+        } else if !self.is_idle(client) {
+            if self.sound_query(client).is_some() {
                 5
             } else {
                 3
@@ -81,15 +81,15 @@ impl<const FAULT: u8> Memories<'_, FAULT> {
     }
 
     /// For a step or an abandoning, in memories that are long enough: the query of the busy desk, or 3, 4 or 6.
-    pub(crate) fn busy_query(&self, desk: u32) -> Result<Query, u32> {
+    pub(crate) fn busy_query(&self, client: u32) -> Result<Query, u32> {
         if self.is_unsound() {
             Err(3)
-        } else if desk as usize >= DESKS {
+        } else if client as usize >= CLIENTS {
             Err(4)
-        } else if self.is_idle(desk) {
+        } else if self.is_idle(client) {
             Err(6)
         } else {
-            self.sound_query(desk).ok_or(3)
+            self.sound_query(client).ok_or(3)
         }
     }
 }

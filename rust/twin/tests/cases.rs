@@ -10,7 +10,7 @@ struct Hall {
     table: Vec<u32>,
     nodes: Vec<u32>,
     answers: Vec<u32>,
-    desks: Vec<u32>,
+    clients: Vec<u32>,
     tray: Vec<u32>,
 }
 
@@ -20,7 +20,7 @@ impl Hall {
             table: vec![7; TABLE_LEAST],
             nodes: vec![7; NODES_LEAST],
             answers: vec![7; ANSWERS_LEAST],
-            desks: vec![7; DESKS_LEAST],
+            clients: vec![7; CLIENTS_LEAST],
             tray: vec![7; TRAY_LEAST],
         };
         assert_eq!(hall.lend().open(k), ACCEPTED);
@@ -28,25 +28,25 @@ impl Hall {
     }
 
     fn lend(&mut self) -> Memories<'_> {
-        Memories { table: &mut self.table, nodes: &mut self.nodes, answers: &mut self.answers, desks: &mut self.desks }
+        Memories { table: &mut self.table, nodes: &mut self.nodes, answers: &mut self.answers, clients: &mut self.clients }
     }
 
-    fn step(&mut self, desk: u32) -> Reply {
-        let mut m: Memories<'_> = Memories { table: &mut self.table, nodes: &mut self.nodes, answers: &mut self.answers, desks: &mut self.desks };
-        m.step(&mut self.tray, desk)
+    fn step(&mut self, client: u32) -> Reply {
+        let mut m: Memories<'_> = Memories { table: &mut self.table, nodes: &mut self.nodes, answers: &mut self.answers, clients: &mut self.clients };
+        m.step(&mut self.tray, client)
     }
 
-    fn steps(&mut self, desk: u32, count: u32) {
+    fn steps(&mut self, client: u32, count: u32) {
         for _ in 0..count {
-            assert_eq!(self.step(desk), ACCEPTED);
+            assert_eq!(self.step(client), ACCEPTED);
         }
     }
 
     /// Steps until something ends: after how many steps, and how.
-    fn run(&mut self, desk: u32) -> (u32, Reply) {
+    fn run(&mut self, client: u32) -> (u32, Reply) {
         let mut made = 1;
         loop {
-            let reply = self.step(desk);
+            let reply = self.step(client);
             if reply != ACCEPTED {
                 return (made, reply);
             }
@@ -54,14 +54,14 @@ impl Hall {
         }
     }
 
-    fn read(&mut self, desk: u32, query: &[u32]) -> (u32, Reply) {
-        assert_eq!(self.lend().begin_read(desk, query), ACCEPTED);
-        self.run(desk)
+    fn read(&mut self, client: u32, query: &[u32]) -> (u32, Reply) {
+        assert_eq!(self.lend().begin_read(client, query), ACCEPTED);
+        self.run(client)
     }
 
-    fn insert(&mut self, desk: u32, query: &[u32]) -> (u32, Reply) {
-        assert_eq!(self.lend().begin_insert(desk, query), ACCEPTED);
-        self.run(desk)
+    fn insert(&mut self, client: u32, query: &[u32]) -> (u32, Reply) {
+        assert_eq!(self.lend().begin_insert(client, query), ACCEPTED);
+        self.run(client)
     }
 
     fn node(&self, place: usize) -> &[u32] {
@@ -86,7 +86,7 @@ fn label(text: &str) -> Label {
     let mut label = [0; LABEL_WIDTH];
     for (c, word) in text.split(' ').enumerate() {
         let tag = match word {
-            "*" => TAG_STAR,
+            "*" => TAG_WILDCARD,
             "?" => TAG_ANY,
             value => {
                 label[1 + c] = value.parse().unwrap();
@@ -105,7 +105,7 @@ fn read_labels(asked: &[u32]) -> Vec<Label> {
 
 fn write_labels(asked: &[u32]) -> Vec<Label> {
     let query = Query::arrived(asked.len() / 2, asked);
-    (0..query.marks()).map(|n| query.write_label::<PLAIN>(n)).collect()
+    (0..query.announcements()).map(|n| query.write_label::<PLAIN>(n)).collect()
 }
 
 #[test]
@@ -144,14 +144,14 @@ fn case_7_an_insert_between_looks_and_table() {
     assert_eq!(hall.filed_revisions(0, 2), [1, 1]);
     hall.lend().begin_read(0, &[1, 5]);
     hall.steps(0, 2);
-    assert_eq!(hall.desks[HEAD + DESK_ENTRY + ENTRY_REVISIONS..][..2], [2, 1]);
+    assert_eq!(hall.clients[HEAD + CLIENT_ENTRY + ENTRY_REVISIONS..][..2], [2, 1]);
     hall.steps(0, 2);
     assert_eq!(hall.step(0), from_table(1));
     assert_eq!(hall.filed_revisions(0, 2), [2, 1]);
 }
 
 #[test]
-fn case_8_a_mark_seen() {
+fn case_8_a_pending_write_seen() {
     let mut hall = Hall::open(1);
     hall.lend().begin_insert(1, &[1, 5]);
     hall.steps(1, 1);
@@ -186,11 +186,11 @@ fn filled(k: u32, count: u32) -> Hall {
 #[test]
 fn case_10_32_records_are_listed_33_are_not() {
     for k in 1..=4 {
-        let stars = vec![0; 2 * k as usize];
-        assert_eq!(filled(k, 32).read(0, &stars), (4, from_table(32)));
+        let wildcards = vec![0; 2 * k as usize];
+        assert_eq!(filled(k, 32).read(0, &wildcards), (4, from_table(32)));
         let mut long = filled(k, 33);
-        assert_eq!(long.read(0, &stars), (3, Reply { number: 12, count: 0, ending: 0 }));
-        assert!(long.tray.iter().all(|n| *n == 7) && long.desks[HEAD..].iter().all(|n| *n == 0));
+        assert_eq!(long.read(0, &wildcards), (3, Reply { number: 12, count: 0, ending: 0 }));
+        assert!(long.tray.iter().all(|n| *n == 7) && long.clients[HEAD..].iter().all(|n| *n == 0));
     }
 }
 
@@ -208,7 +208,7 @@ fn case_12_worn() {
     for floor in [true, false] {
         let mut hall = Hall::open(1);
         hall.insert(0, &[1, 5]);
-        let place = if floor { FLOOR } else { HEAD + NODE_COUNTER };
+        let place = if floor { FLOOR } else { HEAD + NODE_REVISION };
         hall.nodes[place] = 4_294_967_103;
         assert_eq!(hall.lend().begin_delete(1, &[1, 5]), ACCEPTED);
         hall.nodes[place] = 4_294_967_104;

@@ -10,7 +10,7 @@ fn memories(seed: u64) -> [Vec<u32>; 4] {
         state = state.wrapping_mul(6364136223846793005).wrapping_add(1442695040888963407);
         (state >> 33) as u32 % 7
     };
-    [TABLE_LEAST, NODES_LEAST, ANSWERS_LEAST, DESKS_LEAST].map(|length| (0..length).map(|_| number()).collect())
+    [TABLE_LEAST, NODES_LEAST, ANSWERS_LEAST, CLIENTS_LEAST].map(|length| (0..length).map(|_| number()).collect())
 }
 
 #[test]
@@ -19,15 +19,15 @@ fn refusals_alter_nothing() {
     for seed in 0..3000 {
         let before = memories(seed);
         let mut after = before.clone();
-        let [table, nodes, answers, desks] = &mut after;
-        let mut m: Memories = Memories { table, nodes, answers, desks };
-        let (desk, place) = (seed as u32 % 13, seed as u32 % 5);
+        let [table, nodes, answers, clients] = &mut after;
+        let mut m: Memories = Memories { table, nodes, answers, clients };
+        let (client, place) = (seed as u32 % 13, seed as u32 % 5);
         let reply = match seed / 13 % 8 {
-            0 => m.begin_read(desk, &[1, 2, 0, 0]),
-            1 => m.begin_insert(desk, &[1, 2, 1, 3]),
-            2 => m.begin_delete(desk, &[1, 2]),
-            3 => m.step(&mut [0; 128], desk),
-            4 => m.abandon(desk),
+            0 => m.begin_read(client, &[1, 2, 0, 0]),
+            1 => m.begin_insert(client, &[1, 2, 1, 3]),
+            2 => m.begin_delete(client, &[1, 2]),
+            3 => m.step(&mut [0; 128], client),
+            4 => m.abandon(client),
             5 => m.evict_answer(place),
             6 => m.evict_node(place),
             _ => m.renew(),

@@ -2,7 +2,7 @@
 //! meanwhile. Its reads meet the correction's marks, so they pass over the filed answer and take what the table holds at that moment: the old
 //! list before the correction's table step, the new one after it. When the correction has ended, the filed answer no longer holds, and the next
 //! read files a new one. The C example tells the same and prints the same.
-use mondzafeky::{ending, number, Memories, Reply, ANSWERS_LEAST, DESKS_LEAST, NODES_LEAST, TABLE_LEAST, TRAY_LEAST};
+use mondzafeky::{ending, number, Memories, Reply, ANSWERS_LEAST, CLIENTS_LEAST, NODES_LEAST, TABLE_LEAST, TRAY_LEAST};
 
 /// The columns: bench, setting.
 const K: usize = 2;
@@ -17,20 +17,20 @@ struct Hall<'a> {
 }
 
 impl Hall<'_> {
-    fn begin_insert(&mut self, desk: u32, bench: u32, setting: u32) {
-        println!("desk {desk} begins the insert of ({bench}, {setting})");
-        expect_accepted("begin_insert", self.memories.begin_insert(desk, &[1, bench, 1, setting]));
+    fn begin_insert(&mut self, client: u32, bench: u32, setting: u32) {
+        println!("desk {client} begins the insert of ({bench}, {setting})");
+        expect_accepted("begin_insert", self.memories.begin_insert(client, &[1, bench, 1, setting]));
     }
 
     /// Any setting of a bench: the second column is a star.
-    fn begin_read(&mut self, desk: u32, bench: u32) {
-        println!("desk {desk} begins the read of ({bench}, *)");
-        expect_accepted("begin_read", self.memories.begin_read(desk, &[1, bench, 0, 0]));
+    fn begin_read(&mut self, client: u32, bench: u32) {
+        println!("desk {client} begins the read of ({bench}, *)");
+        expect_accepted("begin_read", self.memories.begin_read(client, &[1, bench, 0, 0]));
     }
 
-    /// One step, told in a line. Whether the desk's work has ended.
-    fn step(&mut self, desk: u32, work: &str) -> bool {
-        let reply = self.memories.step(&mut self.tray, desk);
+    /// One step, told in a line. client: the desk. Whether its work has ended.
+    fn step(&mut self, client: u32, work: &str) -> bool {
+        let reply = self.memories.step(&mut self.tray, client);
         expect_accepted(work, reply);
         let told = match reply.ending {
             ending::FROM_FILE => format!("answered from the file:{}", self.records(reply.count)),
@@ -39,7 +39,7 @@ impl Hall<'_> {
             ending::UNCHANGED => "ended, the table is as it was".to_string(),
             _ => "under way".to_string(),
         };
-        println!("  desk {desk}, {work}: {told}");
+        println!("  desk {client}, {work}: {told}");
         reply.ending != ending::NONE
     }
 
@@ -50,20 +50,20 @@ impl Hall<'_> {
 
     /// A step for each place in a row of desks: desk 0 inserts, desk 1 reads.
     fn steps(&mut self, row: &[u32]) {
-        for &desk in row {
-            self.step(desk, if desk == 0 { "insert" } else { "read" });
+        for &client in row {
+            self.step(client, if client == 0 { "insert" } else { "read" });
         }
     }
 
-    fn run(&mut self, desk: u32, work: &str) {
-        while !self.step(desk, work) {}
+    fn run(&mut self, client: u32, work: &str) {
+        while !self.step(client, work) {}
     }
 }
 
 fn main() {
     let (mut table, mut nodes) = (vec![0; TABLE_LEAST], vec![0; NODES_LEAST]);
-    let (mut answers, mut desks) = (vec![0; ANSWERS_LEAST], vec![0; DESKS_LEAST]);
-    let memories = Memories { table: &mut table, nodes: &mut nodes, answers: &mut answers, desks: &mut desks };
+    let (mut answers, mut clients) = (vec![0; ANSWERS_LEAST], vec![0; CLIENTS_LEAST]);
+    let memories = Memories { table: &mut table, nodes: &mut nodes, answers: &mut answers, clients: &mut clients };
     let mut hall = Hall { memories, tray: [0; TRAY_LEAST] };
     expect_accepted("open", hall.memories.open(K as u32));
     hall.begin_insert(0, 3, 40);
