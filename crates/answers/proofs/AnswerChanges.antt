@@ -13,6 +13,7 @@ use Rattle.lists.specs.Lists.{written, without}
 use Rattle.laws.specs.Splice.{removed}
 use Rattle.laws.proofs.EntryLaws.{with-append, with-remove, with-replace, with-none}
 use Rattle.rules.specs.Answers.{Entry, lengthIn, listIn, keyPlace, filed}
+use Rattle.query.specs.Shape.{narrow}
 use Rattle.rules.specs.Memory.{answersIn, withAnswers}
 use Rattle.answers.specs.AnswerContracts.{Fit, Gave}
 use Rattle.answers.proofs.AnswerScan.{count-is, part-is}
@@ -24,23 +25,23 @@ zeros-written s n = rw (length-replicate, append-assoc)
 
 module _ (s : List ℕ) (fit : Fit s) where
   -- ---- behind the last, out, out and behind the last, all out
-  pub appended : (t x : List ℕ) → t ≡ written s (8 + getD s 0 0 * 152) x → set t 0 (getD s 0 0 + 1) ≡ withAnswers s (answersIn s ++ (x ∷ []))
+  pub appended : (t x : List ℕ) → t ≡ written s (8 + getD s 0 0 * 152) x → set t 0 (getD s 0 0 + 1) ≡ withAnswers narrow s (answersIn narrow s ++ (x ∷ []))
   unfolding answersIn withAnswers
   appended t x e = rw e (sym (with-append 0 152 s (room s fit) x))
 
-  pub evicted : (t : List ℕ) (i : ℕ) → t ≡ removed s (8 + i * 152) 152 (8 + getD s 0 0 * 152) → i < getD s 0 0 → set t 0 (getD s 0 0 - 1) ≡ withAnswers s (without i (answersIn s))
+  pub evicted : (t : List ℕ) (i : ℕ) → t ≡ removed s (8 + i * 152) 152 (8 + getD s 0 0 * 152) → i < getD s 0 0 → set t 0 (getD s 0 0 - 1) ≡ withAnswers narrow s (without i (answersIn narrow s))
   unfolding answersIn withAnswers
   evicted t i e h = rw e (sym (with-remove 0 152 s (room s fit) i h))
 
   pub replaced : (t u x : List ℕ) (i : ℕ) → t ≡ removed s (8 + i * 152) 152 (8 + getD s 0 0 * 152) → u ≡ written t (8 + getD s 0 0 * 152 - 152) x → i < getD s 0 0 → length x ≡ 152
-      → u ≡ withAnswers s (without i (answersIn s) ++ (x ∷ []))
+      → u ≡ withAnswers narrow s (without i (answersIn narrow s) ++ (x ∷ []))
   unfolding answersIn withAnswers
   replaced t u x i e f h k =
       let m : 8 + getD s 0 0 * 152 - 152 ≡ 8 + (getD s 0 0 - 1) * 152 = omega arith in
       f ∙ rw (m, e) (sym (with-replace 0 152 s (room s fit) i x (omega arith) h k))
 
   pub emptied : (t : List ℕ) → t ≡ replicate (getD s 0 0 * 152) 0 ++ drop (getD s 0 0 * 152) (take (length s - 8) (drop 8 s))
-      → set (putMid 8 (length s - 8) s t) 0 0 ≡ withAnswers s []
+      → set (putMid 8 (length s - 8) s t) 0 0 ≡ withAnswers narrow s []
   unfolding withAnswers
   emptied t e =
       let n : ℕ = getD s 0 0 * 152 in
@@ -54,23 +55,23 @@ module _ (s : List ℕ) (fit : Fit s) where
 
 -- ---- what is filed
 module _ (s : List ℕ) where
-  pub filed-same : (x : Entry) (i : ℕ) → i ≡ keyPlace x (answersIn s) → i < getD s 0 0 → filed x (answersIn s) ≡ without i (answersIn s) ++ (x ∷ [])
+  pub filed-same : (x : Entry) (i : ℕ) → i ≡ keyPlace x (answersIn narrow s) → i < getD s 0 0 → filed x (answersIn narrow s) ≡ without i (answersIn narrow s) ++ (x ∷ [])
   unfolding filed
   filed-same x i e h =
-      let l : length (answersIn s) ≡ getD s 0 0 = count-is s in
-      rw (← e, lt-ltb i (length (answersIn s)) (omega arith))
+      let l : length (answersIn narrow s) ≡ getD s 0 0 = count-is s in
+      rw (← e, lt-ltb i (length (answersIn narrow s)) (omega arith))
 
-  pub filed-new : (x : Entry) (i : ℕ) → i ≡ keyPlace x (answersIn s) → getD s 0 0 ≤ i → getD s 0 0 < 64 → filed x (answersIn s) ≡ answersIn s ++ (x ∷ [])
+  pub filed-new : (x : Entry) (i : ℕ) → i ≡ keyPlace x (answersIn narrow s) → getD s 0 0 ≤ i → getD s 0 0 < 64 → filed x (answersIn narrow s) ≡ answersIn narrow s ++ (x ∷ [])
   unfolding filed
   filed-new x i e h k =
-      let l : length (answersIn s) ≡ getD s 0 0 = count-is s in
-      rw (← e, le-ltb i (length (answersIn s)) (omega arith), lt-ltb (length (answersIn s)) 64 (omega arith))
+      let l : length (answersIn narrow s) ≡ getD s 0 0 = count-is s in
+      rw (← e, le-ltb i (length (answersIn narrow s)) (omega arith), lt-ltb (length (answersIn narrow s)) 64 (omega arith))
 
-  pub filed-full : (x : Entry) (i : ℕ) → i ≡ keyPlace x (answersIn s) → getD s 0 0 ≤ i → 64 ≤ getD s 0 0 → filed x (answersIn s) ≡ without 0 (answersIn s) ++ (x ∷ [])
+  pub filed-full : (x : Entry) (i : ℕ) → i ≡ keyPlace x (answersIn narrow s) → getD s 0 0 ≤ i → 64 ≤ getD s 0 0 → filed x (answersIn narrow s) ≡ without 0 (answersIn narrow s) ++ (x ∷ [])
   unfolding filed
   filed-full x i e h k =
-      let l : length (answersIn s) ≡ getD s 0 0 = count-is s in
-      rw (← e, le-ltb i (length (answersIn s)) (omega arith), le-ltb (length (answersIn s)) 64 (omega arith))
+      let l : length (answersIn narrow s) ≡ getD s 0 0 = count-is s in
+      rw (← e, le-ltb i (length (answersIn narrow s)) (omega arith), le-ltb (length (answersIn narrow s)) 64 (omega arith))
 
 -- ---- what is given
 pub list-fits : (e : Entry) (k : ℕ) → lengthIn e ≤ 32 → k ≤ 4 → getD e 7 0 * k ≤ 128
@@ -84,9 +85,9 @@ gave k e tray after h =
     record { count = refl; list = rw m at h }
 
 -- the list of entry i, where it stands in the memory
-pub short-part : (s : List ℕ) (i : ℕ) → lengthIn (getD (answersIn s) i []) ≤ 32 → i < getD s 0 0 → lengthIn (take (8 + i * 152 + 152 - (8 + i * 152)) (drop (8 + i * 152) s)) ≤ 32
+pub short-part : (s : List ℕ) (i : ℕ) → lengthIn (getD (answersIn narrow s) i []) ≤ 32 → i < getD s 0 0 → lengthIn (take (8 + i * 152 + 152 - (8 + i * 152)) (drop (8 + i * 152) s)) ≤ 32
 short-part s i h k = rw (part-is s (8 + i * 152) i refl k) h
 
 pub gave-at : (s : List ℕ) (i k r : ℕ) (tray after : List ℕ) → Gave k (take (8 + i * 152 + 152 - (8 + i * 152)) (drop (8 + i * 152) s)) tray r after → i < getD s 0 0
-    → Gave k (getD (answersIn s) i []) tray r after
+    → Gave k (getD (answersIn narrow s) i []) tray r after
 gave-at s i k r tray after h g = rw (part-is s (8 + i * 152) i refl g) at h

@@ -13,6 +13,7 @@ use Rattle.laws.proofs.ListLaws.{length-without}
 use Rattle.laws.proofs.RowLaws.{Wide, wide-nil, wide-snoc, wide-without, wide-at}
 use Rattle.laws.proofs.EntryLaws.{length-entries, wide-entries, length-with, count-with, entries-with}
 use Rattle.rules.specs.Answers.{Entry, keyPlace, filed}
+use Rattle.query.specs.Shape.{narrow}
 use Rattle.rules.specs.Memory.{answersIn, withAnswers}
 use Rattle.answers.specs.AnswerContracts.{Fit}
 use Rattle.answers.proofs.AnswerScan.{count-is}
@@ -27,11 +28,11 @@ module _ (s : List ℕ) (fit : Fit s) where
   pub room : 8 + getD s 0 0 * 152 ≤ length s
   room = let a = fit .long in let b = fit .few in omega arith
 
-  pub answers-kept : Kept (answersIn s)
+  pub answers-kept : Kept (answersIn narrow s)
   unfolding answersIn
   answers-kept = let b = fit .few in let l = length-entries 0 152 s in record { wide = wide-entries 0 152 s room; few = omega arith }
 
-  pub answer-length : (i : ℕ) → i < getD s 0 0 → length (getD (answersIn s) i []) ≡ 152
+  pub answer-length : (i : ℕ) → i < getD s 0 0 → length (getD (answersIn narrow s) i []) ≡ 152
   unfolding answersIn
   answer-length i h = let l = length-entries 0 152 s in wide-at 152 (entriesIn 0 152 s) i (wide-entries 0 152 s room) (omega arith)
 
@@ -40,19 +41,19 @@ module _ (s : List ℕ) (fit : Fit s) (es : List Entry) (kept : Kept es) where
   new-room : 8 + length es * 152 ≤ length s
   new-room = let a = fit .long in let b = kept .few in omega arith
 
-  pub answers-back : answersIn (withAnswers s es) ≡ es
+  pub answers-back : answersIn narrow (withAnswers narrow s es) ≡ es
   unfolding answersIn withAnswers
   answers-back = entries-with 0 152 s es (kept .wide) (room s fit) new-room (omega arith)
 
-  length-kept : length (withAnswers s es) ≡ length s
+  length-kept : length (withAnswers narrow s es) ≡ length s
   unfolding withAnswers
   length-kept = length-with 0 152 s es (kept .wide) (room s fit) new-room
 
-  pub count-back : getD (withAnswers s es) 0 0 ≡ length es
+  pub count-back : getD (withAnswers narrow s es) 0 0 ≡ length es
   unfolding withAnswers
   count-back = count-with 0 152 s es (kept .wide) (room s fit) new-room (omega arith)
 
-  fit-kept : Fit (withAnswers s es)
+  fit-kept : Fit (withAnswers narrow s es)
   fit-kept =
       let a = fit .long in
       let b = kept .few in
@@ -94,19 +95,19 @@ module _ (es : List Entry) (kept : Kept es) where
 
 -- ---- each operation: the memory stays fit and as long as it was, and holds the new answers
 pub record Stays (s : List ℕ) (es : List Entry) : Type 0 where
-  pub fit : Fit (withAnswers s es)
-  pub same-length : length (withAnswers s es) ≡ length s
-  pub back : answersIn (withAnswers s es) ≡ es
+  pub fit : Fit (withAnswers narrow s es)
+  pub same-length : length (withAnswers narrow s es) ≡ length s
+  pub back : answersIn narrow (withAnswers narrow s es) ≡ es
 
 pub stays : (s : List ℕ) → Fit s → (es : List Entry) → Kept es → Stays s es
 stays s fit es kept = record { fit = fit-kept s fit es kept; same-length = length-kept s fit es kept; back = answers-back s fit es kept }
 
 module _ (s : List ℕ) (fit : Fit s) where
-  pub file-stays : (x : Entry) → length x ≡ 152 → Stays s (filed x (answersIn s))
-  file-stays x h = stays s fit (filed x (answersIn s)) (filed-kept (answersIn s) (answers-kept s fit) x h)
+  pub file-stays : (x : Entry) → length x ≡ 152 → Stays s (filed x (answersIn narrow s))
+  file-stays x h = stays s fit (filed x (answersIn narrow s)) (filed-kept (answersIn narrow s) (answers-kept s fit) x h)
 
-  pub evict-stays : (i : ℕ) → i < getD s 0 0 → Stays s (without i (answersIn s))
-  evict-stays i h = let l = count-is s in stays s fit (without i (answersIn s)) (without-kept (answersIn s) (answers-kept s fit) i (omega arith))
+  pub evict-stays : (i : ℕ) → i < getD s 0 0 → Stays s (without i (answersIn narrow s))
+  evict-stays i h = let l = count-is s in stays s fit (without i (answersIn narrow s)) (without-kept (answersIn narrow s) (answers-kept s fit) i (omega arith))
 
   pub empty-stays : Stays s []
   empty-stays = stays s fit [] none-kept

@@ -13,6 +13,7 @@ use Rattle.lists.specs.Lists.{same, place, allBelow}
 use Rattle.laws.proofs.SearchLaws.{place-start, place-found, place-next, place-none, place-before}
 use Rattle.laws.proofs.EntryLaws.{length-entries, entry-at}
 use Rattle.rules.specs.Answers.{Entry, keyIn, lengthIn, revisionIn, hasKeyOf, atLeast, serves, isLong, someLong}
+use Rattle.query.specs.Shape.{narrow}
 use Rattle.rules.specs.Memory.{answersIn}
 
 -- ---- one entry
@@ -20,38 +21,38 @@ pub key-same : (e x : Entry) (b : Bool) → b ≡ same (take 7 e) (take 7 x) →
 unfolding hasKeyOf keyIn
 key-same e x b h = h
 
-pub newer : (e x : Entry) (j : ℕ) → getD x (8 + j) 0 ≤ getD e (8 + j) 0 → atLeast x e j ≡ true
+pub newer : (e x : Entry) (j : ℕ) → getD x (8 + j) 0 ≤ getD e (8 + j) 0 → atLeast narrow x e j ≡ true
 unfolding atLeast revisionIn
 newer e x j h = le-leb (getD x (8 + j) 0) (getD e (8 + j) 0) h
 
-pub older : (e x : Entry) (j : ℕ) → getD e (8 + j) 0 < getD x (8 + j) 0 → atLeast x e j ≡ false
+pub older : (e x : Entry) (j : ℕ) → getD e (8 + j) 0 < getD x (8 + j) 0 → atLeast narrow x e j ≡ false
 unfolding atLeast revisionIn
 older e x j h = lt-leb (getD x (8 + j) 0) (getD e (8 + j) 0) h
 
 pub below-end : (n j : ℕ) (p : ℕ → Bool) → allBelow j p ≡ true → j ≤ n → n ≤ j → true ≡ allBelow n p
 below-end n j p e h k = let q : n ≡ j = omega arith in rw q (sym e)
 
-pub serves-not : (n : ℕ) (x e : Entry) → hasKeyOf x e ≡ false → serves n x e ≡ false
+pub serves-not : (n : ℕ) (x e : Entry) → hasKeyOf x e ≡ false → serves narrow n x e ≡ false
 unfolding serves
 serves-not n x e h = rw h
 
-pub serves-recent : (n : ℕ) (x e : Entry) → hasKeyOf x e ≡ true → serves n x e ≡ allBelow n (atLeast x e)
+pub serves-recent : (n : ℕ) (x e : Entry) → hasKeyOf x e ≡ true → serves narrow n x e ≡ allBelow n (atLeast narrow x e)
 unfolding serves
 serves-recent n x e h = rw h
 
 -- ---- where an entry stands
-pub count-is : (s : List ℕ) → length (answersIn s) ≡ getD s 0 0
+pub count-is : (s : List ℕ) → length (answersIn narrow s) ≡ getD s 0 0
 unfolding answersIn
 count-is s = length-entries 0 152 s
 
-pub part-is : (s : List ℕ) (at i : ℕ) → at ≡ 8 + i * 152 → i < getD s 0 0 → take (at + 152 - at) (drop at s) ≡ getD (answersIn s) i []
+pub part-is : (s : List ℕ) (at i : ℕ) → at ≡ 8 + i * 152 → i < getD s 0 0 → take (at + 152 - at) (drop at s) ≡ getD (answersIn narrow s) i []
 unfolding answersIn
 part-is s at i h k =
     let m : at + 152 - at ≡ 152 = omega arith in
     rw (m, h) (sym (entry-at 0 152 s i k))
 
 -- the length of entry i's list
-pub length-is : (s : List ℕ) (at i : ℕ) → at ≡ 8 + i * 152 → i < getD s 0 0 → lengthIn (getD (answersIn s) i []) ≡ getD s (at + 7) 0
+pub length-is : (s : List ℕ) (at i : ℕ) → at ≡ 8 + i * 152 → i < getD s 0 0 → lengthIn (getD (answersIn narrow s) i []) ≡ getD s (at + 7) 0
 unfolding lengthIn
 length-is s at i h k =
     let m : 7 < at + 152 - at = omega arith in
@@ -59,53 +60,53 @@ length-is s at i h k =
 
 -- ---- the loops
 module _ (p : Entry → Bool) (s : List ℕ) where
-  pub scan-start : place p (answersIn s) ≡ 0 + place p (drop 0 (answersIn s))
-  scan-start = place-start p (answersIn s)
+  pub scan-start : place p (answersIn narrow s) ≡ 0 + place p (drop 0 (answersIn narrow s))
+  scan-start = place-start p (answersIn narrow s)
 
-  pub scan-found : (at i : ℕ) → place p (answersIn s) ≡ i + place p (drop i (answersIn s)) → at ≡ 8 + i * 152 → i < getD s 0 0
-      → p (take (at + 152 - at) (drop at s)) ≡ true → place p (answersIn s) ≡ i
+  pub scan-found : (at i : ℕ) → place p (answersIn narrow s) ≡ i + place p (drop i (answersIn narrow s)) → at ≡ 8 + i * 152 → i < getD s 0 0
+      → p (take (at + 152 - at) (drop at s)) ≡ true → place p (answersIn narrow s) ≡ i
   scan-found at i v h k e =
-      let l : length (answersIn s) ≡ getD s 0 0 = count-is s in
-      place-found p (answersIn s) i [] v (omega arith) (ap p (sym (part-is s at i h k)) ∙ e)
+      let l : length (answersIn narrow s) ≡ getD s 0 0 = count-is s in
+      place-found p (answersIn narrow s) i [] v (omega arith) (ap p (sym (part-is s at i h k)) ∙ e)
 
-  pub scan-next : (at i : ℕ) → place p (answersIn s) ≡ i + place p (drop i (answersIn s)) → at ≡ 8 + i * 152 → i < getD s 0 0
-      → p (take (at + 152 - at) (drop at s)) ≡ false → place p (answersIn s) ≡ i + 1 + place p (drop (i + 1) (answersIn s))
+  pub scan-next : (at i : ℕ) → place p (answersIn narrow s) ≡ i + place p (drop i (answersIn narrow s)) → at ≡ 8 + i * 152 → i < getD s 0 0
+      → p (take (at + 152 - at) (drop at s)) ≡ false → place p (answersIn narrow s) ≡ i + 1 + place p (drop (i + 1) (answersIn narrow s))
   scan-next at i v h k e =
-      let l : length (answersIn s) ≡ getD s 0 0 = count-is s in
-      place-next p (answersIn s) i [] v (omega arith) (ap p (sym (part-is s at i h k)) ∙ e)
+      let l : length (answersIn narrow s) ≡ getD s 0 0 = count-is s in
+      place-next p (answersIn narrow s) i [] v (omega arith) (ap p (sym (part-is s at i h k)) ∙ e)
 
-  pub scan-none : (i : ℕ) → place p (answersIn s) ≡ i + place p (drop i (answersIn s)) → i ≤ getD s 0 0 → getD s 0 0 ≤ i → place p (answersIn s) ≡ getD s 0 0
+  pub scan-none : (i : ℕ) → place p (answersIn narrow s) ≡ i + place p (drop i (answersIn narrow s)) → i ≤ getD s 0 0 → getD s 0 0 ≤ i → place p (answersIn narrow s) ≡ getD s 0 0
   scan-none i v h k =
-      let l : length (answersIn s) ≡ getD s 0 0 = count-is s in
-      place-none p (answersIn s) i v (omega arith) (omega arith) ∙ l
+      let l : length (answersIn narrow s) ≡ getD s 0 0 = count-is s in
+      place-none p (answersIn narrow s) i v (omega arith) (omega arith) ∙ l
 
 -- ---- the scan for a list that is too long
-module _ (s : List ℕ) (at i : ℕ) (v : place isLong (answersIn s) ≡ i + place isLong (drop i (answersIn s))) (h : at ≡ 8 + i * 152) (k : i < getD s 0 0) where
+module _ (s : List ℕ) (at i : ℕ) (v : place isLong (answersIn narrow s) ≡ i + place isLong (drop i (answersIn narrow s))) (h : at ≡ 8 + i * 152) (k : i < getD s 0 0) where
   long-part : isLong (take (at + 152 - at) (drop at s)) ≡ ltb 32 (getD s (at + 7) 0)
   unfolding isLong
   long-part = ap (λ (t : List ℕ). ltb 32 (lengthIn t)) (part-is s at i h k) ∙ ap (ltb 32) (length-is s at i h k)
 
-  pub long-found : 32 < getD s (at + 7) 0 → someLong (answersIn s) ≡ true
+  pub long-found : 32 < getD s (at + 7) 0 → someLong (answersIn narrow s) ≡ true
   unfolding someLong
   long-found e =
-      let q : place isLong (answersIn s) ≡ i = scan-found isLong s at i v h k (long-part ∙ lt-ltb 32 (getD s (at + 7) 0) e) in
-      let l : length (answersIn s) ≡ getD s 0 0 = count-is s in
-      lt-ltb (place isLong (answersIn s)) (length (answersIn s)) (omega arith)
+      let q : place isLong (answersIn narrow s) ≡ i = scan-found isLong s at i v h k (long-part ∙ lt-ltb 32 (getD s (at + 7) 0) e) in
+      let l : length (answersIn narrow s) ≡ getD s 0 0 = count-is s in
+      lt-ltb (place isLong (answersIn narrow s)) (length (answersIn narrow s)) (omega arith)
 
-  pub long-next : getD s (at + 7) 0 ≤ 32 → place isLong (answersIn s) ≡ i + 1 + place isLong (drop (i + 1) (answersIn s))
+  pub long-next : getD s (at + 7) 0 ≤ 32 → place isLong (answersIn narrow s) ≡ i + 1 + place isLong (drop (i + 1) (answersIn narrow s))
   long-next e = scan-next isLong s at i v h k (long-part ∙ le-ltb 32 (getD s (at + 7) 0) e)
 
-pub long-none : (s : List ℕ) (i : ℕ) → place isLong (answersIn s) ≡ i + place isLong (drop i (answersIn s)) → i ≤ getD s 0 0 → getD s 0 0 ≤ i → someLong (answersIn s) ≡ false
+pub long-none : (s : List ℕ) (i : ℕ) → place isLong (answersIn narrow s) ≡ i + place isLong (drop i (answersIn narrow s)) → i ≤ getD s 0 0 → getD s 0 0 ≤ i → someLong (answersIn narrow s) ≡ false
 unfolding someLong
 long-none s i v h k =
-    let q : place isLong (answersIn s) ≡ getD s 0 0 = scan-none isLong s i v h k in
-    let l : length (answersIn s) ≡ getD s 0 0 = count-is s in
-    le-ltb (place isLong (answersIn s)) (length (answersIn s)) (omega arith)
+    let q : place isLong (answersIn narrow s) ≡ getD s 0 0 = scan-none isLong s i v h k in
+    let l : length (answersIn narrow s) ≡ getD s 0 0 = count-is s in
+    le-ltb (place isLong (answersIn narrow s)) (length (answersIn narrow s)) (omega arith)
 
 -- where none is too long, each list has at most 32 records
-pub short-answer : (s : List ℕ) (i : ℕ) → someLong (answersIn s) ≡ false → i < getD s 0 0 → lengthIn (getD (answersIn s) i []) ≤ 32
+pub short-answer : (s : List ℕ) (i : ℕ) → someLong (answersIn narrow s) ≡ false → i < getD s 0 0 → lengthIn (getD (answersIn narrow s) i []) ≤ 32
 unfolding someLong isLong
 short-answer s i e h =
-    let l : length (answersIn s) ≡ getD s 0 0 = count-is s in
-    let q : length (answersIn s) ≤ place isLong (answersIn s) = ltb-false (place isLong (answersIn s)) (length (answersIn s)) e in
-    ltb-false 32 (lengthIn (getD (answersIn s) i [])) (place-before isLong (answersIn s) [] i (omega arith))
+    let l : length (answersIn narrow s) ≡ getD s 0 0 = count-is s in
+    let q : length (answersIn narrow s) ≤ place isLong (answersIn narrow s) = ltb-false (place isLong (answersIn narrow s)) (length (answersIn narrow s)) e in
+    ltb-false 32 (lengthIn (getD (answersIn narrow s) i [])) (place-before isLong (answersIn narrow s) [] i (omega arith))

@@ -5,6 +5,7 @@ use mathlib.Core.List.{List}
 use Prim.Native.Nat.{ℕ, _≤_}
 use lib.ListN.{length, getD}
 use Rattle.lists.specs.Lists.{written}
+use Rattle.query.specs.Shape.{shapeOf, narrow}
 use Rattle.rules.specs.Answers.{Entry, lengthIn, listIn}
 
 -- an answers memory that is long enough, and holds no more answers than are kept
@@ -15,4 +16,4 @@ pub record Fit (s : List ℕ) : Type 0 where
 -- r is the number of records of e, and they stand from the tray's start on; what the tray had behind them stays
 pub record Gave (k : ℕ) (e : Entry) (tray : List ℕ) (r : ℕ) (after : List ℕ) : Type 0 where
   pub count : r ≡ lengthIn e
-  pub list : after ≡ written tray 0 (listIn k e)
+  pub list : after ≡ written tray 0 (listIn narrow (shapeOf k) e)

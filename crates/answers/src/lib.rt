@@ -7,6 +7,7 @@ ghost use Prim.Native.Nat.{_≤_, _<_};
 ghost use lib.ListN.{length, getD};
 ghost use Rattle.lists.specs.Lists.{without, allBelow};
 ghost use Rattle.rules.specs.Answers.{hasKeyOf, atLeast, serves, fetchPlace, keyPlace, filed, someLong, lengthIn};
+ghost use Rattle.query.specs.Shape.{narrow};
 ghost use Rattle.rules.specs.Memory.{answersIn, withAnswers};
 ghost use Rattle.answers.specs.AnswerContracts.{Fit, Gave};
 
@@ -24,7 +25,7 @@ fn has_key(e: &[u32], x: &[u32]) -> bool
 // Whether each of e's first n revisions is at least x's.
 fn is_recent(e: &[u32], x: &[u32], n: usize) -> bool
     requires { ⌜ (length (now e) ≡ 152) × ((length (now x) ≡ 152) × (n ≤ 16)) ⌝ }
-    ensures { λ r. ⌜ r ≡ allBelow n (atLeast (now (x .entry)) (now (e .entry))) ⌝ }
+    ensures { λ r. ⌜ r ≡ allBelow n (atLeast narrow (now (x .entry)) (now (e .entry))) ⌝ }
 {
     let mut j = 0;
     while j < n {
@@ -39,7 +40,7 @@ fn is_recent(e: &[u32], x: &[u32], n: usize) -> bool
 // Whether e may be answered with to the client whose own entry x is. Few entries have the key, so it is compared first.
 fn may_serve(e: &[u32], x: &[u32], n: usize) -> bool
     requires { ⌜ (length (now e) ≡ 152) × ((length (now x) ≡ 152) × (n ≤ 16)) ⌝ }
-    ensures { λ r. ⌜ r ≡ serves n (now (x .entry)) (now (e .entry)) ⌝ }
+    ensures { λ r. ⌜ r ≡ serves narrow n (now (x .entry)) (now (e .entry)) ⌝ }
 {
     if has_key(e, x) {
         is_recent(e, x, n)
@@ -51,7 +52,7 @@ fn may_serve(e: &[u32], x: &[u32], n: usize) -> bool
 // The place of the first entry that may be answered with, or the count where none may.
 pub fn fetch(answers: &[u32], entry: &[u32], n: usize) -> usize
     requires { ⌜ Fit (now answers) × ((length (now entry) ≡ 152) × (n ≤ 16)) ⌝ }
-    ensures { λ r. ⌜ r ≡ fetchPlace n (now (entry .entry)) (answersIn (now (answers .entry))) ⌝ }
+    ensures { λ r. ⌜ r ≡ fetchPlace narrow n (now (entry .entry)) (answersIn narrow (now (answers .entry))) ⌝ }
 {
     let count = answers[0] as usize;
     let mut at = 8;
@@ -70,7 +71,7 @@ pub fn fetch(answers: &[u32], entry: &[u32], n: usize) -> usize
 // The place of the first entry that answers the same query, or the count where none does.
 pub fn find_key(answers: &[u32], entry: &[u32]) -> usize
     requires { ⌜ Fit (now answers) × (7 ≤ length (now entry)) ⌝ }
-    ensures { λ r. ⌜ r ≡ keyPlace (now (entry .entry)) (answersIn (now (answers .entry))) ⌝ }
+    ensures { λ r. ⌜ r ≡ keyPlace (now (entry .entry)) (answersIn narrow (now (answers .entry))) ⌝ }
 {
     let count = answers[0] as usize;
     let mut at = 8;
@@ -89,7 +90,7 @@ pub fn find_key(answers: &[u32], entry: &[u32]) -> usize
 // Whether some filed list's length is out of range.
 pub fn some_long(answers: &[u32]) -> bool
     requires { ⌜ Fit (now answers) ⌝ }
-    ensures { λ r. ⌜ r ≡ someLong (answersIn (now (answers .entry))) ⌝ }
+    ensures { λ r. ⌜ r ≡ someLong (answersIn narrow (now (answers .entry))) ⌝ }
 {
     let count = answers[0] as usize;
     let mut at = 8;
@@ -107,7 +108,7 @@ pub fn some_long(answers: &[u32]) -> bool
 // Puts entry in behind the last.
 fn append(answers: &mut [u32], entry: &[u32])
     requires { ⌜ Fit (now answers) × ((length (now entry) ≡ 152) × (getD (now answers) 0 0 < 64)) ⌝ }
-    ensures { λ _. ⌜ now (answers .exit) ≡ withAnswers (now (answers .entry)) (answersIn (now (answers .entry)) ++ (now (entry .entry) ∷ [])) ⌝ }
+    ensures { λ _. ⌜ now (answers .exit) ≡ withAnswers narrow (now (answers .entry)) (answersIn narrow (now (answers .entry)) ++ (now (entry .entry) ∷ [])) ⌝ }
 {
     let count = answers[0];
     let at = 8 + count as usize * 152;
@@ -118,7 +119,7 @@ fn append(answers: &mut [u32], entry: &[u32])
 // Takes the entry at place i out and puts entry in behind the last: the count stays.
 fn replace(answers: &mut [u32], i: usize, entry: &[u32])
     requires { ⌜ Fit (now answers) × ((i < getD (now answers) 0 0) × (length (now entry) ≡ 152)) ⌝ }
-    ensures { λ _. ⌜ now (answers .exit) ≡ withAnswers (now (answers .entry)) (without i (answersIn (now (answers .entry))) ++ (now (entry .entry) ∷ [])) ⌝ }
+    ensures { λ _. ⌜ now (answers .exit) ≡ withAnswers narrow (now (answers .entry)) (without i (answersIn narrow (now (answers .entry))) ++ (now (entry .entry) ∷ [])) ⌝ }
 {
     let end = 8 + answers[0] as usize * 152;
     let at = 8 + i * 152;
@@ -130,7 +131,7 @@ fn replace(answers: &mut [u32], i: usize, entry: &[u32])
 // Files entry: an answer to the same query goes out, failing that the oldest where 64 are kept, and entry goes last.
 pub fn file(answers: &mut [u32], entry: &[u32])
     requires { ⌜ Fit (now answers) × (length (now entry) ≡ 152) ⌝ }
-    ensures { λ _. ⌜ now (answers .exit) ≡ withAnswers (now (answers .entry)) (filed (now (entry .entry)) (answersIn (now (answers .entry)))) ⌝ }
+    ensures { λ _. ⌜ now (answers .exit) ≡ withAnswers narrow (now (answers .entry)) (filed (now (entry .entry)) (answersIn narrow (now (answers .entry)))) ⌝ }
 {
     let count = answers[0] as usize;
     let i = find_key(answers, entry);
@@ -146,7 +147,7 @@ pub fn file(answers: &mut [u32], entry: &[u32])
 // Takes the entry at place i out; the rest close up.
 pub fn evict(answers: &mut [u32], i: usize)
     requires { ⌜ Fit (now answers) × (i < getD (now answers) 0 0) ⌝ }
-    ensures { λ _. ⌜ now (answers .exit) ≡ withAnswers (now (answers .entry)) (without i (answersIn (now (answers .entry)))) ⌝ }
+    ensures { λ _. ⌜ now (answers .exit) ≡ withAnswers narrow (now (answers .entry)) (without i (answersIn narrow (now (answers .entry)))) ⌝ }
 {
     let count = answers[0];
     let end = 8 + count as usize * 152;
@@ -158,7 +159,7 @@ pub fn evict(answers: &mut [u32], i: usize)
 // Takes all entries out. Only what they used is cleared.
 pub fn empty(answers: &mut [u32])
     requires { ⌜ Fit (now answers) ⌝ }
-    ensures { λ _. ⌜ now (answers .exit) ≡ withAnswers (now (answers .entry)) [] ⌝ }
+    ensures { λ _. ⌜ now (answers .exit) ≡ withAnswers narrow (now (answers .entry)) [] ⌝ }
 {
     let n = answers[0] as usize * 152;
     words::clear(&mut answers[8..], n);
@@ -179,8 +180,8 @@ pub fn give_list(entry: &[u32], k: usize, tray: &mut [u32]) -> u32
 
 // The same with the filed answer at place i.
 pub fn give(answers: &[u32], i: usize, k: usize, tray: &mut [u32]) -> u32
-    requires { ⌜ Fit (now answers) × ((i < getD (now answers) 0 0) × ((lengthIn (getD (answersIn (now answers)) i []) ≤ 32) × ((k ≤ 4) × (128 ≤ length (now tray))))) ⌝ }
-    ensures { λ r. ⌜ Gave k (getD (answersIn (now (answers .entry))) i []) (now (tray .entry)) r (now (tray .exit)) ⌝ }
+    requires { ⌜ Fit (now answers) × ((i < getD (now answers) 0 0) × ((lengthIn (getD (answersIn narrow (now answers)) i []) ≤ 32) × ((k ≤ 4) × (128 ≤ length (now tray))))) ⌝ }
+    ensures { λ r. ⌜ Gave k (getD (answersIn narrow (now (answers .entry))) i []) (now (tray .entry)) r (now (tray .exit)) ⌝ }
 {
     let at = 8 + i * 152;
     let end = at + 152;

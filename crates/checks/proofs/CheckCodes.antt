@@ -15,11 +15,13 @@ use Rattle.query.specs.Query.{named, writeCount}
 use Rattle.query.specs.Encoding.{columnOf, queryOf, isQuery, namesAll}
 use Rattle.columns.specs.ColumnContracts.{four}
 use Rattle.columns.proofs.ColumnLoops.{two-more, names-value, names-wildcard}
-use Rattle.rules.specs.Sizes.{maxRecords, maxNodes, maxAnswers, maxClients, trayLeast}
+use Rattle.query.specs.Shape.{shapeOf, narrow}
+use Rattle.rules.specs.Layout.{maxRecords, maxNodes, maxAnswers, trayLeast, reads, inserts}
 use Rattle.rules.specs.Nodes.{isWorn, pending}
 use Rattle.rules.specs.Answers.{someLong}
-use Rattle.rules.specs.Client.{Client, kind, steps, isIdle, isBad, reads, inserts}
-use Rattle.rules.specs.Memory.{Mem, columnsAt, clientIn, storeIn, answersIn}
+use Rattle.rules.specs.Client.{Client, kind, steps, isIdle, isBad}
+use Rattle.rules.specs.Memory.{Mem, clientIn, storeIn, answersIn}
+use Rattle.rules.specs.Refusals.{shape}
 use Rattle.rules.specs.Refusals.{columns, client, isShort, badColumns, badQuery, isUnsound, noClient, isCommitted, allIdle, atClient, beginCode, stepCode, abandonCode, evictAnswerCode, evictNodeCode, renewCode}
 use Rattle.clients.specs.ClientContracts.{idleAt}
 use Rattle.clients.proofs.ClientSound.{length-query, kind-busy, none-idle}
@@ -29,42 +31,42 @@ use Rattle.checks.specs.CheckContracts.{soundCode, recordCode}
 -- ---- Unsound memories
 module _ (m : Mem) where
   pub unsound-none : getD (m .clients) 0 0 ≡ 0 → true ≡ isUnsound m
-  unfolding isUnsound badColumns columns columnsAt
+  unfolding isUnsound badColumns
   unsound-none a = rw a
 
   module _ (a : getD (m .clients) 0 0 ≡ 0 → ⊥) where
     pub unsound-many : 4 < getD (m .clients) 0 0 → true ≡ isUnsound m
-    unfolding isUnsound badColumns columns columnsAt
+    unfolding isUnsound badColumns
     unsound-many b = rw (ne-eqb _ _ a, lt-ltb _ _ b)
 
     module _ (b : getD (m .clients) 0 0 ≤ 4) where
       pub unsound-records : maxRecords < getD (m .table) 0 0 → true ≡ isUnsound m
-      unfolding isUnsound badColumns columns columnsAt
+      unfolding isUnsound badColumns
       unsound-records c = rw (ne-eqb _ _ a, le-ltb _ _ b, lt-ltb _ _ c)
 
       module _ (c : getD (m .table) 0 0 ≤ maxRecords) where
         pub unsound-nodes : maxNodes < getD (m .nodes) 1 0 → true ≡ isUnsound m
-        unfolding isUnsound badColumns columns columnsAt
+        unfolding isUnsound badColumns
         unsound-nodes d = rw (ne-eqb _ _ a, le-ltb _ _ b, le-ltb _ _ c, lt-ltb _ _ d)
 
         module _ (d : getD (m .nodes) 1 0 ≤ maxNodes) where
           pub unsound-answers : maxAnswers < getD (m .answers) 0 0 → true ≡ isUnsound m
-          unfolding isUnsound badColumns columns columnsAt
+          unfolding isUnsound badColumns
           unsound-answers e = rw (ne-eqb _ _ a, le-ltb _ _ b, le-ltb _ _ c, le-ltb _ _ d, lt-ltb _ _ e)
 
-          pub unsound-lists : (r : Bool) → getD (m .answers) 0 0 ≤ maxAnswers → r ≡ someLong (answersIn (m .answers)) → r ≡ isUnsound m
-          unfolding isUnsound badColumns columns columnsAt
+          pub unsound-lists : (r : Bool) → getD (m .answers) 0 0 ≤ maxAnswers → r ≡ someLong (answersIn narrow (m .answers)) → r ≡ isUnsound m
+          unfolding isUnsound badColumns
           unsound-lists r e f = rw (ne-eqb _ _ a, le-ltb _ _ b, le-ltb _ _ c, le-ltb _ _ d, le-ltb _ _ e, f)
 
-  pub sound-short : true ≡ isShort m → 1 ≡ soundCode m
+  pub sound-short : true ≡ isShort narrow (shape m) m → 1 ≡ soundCode m
   unfolding soundCode
   sound-short a = rw (← a)
 
-  pub sound-not : false ≡ isShort m → true ≡ isUnsound m → 3 ≡ soundCode m
+  pub sound-not : false ≡ isShort narrow (shape m) m → true ≡ isUnsound m → 3 ≡ soundCode m
   unfolding soundCode
   sound-not a b = rw (← a, ← b)
 
-  pub sound-fine : false ≡ isShort m → false ≡ isUnsound m → 0 ≡ soundCode m
+  pub sound-fine : false ≡ isShort narrow (shape m) m → false ≡ isUnsound m → 0 ≡ soundCode m
   unfolding soundCode
   sound-fine a b = rw (← a, ← b)
 
@@ -80,18 +82,18 @@ module _ (m : Mem) (d : ℕ) where
     client-none b = rw (← a, le-leb 12 d b)
 
     module _ (b : d < 12) where
-      pub client-bad : true ≡ isBad (getD (m .clients) 0 0) (clientIn (m .clients) d) → 3 ≡ atClient m d
-      unfolding atClient noClient columns columnsAt client
+      pub client-bad : true ≡ isBad narrow (shapeOf (getD (m .clients) 0 0)) (clientIn narrow (m .clients) d) → 3 ≡ atClient m d
+      unfolding atClient noClient client
       client-bad c = rw (← a, lt-leb 12 d b, ← c)
 
-      module _ (c : false ≡ isBad (getD (m .clients) 0 0) (clientIn (m .clients) d)) where
-        pub client-idle : (x : ℕ) → x ≡ kind (clientIn (m .clients) d) → x ≡ 0 → 6 ≡ atClient m d
-        unfolding atClient noClient columns columnsAt client
+      module _ (c : false ≡ isBad narrow (shapeOf (getD (m .clients) 0 0)) (clientIn narrow (m .clients) d)) where
+        pub client-idle : (x : ℕ) → x ≡ kind (clientIn narrow (m .clients) d) → x ≡ 0 → 6 ≡ atClient m d
+        unfolding atClient noClient client
         client-idle x e h = rw (← a, lt-leb 12 d b, ← c, ← none-idle _ _ c (sym e ∙ h))
 
-        pub client-busy : (x : ℕ) → x ≡ kind (clientIn (m .clients) d) → (x ≡ 0 → ⊥) → 0 ≡ atClient m d
-        unfolding atClient noClient columns columnsAt client
-        client-busy x e h = rw (← a, lt-leb 12 d b, ← c, kind-busy (clientIn (m .clients) d) (λ z. h (e ∙ z)))
+        pub client-busy : (x : ℕ) → x ≡ kind (clientIn narrow (m .clients) d) → (x ≡ 0 → ⊥) → 0 ≡ atClient m d
+        unfolding atClient noClient client
+        client-busy x e h = rw (← a, lt-leb 12 d b, ← c, kind-busy (clientIn narrow (m .clients) d) (λ z. h (e ∙ z)))
 
 -- ---- Begins
 -- the record of an insert, column after column
@@ -132,16 +134,16 @@ unfolding recordCode
 record-end a from t h = rw (t, no-column (drop from a) (rw length-drop (omega arith)))
 
 module _ (k x : ℕ) (a : List ℕ) where
-  pub query-not : (r : Bool) → r ≡ isQuery k a → not r ≡ true → true ≡ badQuery k x a
+  pub query-not : (r : Bool) → r ≡ isQuery (shapeOf k) a → not r ≡ true → true ≡ badQuery (shapeOf k) x a
   unfolding badQuery
   query-not r e h = rw (← e, not-true r h)
 
-  module _ (r : Bool) (e : r ≡ isQuery k a) (h : not r ≡ false) where
-    pub query-plain : (x ≡ 2 → ⊥) → false ≡ badQuery k x a
+  module _ (r : Bool) (e : r ≡ isQuery (shapeOf k) a) (h : not r ≡ false) where
+    pub query-plain : (x ≡ 2 → ⊥) → false ≡ badQuery (shapeOf k) x a
     unfolding badQuery
     query-plain n = rw (← e, not-false r h, ne-eqb x inserts n)
 
-    pub query-record : (n : ℕ) → n ≡ recordCode a → x ≡ 2 → not (eqb n 0) ≡ badQuery k x a
+    pub query-record : (n : ℕ) → n ≡ recordCode a → x ≡ 2 → not (eqb n 0) ≡ badQuery (shapeOf k) x a
     unfolding badQuery recordCode
     query-record n c i = rw (← e, not-false r h, eq-eqb x inserts i, c) (go (namesAll (queryOf a)))
       where
@@ -161,21 +163,21 @@ begin-found false false false true r = refl
 begin-found false false false false r = refl
 
 module _ (m : Mem) (x d : ℕ) (a : List ℕ) where
-  pub begin-short : true ≡ isShort m → 1 ≡ beginCode m x d a
+  pub begin-short : true ≡ isShort narrow (shape m) m → 1 ≡ beginCode m x d a
   unfolding beginCode
   begin-short s = rw (← s)
 
-  module _ (s : false ≡ isShort m) where
-    pub begin-query : true ≡ badQuery (getD (m .clients) 0 0) x a → 2 ≡ beginCode m x d a
-    unfolding beginCode columns columnsAt
+  module _ (s : false ≡ isShort narrow (shape m) m) where
+    pub begin-query : true ≡ badQuery (shapeOf (getD (m .clients) 0 0)) x a → 2 ≡ beginCode m x d a
+    unfolding beginCode
     begin-query q = rw (← s, ← q)
 
-    module _ (q : false ≡ badQuery (getD (m .clients) 0 0) x a) (n : ℕ) (f : n ≡ atClient m d) where
-      begin-rest : cond (eqb n 0) 5 (cond (eqb n 6) (cond (not (eqb x reads) && isWorn (storeIn (m .nodes))) 10 0) n) ≡ beginCode m x d a
-      unfolding beginCode atClient columns columnsAt
+    module _ (q : false ≡ badQuery (shapeOf (getD (m .clients) 0 0)) x a) (n : ℕ) (f : n ≡ atClient m d) where
+      begin-rest : cond (eqb n 0) 5 (cond (eqb n 6) (cond (not (eqb x reads) && isWorn narrow (shape m) (storeIn (m .nodes))) 10 0) n) ≡ beginCode m x d a
+      unfolding beginCode atClient
       begin-rest = rw (← s, ← q, f)
-          (sym (begin-found (isUnsound m) (noClient d) (isBad (getD (m .clients) 0 0) (client m d)) (isIdle (client m d))
-          (cond (not (eqb x reads) && isWorn (storeIn (m .nodes))) 10 0)))
+          (sym (begin-found (isUnsound m) (noClient d) (isBad narrow (shapeOf (getD (m .clients) 0 0)) (client m d)) (isIdle narrow (client m d))
+          (cond (not (eqb x reads) && isWorn narrow (shape m) (storeIn (m .nodes))) 10 0)))
 
       pub begin-busy : n ≡ 0 → 5 ≡ beginCode m x d a
       begin-busy h = rw h at begin-rest
@@ -184,57 +186,57 @@ module _ (m : Mem) (x d : ℕ) (a : List ℕ) where
       begin-other h g = rw (ne-eqb n 0 h, ne-eqb n 6 g) at begin-rest
 
       module _ (g : n ≡ 6) where
-        begin-free : cond (not (eqb x reads) && isWorn (storeIn (m .nodes))) 10 0 ≡ beginCode m x d a
+        begin-free : cond (not (eqb x reads) && isWorn narrow (shape m) (storeIn (m .nodes))) 10 0 ≡ beginCode m x d a
         begin-free = rw g at begin-rest
 
         pub begin-read : x ≡ 1 → 0 ≡ beginCode m x d a
         begin-read h = rw (eq-eqb x reads h) at begin-free
 
-        pub begin-worn : (x ≡ 1 → ⊥) → true ≡ isWorn (storeIn (m .nodes)) → 10 ≡ beginCode m x d a
+        pub begin-worn : (x ≡ 1 → ⊥) → true ≡ isWorn narrow (shape m) (storeIn (m .nodes)) → 10 ≡ beginCode m x d a
         begin-worn h w = rw (ne-eqb x reads h, ← w) at begin-free
 
-        pub begin-write : (x ≡ 1 → ⊥) → false ≡ isWorn (storeIn (m .nodes)) → 0 ≡ beginCode m x d a
+        pub begin-write : (x ≡ 1 → ⊥) → false ≡ isWorn narrow (shape m) (storeIn (m .nodes)) → 0 ≡ beginCode m x d a
         begin-write h w = rw (ne-eqb x reads h, ← w) at begin-free
 
 -- ---- Steps and abandonings
 module _ (m : Mem) (tray : List ℕ) (d : ℕ) where
-  pub step-short : true ≡ isShort m → 1 ≡ stepCode m tray d
+  pub step-short : true ≡ isShort narrow (shape m) m → 1 ≡ stepCode m tray d
   unfolding stepCode
   step-short s = rw (← s)
 
-  pub step-tray : false ≡ isShort m → length tray < trayLeast → 1 ≡ stepCode m tray d
+  pub step-tray : false ≡ isShort narrow (shape m) m → length tray < trayLeast → 1 ≡ stepCode m tray d
   unfolding stepCode
   step-tray s t = rw (← s, lt-ltb _ _ t)
 
-  pub step-found : (n : ℕ) → false ≡ isShort m → trayLeast ≤ length tray → n ≡ atClient m d → n ≡ stepCode m tray d
+  pub step-found : (n : ℕ) → false ≡ isShort narrow (shape m) m → trayLeast ≤ length tray → n ≡ atClient m d → n ≡ stepCode m tray d
   unfolding stepCode
   step-found n s t f = rw (← s, le-ltb _ _ t, f)
 
 module _ (k : ℕ) (c : Client) (x : ℕ) (e : x ≡ kind c) where
-  pub committed-read : x ≡ 1 → false ≡ isCommitted k c
+  pub committed-read : x ≡ 1 → false ≡ isCommitted (shapeOf k) c
   unfolding isCommitted
   committed-read h = rw (eq-eqb (kind c) reads (sym e ∙ h))
 
-  pub committed-write : (n p : ℕ) → n ≡ steps c → p ≡ 2 ^ k → (x ≡ 1 → ⊥) → ltb p n ≡ isCommitted k c
+  pub committed-write : (n p : ℕ) → n ≡ steps c → p ≡ 2 ^ k → (x ≡ 1 → ⊥) → ltb p n ≡ isCommitted (shapeOf k) c
   unfolding isCommitted writeCount
   committed-write n p s q h = rw (ne-eqb (kind c) reads (λ z. h (e ∙ z)), length-query k c, s, q)
 
 module _ (m : Mem) (d : ℕ) where
-  pub abandon-short : true ≡ isShort m → 1 ≡ abandonCode m d
+  pub abandon-short : true ≡ isShort narrow (shape m) m → 1 ≡ abandonCode m d
   unfolding abandonCode
   abandon-short s = rw (← s)
 
-  module _ (s : false ≡ isShort m) (n : ℕ) (f : n ≡ atClient m d) where
+  module _ (s : false ≡ isShort narrow (shape m) m) (n : ℕ) (f : n ≡ atClient m d) where
     pub abandon-found : (n ≡ 0 → ⊥) → n ≡ abandonCode m d
     unfolding abandonCode
     abandon-found h = rw (← s, ← f, ne-eqb n 0 h)
 
-    pub abandon-committed : n ≡ 0 → true ≡ isCommitted (getD (m .clients) 0 0) (clientIn (m .clients) d) → 7 ≡ abandonCode m d
-    unfolding abandonCode columns columnsAt client
+    pub abandon-committed : n ≡ 0 → true ≡ isCommitted (shapeOf (getD (m .clients) 0 0)) (clientIn narrow (m .clients) d) → 7 ≡ abandonCode m d
+    unfolding abandonCode client
     abandon-committed h c = rw (← s, ← f, eq-eqb n 0 h, ← c)
 
-    pub abandon-fine : n ≡ 0 → false ≡ isCommitted (getD (m .clients) 0 0) (clientIn (m .clients) d) → 0 ≡ abandonCode m d
-    unfolding abandonCode columns columnsAt client
+    pub abandon-fine : n ≡ 0 → false ≡ isCommitted (shapeOf (getD (m .clients) 0 0)) (clientIn narrow (m .clients) d) → 0 ≡ abandonCode m d
+    unfolding abandonCode client
     abandon-fine h c = rw (← s, ← f, eq-eqb n 0 h, ← c)
 
 -- ---- Evictions and renewals: after the memories' own number, the rest
@@ -244,14 +246,14 @@ module _ (m : Mem) (n : ℕ) (e : n ≡ soundCode m) where
   sound-first false true r = refl
   sound-first false false r = refl
 
-  sound-rest : (r : ℕ) → cond (isShort m) 1 (cond (isUnsound m) 3 r) ≡ cond (eqb n 0) r n
+  sound-rest : (r : ℕ) → cond (isShort narrow (shape m) m) 1 (cond (isUnsound m) 3 r) ≡ cond (eqb n 0) r n
   unfolding soundCode
-  sound-rest r = rw e (sound-first (isShort m) (isUnsound m) r)
+  sound-rest r = rw e (sound-first (isShort narrow (shape m) m) (isUnsound m) r)
 
-  sound-out : (r : ℕ) → (n ≡ 0 → ⊥) → n ≡ cond (isShort m) 1 (cond (isUnsound m) 3 r)
+  sound-out : (r : ℕ) → (n ≡ 0 → ⊥) → n ≡ cond (isShort narrow (shape m) m) 1 (cond (isUnsound m) 3 r)
   sound-out r h = rw (sound-rest r, ne-eqb n 0 h)
 
-  sound-on : (r : ℕ) → n ≡ 0 → r ≡ cond (isShort m) 1 (cond (isUnsound m) 3 r)
+  sound-on : (r : ℕ) → n ≡ 0 → r ≡ cond (isShort narrow (shape m) m) 1 (cond (isUnsound m) 3 r)
   sound-on r h = rw (sound-rest r, eq-eqb n 0 h)
 
   module _ (i : ℕ) where

@@ -4,17 +4,18 @@ use mathlib.Core.Path.{_≡_}
 use Prim.Native.Nat.{ℕ, _≤_, _<_}
 use lib.ListN.{getD}
 use Rattle.laws.proofs.TestLaws.{passed}
-use Rattle.rules.specs.Memory.{Mem, columnsAt}
+use Rattle.rules.specs.Memory.{Mem}
 use Rattle.rules.specs.Refusals.{columns, isShort, isUnsound}
+use Rattle.rules.specs.Refusals.{shape}
 use Rattle.rules.proofs.PassedChecks.{Sound, sound}
 use Rattle.nodes.specs.NodeContracts as nodes
 use Rattle.answers.specs.AnswerContracts as answers
 use Rattle.clients.specs.ClientContracts as client-contracts
 use Rattle.checks.specs.CheckContracts.{soundCode}
+use Rattle.query.specs.Shape.{narrow}
 
 module _ (m : Mem) (s : Sound m) where
   pub columns-range : (1 ≤ getD (m .clients) 0 0) × (getD (m .clients) 0 0 ≤ 4)
-  unfolding columns columnsAt
   columns-range = (s .least, s .most)
 
   pub nodes-fit : nodes.Fit (m .nodes)
@@ -29,5 +30,5 @@ module _ (m : Mem) (s : Sound m) where
 pub sound-memories : (m : Mem) → soundCode m ≡ 0 → Sound m
 unfolding soundCode
 sound-memories m e =
-    let p = passed (isShort m) 0 _ e in
+    let p = passed (isShort narrow (shape m) m) 0 _ e in
     sound m (p .0) (passed (isUnsound m) 2 _ (p .1) .0)

@@ -6,6 +6,8 @@ ghost use mathlib.Core.Path.{_≡_};
 ghost use mathlib.Core.Bool.{false};
 ghost use Prim.Native.Nat.{_≤_};
 ghost use Rattle.rules.specs.Memory.{mem, clientIn};
+ghost use Rattle.query.specs.Shape.{narrow, shapeOf};
+ghost use Rattle.rules.specs.Refusals.{shape};
 ghost use Rattle.rules.specs.Refusals.{isShort, badQuery, isUnsound, isCommitted, atClient, beginCode, stepCode, abandonCode, evictAnswerCode, evictNodeCode, renewCode};
 ghost use Rattle.clients.specs.ClientContracts.{Fit};
 ghost use Rattle.checks.specs.CheckContracts.{soundCode, recordCode};
@@ -13,7 +15,7 @@ ghost use Rattle.checks.specs.CheckContracts.{soundCode, recordCode};
 // ---- The memories
 // Whether k, an entry count or a filed list's length is out of range. Reads each memory once.
 pub fn is_unsound(table: &[u32], nodes: &[u32], answers: &[u32], clients: &[u32]) -> bool
-    requires { ⌜ isShort (mem (now table) (now nodes) (now answers) (now clients)) ≡ false ⌝ }
+    requires { ⌜ isShort narrow (shape (mem (now table) (now nodes) (now answers) (now clients))) (mem (now table) (now nodes) (now answers) (now clients)) ≡ false ⌝ }
     ensures { λ r. ⌜ r ≡ isUnsound (mem (now (table .entry)) (now (nodes .entry)) (now (answers .entry)) (now (clients .entry))) ⌝ }
 {
     let k = clients[0];
@@ -50,7 +52,7 @@ fn sound_code(table: &[u32], nodes: &[u32], answers: &[u32], clients: &[u32]) ->
 
 // What a call finds at client d of long memories: 3 unsound, 4 no such client, 6 idle, 0 busy.
 pub fn at_client(table: &[u32], nodes: &[u32], answers: &[u32], clients: &[u32], d: u32) -> u32
-    requires { ⌜ isShort (mem (now table) (now nodes) (now answers) (now clients)) ≡ false ⌝ }
+    requires { ⌜ isShort narrow (shape (mem (now table) (now nodes) (now answers) (now clients))) (mem (now table) (now nodes) (now answers) (now clients)) ≡ false ⌝ }
     ensures { λ r. ⌜ r ≡ atClient (mem (now (table .entry)) (now (nodes .entry)) (now (answers .entry)) (now (clients .entry))) d ⌝ }
 {
     if is_unsound(table, nodes, answers, clients) {
@@ -90,7 +92,7 @@ fn record_code(asked: &[u32]) -> u32
 
 // Whether what arrives is no query of k columns, or an insert with a wildcard.
 fn bad_query(k: u32, kind: u32, asked: &[u32]) -> bool
-    ensures { λ r. ⌜ r ≡ badQuery k kind (now (asked .entry)) ⌝ }
+    ensures { λ r. ⌜ r ≡ badQuery (shapeOf k) kind (now (asked .entry)) ⌝ }
 {
     if !columns::is_query(asked, k) {
         return true;
@@ -158,7 +160,7 @@ pub fn step_code(
 // Whether a write has made its table step: it has made more steps than it has nodes to mark.
 fn is_committed(clients: &[u32], d: usize, k: usize) -> bool
     requires { ⌜ Fit (now clients) d × (k ≤ 4) ⌝ }
-    ensures { λ r. ⌜ r ≡ isCommitted k (clientIn (now (clients .entry)) d) ⌝ }
+    ensures { λ r. ⌜ r ≡ isCommitted (shapeOf k) (clientIn narrow (now (clients .entry)) d) ⌝ }
 {
     if clients::kind_of(clients, d) == 1 {
         return false;

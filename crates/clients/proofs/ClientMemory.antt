@@ -9,7 +9,8 @@ use lib.Seq.{length-take-le, getD-take, getD-drop, drop-drop, take-take, drop-ap
 use borrow.Rule.Slice.PartMut.{putMid}
 use Rattle.lists.specs.Lists.{written}
 use Rattle.laws.proofs.WrittenLaws.{mid-written, drop-take, length-written, written-over, written-self, set-inside}
-use Rattle.rules.specs.Memory.{columnsAt, clientIn, withClient}
+use Rattle.rules.specs.Memory.{clientIn, withClient}
+use Rattle.query.specs.Shape.{narrow}
 use Rattle.rules.proofs.ClientLaws as rules
 use Rattle.clients.specs.ClientContracts.{Fit}
 
@@ -41,11 +42,11 @@ part-cleared s at end n t e h k =
 
 -- ---- what is read
 module _ (s : List ℕ) (d : ℕ) where
-  pub word-at : (j : ℕ) → j < 157 → getD (clientIn s d) j 0 ≡ getD s (8 + d * 157 + j) 0
+  pub word-at : (j : ℕ) → j < 157 → getD (clientIn narrow s d) j 0 ≡ getD s (8 + d * 157 + j) 0
   unfolding clientIn
   word-at j h = getD-take 157 (drop (8 + d * 157) s) j 0 h ∙ getD-drop (8 + d * 157) s j 0
 
-  pub part-at : (j n : ℕ) → j + n ≤ 157 → take n (drop j (clientIn s d)) ≡ take n (drop (8 + d * 157 + j) s)
+  pub part-at : (j n : ℕ) → j + n ≤ 157 → take n (drop j (clientIn narrow s d)) ≡ take n (drop (8 + d * 157 + j) s)
   unfolding clientIn
   part-at j n h =
       ap (take n) (drop-take j 157 (drop (8 + d * 157) s)) ∙ take-take n (157 - j) (drop j (drop (8 + d * 157) s)) (omega arith)
@@ -55,39 +56,36 @@ module _ (s : List ℕ) (d : ℕ) (f : Fit s d) where
   pub client-room : 8 + d * 157 + 157 ≤ length s
   client-room = omega arith
 
-  pub length-client : length (clientIn s d) ≡ 157
+  pub length-client : length (clientIn narrow s d) ≡ 157
   length-client = rules.client-wide s d client-room
 
-  pub with-self : withClient s d (clientIn s d) ≡ s
+  pub with-self : withClient narrow s d (clientIn narrow s d) ≡ s
   unfolding clientIn withClient
   with-self = written-self s (8 + d * 157) 157 client-room
 
 -- ---- what a changed client leaves
 module _ (s : List ℕ) (d : ℕ) (f : Fit s d) (c : List ℕ) (n : length c ≡ 157) where
-  pub length-kept : length (withClient s d c) ≡ length s
+  pub length-kept : length (withClient narrow s d c) ≡ length s
   length-kept = rules.length-with s d c n (client-room s d f)
 
-  pub fit-kept : (e : ℕ) → e < 12 → Fit (withClient s d c) e
+  pub fit-kept : (e : ℕ) → e < 12 → Fit (withClient narrow s d c) e
   fit-kept e h = let l = length-kept in record { long = omega arith; below = h }
 
-  pub client-same : clientIn (withClient s d c) d ≡ c
+  pub client-same : clientIn narrow (withClient narrow s d c) d ≡ c
   client-same = rules.client-same s d c n (client-room s d f)
 
-  pub client-other : (e : ℕ) → (e ≡ d → ⊥) → clientIn (withClient s d c) e ≡ clientIn s e
+  pub client-other : (e : ℕ) → (e ≡ d → ⊥) → clientIn narrow (withClient narrow s d c) e ≡ clientIn narrow s e
   client-other e h = rules.client-other s d c n (client-room s d f) e h
 
-  pub columns-kept : columnsAt (withClient s d c) ≡ columnsAt s
-  columns-kept = rules.columns-with s d c n (client-room s d f)
-
-  pub with-twice : (v : List ℕ) → length v ≡ 157 → withClient (withClient s d c) d v ≡ withClient s d v
+  pub with-twice : (v : List ℕ) → length v ≡ 157 → withClient narrow (withClient narrow s d c) d v ≡ withClient narrow s d v
   unfolding withClient
   with-twice v m = written-over s (8 + d * 157) c v (omega arith) (omega arith)
 
   -- one number more of it stored, and some
-  pub with-word : (j x : ℕ) → j < 157 → set (withClient s d c) (8 + d * 157 + j) x ≡ withClient s d (set c j x)
+  pub with-word : (j x : ℕ) → j < 157 → set (withClient narrow s d c) (8 + d * 157 + j) x ≡ withClient narrow s d (set c j x)
   unfolding withClient
   with-word j x h = sym (set-inside s (8 + d * 157) c j x (omega arith) (omega arith))
 
-  pub with-words : (j : ℕ) (v : List ℕ) → j + length v ≤ 157 → written (withClient s d c) (8 + d * 157 + j) v ≡ withClient s d (written c j v)
+  pub with-words : (j : ℕ) (v : List ℕ) → j + length v ≤ 157 → written (withClient narrow s d c) (8 + d * 157 + j) v ≡ withClient narrow s d (written c j v)
   unfolding withClient
   with-words j v h = written-inside s (8 + d * 157) c j v (omega arith) (omega arith)

@@ -14,29 +14,30 @@ use Rattle.rules.specs.Answers.{keyIn, lengthIn, listIn}
 use Rattle.rules.specs.Client.{Client, entryOf, isIdle, idle, queryAt}
 use Rattle.rules.specs.Memory.{Mem, clientIn}
 use Rattle.rules.specs.Refusals.{client, allIdle}
+use Rattle.query.specs.Shape.{narrow, shapeOf}
 use Rattle.rules.proofs.ClientLaws.{list-room}
 use Rattle.clients.specs.ClientContracts.{Fit, idleAt}
 use Rattle.clients.proofs.ClientMemory.{length-client, part-at}
 
 -- ---- idleness
-part-client : (s : List ℕ) (d : ℕ) → take (8 + d * 157 + 157 - (8 + d * 157)) (drop (8 + d * 157) s) ≡ clientIn s d
+part-client : (s : List ℕ) (d : ℕ) → take (8 + d * 157 + 157 - (8 + d * 157)) (drop (8 + d * 157) s) ≡ clientIn narrow s d
 unfolding clientIn
 part-client s d = let m : 8 + d * 157 + 157 - (8 + d * 157) ≡ 157 = omega arith in rw m
 
 module _ (s : List ℕ) (d : ℕ) where
   pub idle-read : (r : Bool) → Fit s d
       → r ≡ same (take (8 + d * 157 + 157 - (8 + d * 157)) (drop (8 + d * 157) s)) (replicate (length (take (8 + d * 157 + 157 - (8 + d * 157)) (drop (8 + d * 157) s))) 0)
-      → r ≡ isIdle (clientIn s d)
+      → r ≡ isIdle narrow (clientIn narrow s d)
   unfolding isIdle idle
   idle-read r f e = e ∙ rw (part-client s d, length-client s d f)
 
   -- the search for a busy client
-  pub idle-next : (r : Bool) → r ≡ isIdle (clientIn s d) → not r ≡ false → allBelow d (idleAt s) ≡ true → allBelow (d + 1) (idleAt s) ≡ true
+  pub idle-next : (r : Bool) → r ≡ isIdle narrow (clientIn narrow s d) → not r ≡ false → allBelow d (idleAt s) ≡ true → allBelow (d + 1) (idleAt s) ≡ true
   unfolding idleAt
   idle-next true e h k = below-next d (idleAt s) k (sym e)
   idle-next false e h k = cc
 
-  pub idle-stops : (r : Bool) (n : ℕ) → r ≡ isIdle (clientIn s d) → not r ≡ true → d < n → false ≡ allBelow n (idleAt s)
+  pub idle-stops : (r : Bool) (n : ℕ) → r ≡ isIdle narrow (clientIn narrow s d) → not r ≡ true → d < n → false ≡ allBelow n (idleAt s)
   unfolding idleAt
   idle-stops true n e h k = cc
   idle-stops false n e h k = sym (below-not n (idleAt s) d k (sym e))
@@ -50,7 +51,7 @@ unfolding allIdle idleAt client
 all-idle m = refl
 
 -- ---- the query
-pub key-read : (s : List ℕ) (d : ℕ) → take (8 + d * 157 + 5 + 7 - (8 + d * 157 + 5)) (drop (8 + d * 157 + 5) s) ≡ keyIn (entryOf (clientIn s d))
+pub key-read : (s : List ℕ) (d : ℕ) → take (8 + d * 157 + 5 + 7 - (8 + d * 157 + 5)) (drop (8 + d * 157 + 5) s) ≡ keyIn (entryOf (clientIn narrow s d))
 unfolding keyIn entryOf
 key-read s d =
     let n : 8 + d * 157 + 5 + 7 - (8 + d * 157 + 5) ≡ 7 = omega arith in
@@ -64,12 +65,12 @@ values-in : (c : Client) → drop 1 (keyIn (entryOf c)) ≡ take 6 (drop 6 c)
 unfolding keyIn entryOf
 values-in c = drop-take 1 7 (drop 5 c) ∙ ap (take 6) (drop-drop 1 5 c)
 
-pub columns-read : (s : List ℕ) (d k m : ℕ) → m ≡ getD (clientIn s d) 5 0
-    → columnsIn k m (take (8 + d * 157 + 6 + 6 - (8 + d * 157 + 6)) (drop (8 + d * 157 + 6) s)) ≡ queryAt k (clientIn s d)
+pub columns-read : (s : List ℕ) (d k m : ℕ) → m ≡ getD (clientIn narrow s d) 5 0
+    → columnsIn k m (take (8 + d * 157 + 6 + 6 - (8 + d * 157 + 6)) (drop (8 + d * 157 + 6) s)) ≡ queryAt (shapeOf k) (clientIn narrow s d)
 unfolding queryAt queryIn
 columns-read s d k m e =
     let n : 8 + d * 157 + 6 + 6 - (8 + d * 157 + 6) ≡ 6 = omega arith in
-    rw (n, e, ← part-at s d 6 6 (omega arith), ← marks-in (clientIn s d), ← values-in (clientIn s d))
+    rw (n, e, ← part-at s d 6 6 (omega arith), ← marks-in (clientIn narrow s d), ← values-in (clientIn narrow s d))
 
 -- ---- the list
 pub length-read : (c : Client) → getD c 12 0 ≡ lengthIn (entryOf c)
@@ -79,11 +80,11 @@ length-read c = sym (getD-drop 5 c 7 0)
 pub list-fits : (c : Client) (n k : ℕ) → n ≡ getD c 12 0 → lengthIn (entryOf c) ≤ 32 → k ≤ 4 → n * k ≤ 128
 list-fits c n k e h g = let l = length-read c in list-room n k (omega arith) g
 
-pub list-read : (s : List ℕ) (d k n : ℕ) → n ≡ getD (clientIn s d) 12 0 → n * k ≤ 128
-    → take (8 + d * 157 + 29 + n * k - (8 + d * 157 + 29)) (drop (8 + d * 157 + 29) s) ≡ listIn k (entryOf (clientIn s d))
+pub list-read : (s : List ℕ) (d k n : ℕ) → n ≡ getD (clientIn narrow s d) 12 0 → n * k ≤ 128
+    → take (8 + d * 157 + 29 + n * k - (8 + d * 157 + 29)) (drop (8 + d * 157 + 29) s) ≡ listIn narrow (shapeOf k) (entryOf (clientIn narrow s d))
 unfolding listIn
 list-read s d k n e h =
     let m : 8 + d * 157 + 29 + n * k - (8 + d * 157 + 29) ≡ n * k = omega arith in
-    let l : n ≡ lengthIn (entryOf (clientIn s d)) = e ∙ length-read (clientIn s d) in
-    let g : drop 24 (entryOf (clientIn s d)) ≡ drop 29 (clientIn s d) = unfold entryOf in drop-drop 24 5 (clientIn s d) in
+    let l : n ≡ lengthIn (entryOf (clientIn narrow s d)) = e ∙ length-read (clientIn narrow s d) in
+    let g : drop 24 (entryOf (clientIn narrow s d)) ≡ drop 29 (clientIn narrow s d) = unfold entryOf in drop-drop 24 5 (clientIn narrow s d) in
     rw (m, ← l, g) (sym (part-at s d 29 (n * k) (omega arith)))

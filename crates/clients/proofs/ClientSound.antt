@@ -18,9 +18,11 @@ use Rattle.query.proofs.NodeLists.{named-most, read-count-most, write-count-mos
 use Rattle.query.proofs.EncodingLaws.{query-in-length}
 use Rattle.columns.specs.ColumnContracts.{four}
 use Rattle.columns.proofs.ColumnLoops.{four-back}
-use Rattle.rules.specs.Sizes.{maxList}
+use Rattle.rules.specs.Layout.{maxList}
 use Rattle.rules.specs.Answers.{keyIn, lengthIn}
-use Rattle.rules.specs.Client.{Client, kind, steps, entryOf, inserts, idle, isIdle, queryAt, stepsInAll, isBad}
+use Rattle.rules.specs.Client.{Client, kind, steps, entryOf, idle, isIdle, queryAt, stepsInAll, isBad}
+use Rattle.rules.specs.Layout.{inserts}
+use Rattle.query.specs.Shape.{narrow, shapeOf}
 use Rattle.rules.proofs.ClientLaws.{busy-of}
 
 -- ---- counts of nodes
@@ -33,13 +35,13 @@ named-small n k cols e l h =
     let t : length (take k cols) ≡ k = length-take-le k cols l in
     omega arith
 
-pub length-query : (k : ℕ) (c : Client) → length (queryAt k c) ≡ k
+pub length-query : (k : ℕ) (c : Client) → length (queryAt (shapeOf k) c) ≡ k
 unfolding queryAt
-length-query k c = query-in-length k (keyIn (entryOf c))
+length-query k c = query-in-length (shapeOf k) (keyIn (entryOf c))
 
 -- the columns that are read are the client's query
-pub columns-back : (k : ℕ) (c : Client) (cols : List Column) → cols ≡ four (queryAt k c) → take k cols ≡ queryAt k c
-columns-back k c cols e = ap (take k) e ∙ four-back k (queryAt k c) (length-query k c)
+pub columns-back : (k : ℕ) (c : Client) (cols : List Column) → cols ≡ four (queryAt (shapeOf k) c) → take k cols ≡ queryAt (shapeOf k) c
+columns-back k c cols e = ap (take k) e ∙ four-back k (queryAt (shapeOf k) c) (length-query k c)
 
 pub last-most : (x : ℕ) (q : Query) → length q ≤ 4 → stepsInAll x q ≤ 33
 unfolding stepsInAll
@@ -69,36 +71,36 @@ module _ (x : ℕ) (cols : List Column) (k : ℕ) where
 -- ---- the ways out
 module _ (c : Client) where
   -- a client with a kind is not idle
-  pub kind-busy : (kind c ≡ 0 → ⊥) → isIdle c ≡ false
+  pub kind-busy : (kind c ≡ 0 → ⊥) → isIdle narrow c ≡ false
   unfolding isIdle kind
-  kind-busy h = ne-same c idle (λ e. h (ap (λ (l : List ℕ). getD l 0 0) e ∙ idle-kind))
+  kind-busy h = ne-same c (idle narrow) (λ e. h (ap (λ (l : List ℕ). getD l 0 0) e ∙ idle-kind))
     where
-      idle-kind : getD idle 0 0 ≡ 0
+      idle-kind : getD (idle narrow) 0 0 ≡ 0
       idle-kind = unfold idle in refl
 
 -- of a client with a kind, what its other numbers say
 unfoldable isBadBusy : ℕ → Client → Bool
 isBadBusy k c =
-    not (isKey k (keyIn (entryOf c)))
-    || ((eqb (kind c) inserts && not (namesAll (queryAt k c)))
-    || (leb (stepsInAll (kind c) (queryAt k c)) (steps c)
+    not (isKey (shapeOf k) (keyIn (entryOf c)))
+    || ((eqb (kind c) inserts && not (namesAll (queryAt (shapeOf k) c)))
+    || (leb (stepsInAll (kind c) (queryAt (shapeOf k) c)) (steps c)
     || ltb maxList (lengthIn (entryOf c))))
 
 module _ (k : ℕ) (c : Client) where
-  pub bad-none : (r : Bool) → r ≡ isIdle c → kind c ≡ 0 → not r ≡ isBad k c
+  pub bad-none : (r : Bool) → r ≡ isIdle narrow c → kind c ≡ 0 → not r ≡ isBad narrow (shapeOf k) c
   unfolding isBad
   bad-none true e h = rw (← e)
   bad-none false e h = rw (← e, h)
 
   -- a client that is not bad and has no kind is idle
-  pub none-idle : false ≡ isBad k c → kind c ≡ 0 → true ≡ isIdle c
-  none-idle g h = sym (not-false (isIdle c) (bad-none (isIdle c) refl h ∙ sym g))
+  pub none-idle : false ≡ isBad narrow (shapeOf k) c → kind c ≡ 0 → true ≡ isIdle narrow c
+  none-idle g h = sym (not-false (isIdle narrow c) (bad-none (isIdle narrow c) refl h ∙ sym g))
 
-  bad-busy : (kind c ≡ 0 → ⊥) → kind c ≤ 3 → isBadBusy k c ≡ isBad k c
+  bad-busy : (kind c ≡ 0 → ⊥) → kind c ≤ 3 → isBadBusy k c ≡ isBad narrow (shapeOf k) c
   unfolding isBad isBadBusy
   bad-busy h g = rw (kind-busy c h, ne-eqb (kind c) 0 h, le-ltb 3 (kind c) g)
 
-  pub bad-kind : (x : ℕ) → x ≡ kind c → (x ≡ 0 → ⊥) → 3 < x → true ≡ isBad k c
+  pub bad-kind : (x : ℕ) → x ≡ kind c → (x ≡ 0 → ⊥) → 3 < x → true ≡ isBad narrow (shapeOf k) c
   unfolding isBad
   bad-kind x e h g =
       let h′ : kind c ≡ 0 → ⊥ = λ z. h (e ∙ z) in
@@ -107,30 +109,30 @@ module _ (k : ℕ) (c : Client) where
 
   -- x: the kind that was read, a: the key's test, b: the insert's, e: the step's
   module _ (x : ℕ) (is : x ≡ kind c) (some : x ≡ 0 → ⊥) (most : x ≤ 3) where
-    whole : isBadBusy k c ≡ isBad k c
+    whole : isBadBusy k c ≡ isBad narrow (shapeOf k) c
     whole = bad-busy (λ z. some (is ∙ z)) (omega arith)
 
-    pub bad-key : (a : Bool) → a ≡ not (isKey k (keyIn (entryOf c))) → a ≡ true → true ≡ isBad k c
+    pub bad-key : (a : Bool) → a ≡ not (isKey (shapeOf k) (keyIn (entryOf c))) → a ≡ true → true ≡ isBad narrow (shapeOf k) c
     unfolding isBadBusy
     bad-key a p h = rw (← p, h) at whole
 
-    module _ (a : Bool) (p : a ≡ not (isKey k (keyIn (entryOf c)))) (h : a ≡ false) (cols : List Column) (q : cols ≡ four (queryAt k c)) where
-      insert-is : (b : Bool) → b ≡ (eqb x 2 && not (namesAll (take k cols))) → b ≡ (eqb (kind c) inserts && not (namesAll (queryAt k c)))
+    module _ (a : Bool) (p : a ≡ not (isKey (shapeOf k) (keyIn (entryOf c)))) (h : a ≡ false) (cols : List Column) (q : cols ≡ four (queryAt (shapeOf k) c)) where
+      insert-is : (b : Bool) → b ≡ (eqb x 2 && not (namesAll (take k cols))) → b ≡ (eqb (kind c) inserts && not (namesAll (queryAt (shapeOf k) c)))
       insert-is b r = r ∙ rw (columns-back k c cols q, is)
 
-      step-is : (e : Bool) → e ≡ leb (stepsInAll x (take k cols)) (steps c) → e ≡ leb (stepsInAll (kind c) (queryAt k c)) (steps c)
+      step-is : (e : Bool) → e ≡ leb (stepsInAll x (take k cols)) (steps c) → e ≡ leb (stepsInAll (kind c) (queryAt (shapeOf k) c)) (steps c)
       step-is e t = t ∙ rw (columns-back k c cols q, is)
 
-      pub bad-insert : (b : Bool) → b ≡ (eqb x 2 && not (namesAll (take k cols))) → b ≡ true → true ≡ isBad k c
+      pub bad-insert : (b : Bool) → b ≡ (eqb x 2 && not (namesAll (take k cols))) → b ≡ true → true ≡ isBad narrow (shapeOf k) c
       unfolding isBadBusy
       bad-insert b r g = rw (← p, h, ← insert-is b r, g) at whole
 
       module _ (b : Bool) (r : b ≡ (eqb x 2 && not (namesAll (take k cols)))) (g : b ≡ false) where
-        pub bad-step : (e : Bool) → e ≡ leb (stepsInAll x (take k cols)) (steps c) → e ≡ true → true ≡ isBad k c
+        pub bad-step : (e : Bool) → e ≡ leb (stepsInAll x (take k cols)) (steps c) → e ≡ true → true ≡ isBad narrow (shapeOf k) c
         unfolding isBadBusy
         bad-step e t l = rw (← p, h, ← insert-is b r, g, ← step-is e t, l) at whole
 
-        pub bad-length : (e z : Bool) → e ≡ leb (stepsInAll x (take k cols)) (steps c) → e ≡ false → z ≡ ltb 32 (lengthIn (entryOf c)) → z ≡ isBad k c
+        pub bad-length : (e z : Bool) → e ≡ leb (stepsInAll x (take k cols)) (steps c) → e ≡ false → z ≡ ltb 32 (lengthIn (entryOf c)) → z ≡ isBad narrow (shapeOf k) c
         unfolding isBadBusy
         bad-length e z t l m = m ∙ (rw (← p, h, ← insert-is b r, g, ← step-is e t, l) at whole)
 
@@ -138,21 +140,21 @@ module _ (k : ℕ) (c : Client) where
 pub record Sound (k : ℕ) (c : Client) : Type 0 where
   pub least : 1 ≤ kind c
   pub most : kind c ≤ 3
-  pub key : isKey k (keyIn (entryOf c)) ≡ true
-  pub names : kind c ≡ inserts → namesAll (queryAt k c) ≡ true
-  pub step : steps c < stepsInAll (kind c) (queryAt k c)
-  pub last : stepsInAll (kind c) (queryAt k c) ≤ 33
+  pub key : isKey (shapeOf k) (keyIn (entryOf c)) ≡ true
+  pub names : kind c ≡ inserts → namesAll (queryAt (shapeOf k) c) ≡ true
+  pub step : steps c < stepsInAll (kind c) (queryAt (shapeOf k) c)
+  pub last : stepsInAll (kind c) (queryAt (shapeOf k) c) ≤ 33
   pub list : lengthIn (entryOf c) ≤ 32
 
-pub sound-client : (k : ℕ) (c : Client) → k ≤ 4 → isBad k c ≡ false → isIdle c ≡ false → Sound k c
+pub sound-client : (k : ℕ) (c : Client) → k ≤ 4 → isBad narrow (shapeOf k) c ≡ false → isIdle narrow c ≡ false → Sound k c
 sound-client k c h e i =
-    let b = busy-of k c e i in
+    let b = busy-of (shapeOf k) c e i in
     record {
       least = b .low;
       most = b .high;
       key = b .key;
       names = b .names;
       step = b .going;
-      last = last-most (kind c) (queryAt k c) (let l : length (queryAt k c) ≡ k = length-query k c in omega arith);
+      last = last-most (kind c) (queryAt (shapeOf k) c) (let l : length (queryAt (shapeOf k) c) ≡ k = length-query k c in omega arith);
       list = b .short;
     }

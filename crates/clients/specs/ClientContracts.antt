@@ -6,6 +6,7 @@ use Prim.Native.Nat.{ℕ, _*_, _≤_, _<_}
 use lib.ListN.{length, take, drop, set}
 use Rattle.lists.specs.Lists.{padded, written}
 use Rattle.rules.specs.Client.{Client, isIdle, stepped}
+use Rattle.query.specs.Shape.{narrow}
 use Rattle.rules.specs.Memory.{clientIn}
 
 -- a desks memory of at least its least length, and a client of it
@@ -15,7 +16,7 @@ pub record Fit (s : List ℕ) (d : ℕ) : Type 0 where
 
 -- client d is idle
 unfoldable pub idleAt : List ℕ → ℕ → Bool
-idleAt s d = isIdle (clientIn s d)
+idleAt s d = isIdle narrow (clientIn narrow s d)
 
 -- as a begin leaves a client, by the key of its query
 unfoldable pub begunWith : ℕ → List ℕ → Client

@@ -11,6 +11,7 @@ ghost use Rattle.query.specs.Encoding.{isKey, namesAll};
 ghost use Rattle.columns.specs.ColumnContracts.{four};
 ghost use Rattle.rules.specs.Answers.{keyIn, lengthIn, listIn};
 ghost use Rattle.rules.specs.Client.{kind, steps, sawPending, didChange, foundFull, entryOf, idle, isIdle, queryAt, stepsInAll, isBad, stepped, flag, noted, wrote};
+ghost use Rattle.query.specs.Shape.{narrow, shapeOf};
 ghost use Rattle.rules.specs.Memory.{clientIn, withClient};
 ghost use Rattle.clients.specs.ClientContracts.{Fit, idleAt, begunWith, listSet};
 use query::Column;
@@ -22,21 +23,21 @@ const CLIENTS: usize = Hall::CLIENTS as usize;
 // Number j of client d.
 fn word(clients: &[u32], d: usize, j: usize) -> u32
     requires { ⌜ Fit (now clients) d × (j < 157) ⌝ }
-    ensures { λ r. ⌜ r ≡ getD (clientIn (now (clients .entry)) d) j 0 ⌝ }
+    ensures { λ r. ⌜ r ≡ getD (clientIn narrow (now (clients .entry)) d) j 0 ⌝ }
 {
     clients[8 + d * 157 + j]
 }
 
 pub fn kind_of(clients: &[u32], d: usize) -> u32
     requires { ⌜ Fit (now clients) d ⌝ }
-    ensures { λ r. ⌜ r ≡ kind (clientIn (now (clients .entry)) d) ⌝ }
+    ensures { λ r. ⌜ r ≡ kind (clientIn narrow (now (clients .entry)) d) ⌝ }
 {
     word(clients, d, 0)
 }
 
 pub fn steps_of(clients: &[u32], d: usize) -> u32
     requires { ⌜ Fit (now clients) d ⌝ }
-    ensures { λ r. ⌜ r ≡ steps (clientIn (now (clients .entry)) d) ⌝ }
+    ensures { λ r. ⌜ r ≡ steps (clientIn narrow (now (clients .entry)) d) ⌝ }
 {
     word(clients, d, 1)
 }
@@ -44,7 +45,7 @@ pub fn steps_of(clients: &[u32], d: usize) -> u32
 // Whether a look saw a mark.
 pub fn saw_pending(clients: &[u32], d: usize) -> bool
     requires { ⌜ Fit (now clients) d ⌝ }
-    ensures { λ r. ⌜ r ≡ sawPending (clientIn (now (clients .entry)) d) ⌝ }
+    ensures { λ r. ⌜ r ≡ sawPending (clientIn narrow (now (clients .entry)) d) ⌝ }
 {
     word(clients, d, 2) != 0
 }
@@ -52,7 +53,7 @@ pub fn saw_pending(clients: &[u32], d: usize) -> bool
 // Whether the write changed the table.
 pub fn did_change(clients: &[u32], d: usize) -> bool
     requires { ⌜ Fit (now clients) d ⌝ }
-    ensures { λ r. ⌜ r ≡ didChange (clientIn (now (clients .entry)) d) ⌝ }
+    ensures { λ r. ⌜ r ≡ didChange (clientIn narrow (now (clients .entry)) d) ⌝ }
 {
     word(clients, d, 3) != 0
 }
@@ -60,7 +61,7 @@ pub fn did_change(clients: &[u32], d: usize) -> bool
 // Whether the insert found the table full.
 pub fn found_full(clients: &[u32], d: usize) -> bool
     requires { ⌜ Fit (now clients) d ⌝ }
-    ensures { λ r. ⌜ r ≡ foundFull (clientIn (now (clients .entry)) d) ⌝ }
+    ensures { λ r. ⌜ r ≡ foundFull (clientIn narrow (now (clients .entry)) d) ⌝ }
 {
     word(clients, d, 4) != 0
 }
@@ -68,7 +69,7 @@ pub fn found_full(clients: &[u32], d: usize) -> bool
 // Whether all of a client's numbers are 0.
 pub fn is_idle(clients: &[u32], d: usize) -> bool
     requires { ⌜ Fit (now clients) d ⌝ }
-    ensures { λ r. ⌜ r ≡ isIdle (clientIn (now (clients .entry)) d) ⌝ }
+    ensures { λ r. ⌜ r ≡ isIdle narrow (clientIn narrow (now (clients .entry)) d) ⌝ }
 {
     let at = 8 + d * 157;
     let stop = at + 157;
@@ -93,7 +94,7 @@ pub fn all_idle(clients: &[u32]) -> bool
 // The columns of a client's query.
 pub fn columns_at(clients: &[u32], d: usize, k: usize) -> [Column; 4]
     requires { ⌜ Fit (now clients) d × ((1 ≤ k) × (k ≤ 4)) ⌝ }
-    ensures { λ r. ⌜ r ≡ four (queryAt k (clientIn (now (clients .entry)) d)) ⌝ }
+    ensures { λ r. ⌜ r ≡ four (queryAt (shapeOf k) (clientIn narrow (now (clients .entry)) d)) ⌝ }
 {
     let marks = word(clients, d, 5);
     let at = 8 + d * 157 + 6;
@@ -103,8 +104,8 @@ pub fn columns_at(clients: &[u32], d: usize, k: usize) -> [Column; 4]
 
 // Writes a client's list from the tray's start on, and says how many records it has.
 pub fn give_list(clients: &[u32], d: usize, k: usize, tray: &mut [u32]) -> u32
-    requires { ⌜ Fit (now clients) d × ((lengthIn (entryOf (clientIn (now clients) d)) ≤ 32) × ((1 ≤ k) × ((k ≤ 4) × (128 ≤ length (now tray))))) ⌝ }
-    ensures { λ r. ⌜ (r ≡ lengthIn (entryOf (clientIn (now (clients .entry)) d))) × (now (tray .exit) ≡ written (now (tray .entry)) 0 (listIn k (entryOf (clientIn (now (clients .entry)) d)))) ⌝ }
+    requires { ⌜ Fit (now clients) d × ((lengthIn (entryOf (clientIn narrow (now clients) d)) ≤ 32) × ((1 ≤ k) × ((k ≤ 4) × (128 ≤ length (now tray))))) ⌝ }
+    ensures { λ r. ⌜ (r ≡ lengthIn (entryOf (clientIn narrow (now (clients .entry)) d))) × (now (tray .exit) ≡ written (now (tray .entry)) 0 (listIn narrow (shapeOf k) (entryOf (clientIn narrow (now (clients .entry)) d)))) ⌝ }
 {
     let n = word(clients, d, 12);
     let at = 8 + d * 157 + 29;
@@ -117,7 +118,7 @@ pub fn give_list(clients: &[u32], d: usize, k: usize, tray: &mut [u32]) -> u32
 // Stores x as number j of client d.
 fn put(clients: &mut [u32], d: usize, j: usize, x: u32)
     requires { ⌜ Fit (now clients) d × (j < 157) ⌝ }
-    ensures { λ _. ⌜ now (clients .exit) ≡ withClient (now (clients .entry)) d (set (clientIn (now (clients .entry)) d) j x) ⌝ }
+    ensures { λ _. ⌜ now (clients .exit) ≡ withClient narrow (now (clients .entry)) d (set (clientIn narrow (now (clients .entry)) d) j x) ⌝ }
 {
     clients[8 + d * 157 + j] = x;
 }
@@ -125,7 +126,7 @@ fn put(clients: &mut [u32], d: usize, j: usize, x: u32)
 // Leaves client d idle: all 0.
 pub fn set_idle(clients: &mut [u32], d: usize)
     requires { ⌜ Fit (now clients) d ⌝ }
-    ensures { λ _. ⌜ now (clients .exit) ≡ withClient (now (clients .entry)) d idle ⌝ }
+    ensures { λ _. ⌜ now (clients .exit) ≡ withClient narrow (now (clients .entry)) d (idle narrow) ⌝ }
 {
     let at = 8 + d * 157;
     let end = at + 157;
@@ -135,7 +136,7 @@ pub fn set_idle(clients: &mut [u32], d: usize)
 // Begins a read or a write at client d: its kind and its query's key, all the rest 0.
 pub fn begin(clients: &mut [u32], d: usize, kind: u32, key: &[u32])
     requires { ⌜ Fit (now clients) d × (length (now key) ≡ 7) ⌝ }
-    ensures { λ _. ⌜ now (clients .exit) ≡ withClient (now (clients .entry)) d (begunWith kind (now (key .entry))) ⌝ }
+    ensures { λ _. ⌜ now (clients .exit) ≡ withClient narrow (now (clients .entry)) d (begunWith kind (now (key .entry))) ⌝ }
 {
     set_idle(clients, d);
     let head = [kind, 0, 0, 0, 0];
@@ -146,8 +147,8 @@ pub fn begin(clients: &mut [u32], d: usize, kind: u32, key: &[u32])
 
 // Counts one step more.
 pub fn advance(clients: &mut [u32], d: usize)
-    requires { ⌜ Fit (now clients) d × (steps (clientIn (now clients) d) < 4294967295) ⌝ }
-    ensures { λ _. ⌜ now (clients .exit) ≡ withClient (now (clients .entry)) d (stepped (clientIn (now (clients .entry)) d)) ⌝ }
+    requires { ⌜ Fit (now clients) d × (steps (clientIn narrow (now clients) d) < 4294967295) ⌝ }
+    ensures { λ _. ⌜ now (clients .exit) ≡ withClient narrow (now (clients .entry)) d (stepped (clientIn narrow (now (clients .entry)) d)) ⌝ }
 {
     let made = steps_of(clients, d);
     put(clients, d, 1, made + 1);
@@ -155,8 +156,8 @@ pub fn advance(clients: &mut [u32], d: usize)
 
 // Look j: notes a node's revision and whether writes are pending there, and counts the step.
 pub fn note(clients: &mut [u32], d: usize, j: usize, revision: u32, pending: u32)
-    requires { ⌜ Fit (now clients) d × ((j < 16) × (steps (clientIn (now clients) d) < 4294967295)) ⌝ }
-    ensures { λ _. ⌜ now (clients .exit) ≡ withClient (now (clients .entry)) d (noted j revision pending (clientIn (now (clients .entry)) d)) ⌝ }
+    requires { ⌜ Fit (now clients) d × ((j < 16) × (steps (clientIn narrow (now clients) d) < 4294967295)) ⌝ }
+    ensures { λ _. ⌜ now (clients .exit) ≡ withClient narrow (now (clients .entry)) d (noted narrow j revision pending (clientIn narrow (now (clients .entry)) d)) ⌝ }
 {
     advance(clients, d);
     put(clients, d, 13 + j, revision);
@@ -174,8 +175,8 @@ fn flag(b: bool) -> u32
 
 // A write's table step: whether the table changed, whether it was full, and the step counted.
 pub fn set_wrote(clients: &mut [u32], d: usize, changed: bool, full: bool)
-    requires { ⌜ Fit (now clients) d × (steps (clientIn (now clients) d) < 4294967295) ⌝ }
-    ensures { λ _. ⌜ now (clients .exit) ≡ withClient (now (clients .entry)) d (wrote changed full (clientIn (now (clients .entry)) d)) ⌝ }
+    requires { ⌜ Fit (now clients) d × (steps (clientIn narrow (now clients) d) < 4294967295) ⌝ }
+    ensures { λ _. ⌜ now (clients .exit) ≡ withClient narrow (now (clients .entry)) d (wrote changed full (clientIn narrow (now (clients .entry)) d)) ⌝ }
 {
     advance(clients, d);
     put(clients, d, 3, flag(changed));
@@ -184,8 +185,8 @@ pub fn set_wrote(clients: &mut [u32], d: usize, changed: bool, full: bool)
 
 // A read's table step, the list being in its place already: sets its length, clears what is behind it, and counts the step.
 pub fn set_list(clients: &mut [u32], d: usize, n: usize, k: usize)
-    requires { ⌜ Fit (now clients) d × ((n ≤ 32) × ((1 ≤ k) × ((k ≤ 4) × (steps (clientIn (now clients) d) < 4294967295)))) ⌝ }
-    ensures { λ _. ⌜ now (clients .exit) ≡ withClient (now (clients .entry)) d (listSet n k (clientIn (now (clients .entry)) d)) ⌝ }
+    requires { ⌜ Fit (now clients) d × ((n ≤ 32) × ((1 ≤ k) × ((k ≤ 4) × (steps (clientIn narrow (now clients) d) < 4294967295)))) ⌝ }
+    ensures { λ _. ⌜ now (clients .exit) ≡ withClient narrow (now (clients .entry)) d (listSet n k (clientIn narrow (now (clients .entry)) d)) ⌝ }
 {
     advance(clients, d);
     put(clients, d, 12, n as u32);
@@ -212,7 +213,7 @@ pub fn steps_in_all(kind: u32, cols: [Column; 4], k: usize) -> u32
 // Whether a client's key is that of no query of k columns.
 fn bad_key(clients: &[u32], d: usize, k: usize) -> bool
     requires { ⌜ Fit (now clients) d × (k ≤ 4) ⌝ }
-    ensures { λ r. ⌜ r ≡ not (isKey k (keyIn (entryOf (clientIn (now (clients .entry)) d)))) ⌝ }
+    ensures { λ r. ⌜ r ≡ not (isKey (shapeOf k) (keyIn (entryOf (clientIn narrow (now (clients .entry)) d)))) ⌝ }
 {
     let at = 8 + d * 157 + 5;
     let end = at + 7;
@@ -233,7 +234,7 @@ fn bad_insert(kind: u32, cols: [Column; 4], k: usize) -> bool
 // Whether a client has made all its steps and is not idle.
 fn bad_step(clients: &[u32], d: usize, kind: u32, cols: [Column; 4], k: usize) -> bool
     requires { ⌜ Fit (now clients) d × (k ≤ 4) ⌝ }
-    ensures { λ r. ⌜ r ≡ leb (stepsInAll kind (take k cols)) (steps (clientIn (now (clients .entry)) d)) ⌝ }
+    ensures { λ r. ⌜ r ≡ leb (stepsInAll kind (take k cols)) (steps (clientIn narrow (now (clients .entry)) d)) ⌝ }
 {
     let made = steps_of(clients, d);
     steps_in_all(kind, cols, k) <= made
@@ -242,7 +243,7 @@ fn bad_step(clients: &[u32], d: usize, kind: u32, cols: [Column; 4], k: usize) -
 // Whether a client's list is longer than any.
 fn bad_length(clients: &[u32], d: usize) -> bool
     requires { ⌜ Fit (now clients) d ⌝ }
-    ensures { λ r. ⌜ r ≡ ltb 32 (lengthIn (entryOf (clientIn (now (clients .entry)) d))) ⌝ }
+    ensures { λ r. ⌜ r ≡ ltb 32 (lengthIn (entryOf (clientIn narrow (now (clients .entry)) d))) ⌝ }
 {
     Hall::LIST < word(clients, d, 12)
 }
@@ -250,7 +251,7 @@ fn bad_length(clients: &[u32], d: usize) -> bool
 // Whether a client is not idle and its kind, query, step or list length is out of range. Only where the kind is 0 are all its numbers read.
 pub fn is_bad(clients: &[u32], d: usize, k: usize) -> bool
     requires { ⌜ Fit (now clients) d × ((1 ≤ k) × (k ≤ 4)) ⌝ }
-    ensures { λ r. ⌜ r ≡ isBad k (clientIn (now (clients .entry)) d) ⌝ }
+    ensures { λ r. ⌜ r ≡ isBad narrow (shapeOf k) (clientIn narrow (now (clients .entry)) d) ⌝ }
 {
     let kind = kind_of(clients, d);
     if kind == 0 {

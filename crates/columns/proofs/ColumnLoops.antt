@@ -14,6 +14,7 @@ use Rattle.query.specs.declared.Column.{Column}
 use Rattle.query.specs.declared.Column.the-variants.{Is, Wildcard}
 use Rattle.query.specs.Query.{Query, admits, lies, named}
 use Rattle.query.specs.Encoding.{columnOf, queryOf, wellMarked, isQuery, namesAll, recordOf}
+use Rattle.query.specs.Shape.{shapeOf}
 use Rattle.query.proofs.NodeLists.{named-most}
 use Rattle.columns.specs.declared.Taken.{Taken}
 use Rattle.columns.specs.ColumnContracts.{columnMarked, four, front, takenOf}
@@ -143,11 +144,11 @@ pub marked-end : (a : List ℕ) (i : ℕ) → length a ≤ i → wellMarked (dro
 unfolding wellMarked
 marked-end a i h = rw (drop-of-length-le a h)
 
-pub query-short : (k : ℕ) (a : List ℕ) → (length a ≡ 2 * k → ⊥) → false ≡ isQuery k a
+pub query-short : (k : ℕ) (a : List ℕ) → (length a ≡ 2 * k → ⊥) → false ≡ isQuery (shapeOf k) a
 unfolding isQuery
 query-short k a n = rw (ne-eqb (length a) (2 * k) n)
 
-pub query-marked : (k : ℕ) (a : List ℕ) (r : Bool) → length a ≡ 2 * k → r ≡ wellMarked a → r ≡ isQuery k a
+pub query-marked : (k : ℕ) (a : List ℕ) (r : Bool) → length a ≡ 2 * k → r ≡ wellMarked a → r ≡ isQuery (shapeOf k) a
 unfolding isQuery
 query-marked k a r e w = rw (eq-eqb (length a) (2 * k) e) w
 

@@ -15,6 +15,7 @@ use Rattle.query.specs.declared.Column.{Column}
 use Rattle.query.specs.declared.Column.the-variants.{Is, Wildcard}
 use Rattle.query.specs.Query.{Query, named}
 use Rattle.query.specs.Encoding.{columnOf, columnValue, marks, columnsIn, queryIn, keyWords, isKey}
+use Rattle.query.specs.Shape.{shapeOf}
 use Rattle.query.proofs.EncodingLaws.{columns-length}
 use Rattle.columns.specs.ColumnContracts.{four}
 use Rattle.columns.specs.KeyContracts.{markOf, keeps, zeroUnder}
@@ -206,7 +207,7 @@ key-rule (suc k) m (v ∷ vs) h =
     let l : k ≤ length vs = omega arith in
     rw d (key-more k m v vs _ (columnsIn k (m / 2) vs) (key-rule k (m / 2) vs l) (m % 2) refl)
 
-pub key-whole : (k : ℕ) (key : List ℕ) → k ≤ 4 → length key ≡ 7 → isKey k key ≡ (ltb (getD key 0 0) (2 ^ k) && zeroUnder (getD key 0 0) (drop 1 key))
+pub key-whole : (k : ℕ) (key : List ℕ) → k ≤ 4 → length key ≡ 7 → isKey (shapeOf k) key ≡ (ltb (getD key 0 0) (2 ^ k) && zeroUnder (getD key 0 0) (drop 1 key))
 unfolding isKey keyWords queryIn padded same
 key-whole k [] b h = absurd (omega arith)
 key-whole k (m ∷ vs) b h =
@@ -214,11 +215,11 @@ key-whole k (m ∷ vs) b h =
     let n : 6 - k ≡ length vs - k = omega arith in
     rw (length-map (columnsIn k m vs) columnValue, columns-length k m vs, n) (key-rule k m vs l)
 
-pub key-high : (k p : ℕ) (key : List ℕ) → p ≡ 2 ^ k → k ≤ 4 → length key ≡ 7 → p ≤ getD key 0 0 → false ≡ isKey k key
+pub key-high : (k p : ℕ) (key : List ℕ) → p ≡ 2 ^ k → k ≤ 4 → length key ≡ 7 → p ≤ getD key 0 0 → false ≡ isKey (shapeOf k) key
 key-high k p key e b h l = rw (key-whole k key b h, ← e, le-ltb (getD key 0 0) p l)
 
 pub key-low : (k p : ℕ) (key : List ℕ) (r : Bool) → p ≡ 2 ^ k → k ≤ 4 → length key ≡ 7 → getD key 0 0 < p
-    → r ≡ zeroUnder (getD key 0 0) (take (length key - 1) (drop 1 key)) → r ≡ isKey k key
+    → r ≡ zeroUnder (getD key 0 0) (take (length key - 1) (drop 1 key)) → r ≡ isKey (shapeOf k) key
 key-low k p key r e b h l z =
     let w : length (drop 1 key) ≤ length key - 1 = simp length-drop (omega arith) in
     rw (key-whole k key b h, ← e, lt-ltb (getD key 0 0) p l) (rw (take-all (length key - 1) (drop 1 key) w) at z)

@@ -3,6 +3,7 @@ ghost use mathlib.Core.Path.{_≡_};
 ghost use Prim.Native.Nat.{_≤_, _^_};
 ghost use lib.ListN.{length, take};
 ghost use Rattle.query.specs.Query.{named};
+ghost use Rattle.query.specs.Shape.{shapeOf};
 ghost use Rattle.query.specs.Encoding.{marks, columnsIn, columnValue, keyWords, isKey};
 ghost use Rattle.columns.specs.ColumnContracts.{four};
 ghost use Rattle.columns.specs.KeyContracts.{markOf, keeps, zeroUnder};
@@ -136,7 +137,7 @@ fn zero_under(marks: u32, values: &[u32]) -> bool
 // Whether seven numbers are the key of a query of k columns: marks for k columns at most, and no value without a mark.
 pub fn is_key(k: usize, key: &[u32]) -> bool
     requires { ⌜ (k ≤ 4) × (length (now key) ≡ 7) ⌝ }
-    ensures { λ r. ⌜ r ≡ isKey k (now (key .entry)) ⌝ }
+    ensures { λ r. ⌜ r ≡ isKey (shapeOf k) (now (key .entry)) ⌝ }
 {
     let marks = key[0];
     if power(k) <= marks {

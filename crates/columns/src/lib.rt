@@ -4,6 +4,7 @@ ghost use mathlib.Core.Path.{_≡_};
 ghost use Prim.Native.Nat.{_≤_};
 ghost use lib.ListN.{length, take};
 ghost use Rattle.query.specs.Query.{admits, lies};
+ghost use Rattle.query.specs.Shape.{shapeOf};
 ghost use Rattle.query.specs.Encoding.{isQuery, columnOf, queryOf, wellMarked};
 ghost use Rattle.columns.specs.ColumnContracts.{columnMarked, four, takenOf};
 use query::Column;
@@ -94,7 +95,7 @@ fn well_marked(asked: &[u32]) -> bool
 
 // Whether what arrives is a query of k columns.
 pub fn is_query(asked: &[u32], k: u32) -> bool
-    ensures { λ r. ⌜ r ≡ isQuery k (now (asked .entry)) ⌝ }
+    ensures { λ r. ⌜ r ≡ isQuery (shapeOf k) (now (asked .entry)) ⌝ }
 {
     if asked.len() != 2 * (k as usize) {
         return false;

@@ -32,7 +32,7 @@ use Rattle.demands.proofs.Seen.{inserted, deleted, keeps}
 -- ---- Answers
 every-answer : (h : History) → EveryAnswer h
 every-answer h n count cached l e =
-    let s = answer-steps h n _ cached l (result-is h n count cached (sound h n (omega arith) .cols) e) in
+    let s = answer-steps h n _ cached l (result-is h n count cached (sound h n (omega arith) .shape) e) in
     let w = answers h n (s .0) (s .1) count cached l (s .2) e in
     (s .0, w .asked, w .b, record { tray = s .1; within = l; calls = s .2; runs = w .runs; says = e })
 
@@ -90,7 +90,7 @@ answers-ascend h d a b n count cached x =
       listOf (queryOf a) (tableAt h (z .0)),
       table-list h a n count (z .0) (omega arith) (z .3),
       demand-2-ascending h (z .0) (omega arith) .1 (queryOf a),
-      answer-short h n _ cached (x .within) (result-is h n count cached (sound h n (omega arith) .cols) (x .says)),
+      answer-short h n _ cached (x .within) (result-is h n count cached (sound h n (omega arith) .shape) (x .says)),
     )
 
 -- ---- No record twice

@@ -14,10 +14,11 @@ use Rattle.rules.specs.Answers.{Entry, keyIn, listIn, fetchPlace}
 use Rattle.rules.specs.Client.{entryOf, queryAt}
 use Rattle.rules.specs.Memory.{Mem, answersIn}
 use Rattle.rules.specs.Outcome.{StepResult}
-use Rattle.rules.specs.Refusals.{columns, client}
+use Rattle.rules.specs.Refusals.{shape, columns, client}
 use Rattle.rules.specs.Steps.{fetchResult}
 use Rattle.rules.specs.Calls.{stepResult}
 use Rattle.rules.specs.History as rules
+use Rattle.query.specs.Shape.{Shape, narrow}
 use Rattle.rules.specs.History.{callResult}
 use Rattle.machine.proofs.Sums.{In, in-at}
 use Rattle.machine.proofs.Machine as machine
@@ -38,20 +39,20 @@ use Rattle.demands.proofs.Filings.{step-reply, step-call, no-label-twic
 -- ---- The answer that is on file
 asked-length : (m : Mem) (d : ℕ) (q : Query) (n : ℕ) → Reads m d q n → length q ≡ columns m
 unfolding queryAt
-asked-length m d q n r = ap length (sym (r .asks)) ∙ query-in-length (columns m) (keyIn (entryOf (client m d)))
+asked-length m d q n r = ap length (sym (r .asks)) ∙ query-in-length (shape m) (keyIn (entryOf (client m d)))
 
-its-key : (k : ℕ) (e : Entry) (q : Query) → length q ≡ k → keyIn e ≡ keyWords q → ansOf k e .query ≡ asking q
+its-key : (sh : Shape) (e : Entry) (q : Query) → length q ≡ sh .columns → keyIn e ≡ keyWords q → ansOf sh e .query ≡ asking q
 unfolding ansOf keyOf
-its-key k e q l i = λ j. record { asked = (ap (queryIn k) i ∙ query-in-key k q l) j }
+its-key sh e q l i = λ j. record { asked = (ap (queryIn sh) i ∙ query-in-key sh q l) j }
 
-on-file-there : (m : Mem) (e : Entry) (i : ℕ) → i < length (answersIn (m .answers)) → getD (answersIn (m .answers)) i [] ≡ e
-    → In (ansOf (columns m) e) (stateOf m .filed)
+on-file-there : (m : Mem) (e : Entry) (i : ℕ) → i < length (answersIn narrow (m .answers)) → getD (answersIn narrow (m .answers)) i [] ≡ e
+    → In (ansOf (shape m) e) (stateOf m .filed)
 unfolding stateOf filedOf
-on-file-there m e i l x = rw (sym x) (map-in (ansOf (columns m)) (in-at [] (answersIn (m .answers)) i l))
+on-file-there m e i l x = rw (sym x) (map-in (ansOf (shape m)) (in-at [] (answersIn narrow (m .answers)) i l))
 
-its-list : (k : ℕ) (e : Entry) → ansOf k e .list ≡ valueIn k e
+its-list : (sh : Shape) (e : Entry) → ansOf sh e .list ≡ valueIn sh e
 unfolding ansOf
-its-list k e = refl
+its-list sh e = refl
 
 fetched : (h : History) (n d : ℕ) (tray : List ℕ) → callAt h n ≡ rules.step d tray → resultAt h n ≡ stepResult (memAt h n) tray d
 unfolding resultAt callResult
@@ -68,15 +69,15 @@ demand-2-gets h q b n e x b′ f y last c lb lf either k =
     let z = fetching m d q (s .fits) (no-label-twice h n (omega arith)) (x .fetches) in
     let since = since-key h q d b n (x .asked) (omega arith) (x .runs) (ap keyAt (z .phase)) in
     let step = fetch-step m (x .tray) d q (x .takes) (x .fetches) in
-    let i = fetchPlace (readCount q) (entryOf (client m d)) (answersIn (m .answers)) in
-    let r = step-reply h n d (x .tray) (x .calls) ∙ ap (responseOf (columns m)) step in
+    let i = fetchPlace narrow (readCount q) (entryOf (client m d)) (answersIn narrow (m .answers)) in
+    let r = step-reply h n d (x .tray) (x .calls) ∙ ap (responseOf (shape m)) step in
     let o : Transition (stateOf m) (machine.step d) (responseAt h n) (stateOf (memAt h (suc n))) =
     subst (λ c. Transition (stateOf m) c (responseAt h n) (stateOf (memAt h (suc n)))) (step-call (callAt h n) d (x .tray) (x .calls)) (transition-at h n w) in
-    let a = gets (stateOf m) (flagsAt h n) (s .good .inv) (quiescent-at h n (omega arith)) o (ap isRefused r ∙ fetch-accepted (columns m) m (x .tray) d i)
-    (asking q) (z .revs) (z .saw) (z .phase) (z .all) (ansOf (columns m) e) (on-file-there m e (x .place) (x .there) (x .is))
-    (its-key (columns m) e q (asked-length m d q (readCount q) (x .fetches)) (x .key))
+    let a = gets (stateOf m) (flagsAt h n) (s .good .inv) (quiescent-at h n (omega arith)) o (ap isRefused r ∙ fetch-accepted (shape m) m (x .tray) d i)
+    (asking q) (z .revs) (z .saw) (z .phase) (z .all) (ansOf (shape m) e) (on-file-there m e (x .place) (x .there) (x .is))
+    (its-key (shape m) e q (asked-length m d q (readCount q) (x .fetches)) (x .key))
     (on-client h q d b n c since lb k n (x .runs .earlier) (omega arith))
     (on-file h q b′ f n c (omega arith) y last lf k n (last .0) (omega arith)) in
-    let g = fetch-gave m (x .tray) d i e (s .fits) (sym r ∙ a ∙ ap (λ v. machine.answered v true) (its-list (columns m) e)) in
+    let g = fetch-gave m (x .tray) d i e (s .fits) (sym r ∙ a ∙ ap (λ v. machine.answered v true) (its-list (shape m) e)) in
     let reply : resultAt h n ≡ fetchResult m (x .tray) d i = fetched h n d (x .tray) (x .calls) ∙ step in
-    (ap (λ (t : StepResult). t .out) reply ∙ g .out, ap (λ (t : StepResult). t .tray) reply ∙ g .tray ∙ ap (λ v. written (x .tray) 0 (listIn v e)) (s .cols))
+    (ap (λ (t : StepResult). t .out) reply ∙ g .out, ap (λ (t : StepResult). t .tray) reply ∙ g .tray ∙ ap (λ (sh : Shape). written (x .tray) 0 (listIn narrow sh e)) (s .shape))

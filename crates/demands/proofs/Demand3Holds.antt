@@ -10,7 +10,7 @@ use Rattle.rules.specs.declared.Outcome.the-variants.{Answered}
 use Rattle.rules.specs.Table.{Table, insert, delete, listOf}
 use Rattle.rules.specs.Memory.{recordsIn}
 use Rattle.rules.specs.Outcome.{StepResult}
-use Rattle.rules.specs.Refusals.{columns}
+use Rattle.rules.specs.Refusals.{shape}
 use Rattle.rules.specs.History.{Call, Plain, beginRead, beginInsert, beginDelete, step}
 use Rattle.machine.proofs.Keys.{Key, Val, valueOf}
 use Rattle.machine.proofs.Machine as machine
@@ -20,40 +20,41 @@ use Rattle.machine.proofs.Trace.{Act, reads, writes}
 use Rattle.machine.proofs.Log.{entry, plainTable, startOf}
 use Rattle.machine.proofs.Histories as histories
 use Rattle.refinement.proofs.Abstraction.{stateOf, callOf, responseIn, responseOf}
-use Rattle.demands.specs.WholeHistory.{History, memAt, plainAt, callAt, resultAt, UnderWay, stepsIn}
+use Rattle.demands.specs.WholeHistory.{History, shapeAt, memAt, plainAt, callAt, resultAt, UnderWay, stepsIn}
 use Rattle.demands.specs.Demand3.{IsList, WasTrue, Demand3}
 use Rattle.demands.proofs.HistoryRuns.{responseAt, entryAt, logTo, sound, transition-at, few-columns, plain-at}
 use Rattle.demands.proofs.LogPlaces.{length-log, take-log, read-begins, insert-begins, delete-begins, under-log, read-places, steps-log}
+use Rattle.query.specs.Shape.{Shape}
 
 -- ---- The table
 pub table-is : (h : History) (n : ℕ) → n ≤ length (h .calls) → stateOf (memAt h n) .tab ≡ recordsIn (h .k) (memAt h n .table)
 unfolding stateOf
-table-is h n l = ap (λ k. recordsIn k (memAt h n .table)) (sound h n l .cols)
+table-is h n l = ap (λ (sh : Shape). recordsIn (sh .columns) (memAt h n .table)) (sound h n l .shape)
 
-pub plain-table : (h : History) (n : ℕ) → n ≤ length (h .calls) → plainTable (logTo h n) ≡ plainAt h n .table
+pub plain-table : (h : History) (n : ℕ) → n ≤ length (h .calls) → plainTable (shapeAt h) (logTo h n) ≡ plainAt h n .table
 unfolding plainTable
 plain-table h n l = ap (λ (p : Plain). p .table) (plain-at h n l)
 
 pub tables : (h : History) (n : ℕ) → n ≤ length (h .calls) → recordsIn (h .k) (memAt h n .table) ≡ plainAt h n .table
 tables h n l =
-    sym (table-is h n l) ∙ histories.tables (h .k) (few-columns h) (logTo h n) (stateOf (memAt h n)) (sound h n l .run) ∙ plain-table h n l
+    sym (table-is h n l) ∙ histories.tables (shapeAt h) (few-columns h) (logTo h n) (stateOf (memAt h n)) (sound h n l .run) ∙ plain-table h n l
 
 -- ---- The answers
-abbrev pub said : ℕ → List ℕ → ℕ → Val
-said k tray count = record { count = count; numbers = take (count * k) tray }
+abbrev pub said : Shape → List ℕ → ℕ → Val
+said sh tray count = record { count = count; numbers = take (count * sh .columns) tray }
 
-answer-is : (k : ℕ) (x : StepResult) (count : ℕ) (cached : Bool) → x .out ≡ Answered count cached → responseOf k x ≡ answered (said k (x .tray) count) cached
+answer-is : (sh : Shape) (x : StepResult) (count : ℕ) (cached : Bool) → x .out ≡ Answered count cached → responseOf sh x ≡ answered (said sh (x .tray) count) cached
 unfolding responseOf responseIn
-answer-is k x count cached e = ap (responseIn k (x .tray)) e
+answer-is sh x count cached e = ap (responseIn sh (x .tray)) e
 
 step-is : (h : History) (n d : ℕ) (tray : List ℕ) → callAt h n ≡ step d tray → callOf (callAt h n) ≡ machine.step d
 unfolding callOf
 step-is h n d tray e = ap callOf e
 
-pub result-is : (h : History) (n count : ℕ) (cached : Bool) → columns (memAt h n) ≡ h .k → resultAt h n .out ≡ Answered count cached
-    → responseAt h n ≡ answered (said (h .k) (resultAt h n .tray) count) cached
+pub result-is : (h : History) (n count : ℕ) (cached : Bool) → shape (memAt h n) ≡ shapeAt h → resultAt h n .out ≡ Answered count cached
+    → responseAt h n ≡ answered (said (shapeAt h) (resultAt h n .tray) count) cached
 unfolding responseAt
-result-is h n count cached k e = ap (λ x. responseOf x (resultAt h n)) k ∙ answer-is (h .k) (resultAt h n) count cached e
+result-is h n count cached k e = ap (λ x. responseOf x (resultAt h n)) k ∙ answer-is (shapeAt h) (resultAt h n) count cached e
 
 log-more : (h : History) (n d : ℕ) (v : Val) (cached : Bool) → callOf (callAt h n) ≡ machine.step d → responseAt h n ≡ answered v cached
     → logTo h n ++ (entry (machine.step d) (answered v cached) ∷ []) ≡ logTo h (suc n)
@@ -61,22 +62,22 @@ unfolding logTo entryAt
 log-more h n d v cached c a = rw (c, a) refl
 
 -- a value told is a list told
-is-list : (k : ℕ) (q : Key) (t : Table) (tray : List ℕ) (count : ℕ) → said k tray count ≡ valueOf q t → IsList k (listOf (q .asked) t) count tray
+is-list : (sh : Shape) (q : Key) (t : Table) (tray : List ℕ) (count : ℕ) → said sh tray count ≡ valueOf q t → IsList (sh .columns) (listOf (q .asked) t) count tray
 unfolding valueOf
-is-list k q t tray count e =
+is-list sh q t tray count e =
     let c : count ≡ length (listOf (q .asked) t) = ap (λ (v : Val). v .count) e in
-    record { counted = c; unsourced = ap (λ n. take (n * k) tray) (sym c) ∙ ap (λ (v : Val). v .numbers) e }
+    record { counted = c; records = ap (λ n. take (n * sh .columns) tray) (sym c) ∙ ap (λ (v : Val). v .numbers) e }
 
 pub answers : (h : History) (n d : ℕ) (tray : List ℕ) (count : ℕ) (cached : Bool) → n < length (h .calls) → callAt h n ≡ step d tray
     → resultAt h n .out ≡ Answered count cached → WasTrue h d n count
 answers h n d tray count cached l c e =
     let s = sound h n (omega arith) in
-    let v = said (h .k) (resultAt h n .tray) count in
-    let a = result-is h n count cached (s .cols) e in
+    let v = said (shapeAt h) (resultAt h n .tray) count in
+    let a = result-is h n count cached (s .shape) e in
     let o : Transition (stateOf (memAt h n)) (machine.step d) (answered v cached) (stateOf (memAt h (suc n))) =
     subst (λ x. Transition (stateOf (memAt h n)) (machine.step d) x (stateOf (memAt h (suc n)))) a
     (subst (λ x. Transition (stateOf (memAt h n)) x (responseAt h n) (stateOf (memAt h (suc n)))) (step-is h n d tray c) (transition-at h n l)) in
-    let w = histories.answers (h .k) (few-columns h) (logTo h n) (stateOf (memAt h n)) (stateOf (memAt h (suc n))) (s .run) d v cached o in
+    let w = histories.answers (shapeAt h) (few-columns h) (logTo h n) (stateOf (memAt h n)) (stateOf (memAt h (suc n))) (s .run) d v cached o in
     let u = read-places h d n (w .key) (omega arith) (w .underWay) in
     let k = length-log h n in
     let up : w .moment ≤ suc n = let z = w .upto in omega arith in
@@ -89,8 +90,8 @@ answers h n d tray count cached l c e =
       j = w .moment;
       after = w .later;
       upto = up;
-      was = rw (u .asks) (is-list (h .k) (w .key) (plainAt h (w .moment) .table) (resultAt h n .tray) count
-          (w .was ∙ ap (λ x. valueOf (w .key) (plainTable x)) m ∙ ap (valueOf (w .key)) (plain-table h (w .moment) (omega arith))));
+      was = rw (u .asks) (is-list (shapeAt h) (w .key) (plainAt h (w .moment) .table) (resultAt h n .tray) count
+          (w .was ∙ ap (λ x. valueOf (w .key) (plainTable (shapeAt h) x)) m ∙ ap (valueOf (w .key)) (plain-table h (w .moment) (omega arith))));
     }
 
 -- ---- The limits
@@ -98,7 +99,7 @@ limit : (h : History) (begin : Call) (d b n : ℕ) (x : Act) → n ≤ length (h
     → stepsIn h d b n < histories.limit x
 unfolding under-log
 limit h begin d b n x l s u =
-    let z = histories.limits (h .k) (few-columns h) (logTo h n) (stateOf (memAt h n)) (sound h n l .run) d x (under-log h begin d b n x l s u) in
+    let z = histories.limits (shapeAt h) (few-columns h) (logTo h n) (stateOf (memAt h n)) (sound h n l .run) d x (under-log h begin d b n x l s u) in
     rw (steps-log h d b n l) z
 
 pub demand-3 : (h : History) → Demand3 h

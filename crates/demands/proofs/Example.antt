@@ -19,12 +19,15 @@ use Rattle.rules.specs.declared.Outcome.the-variants.{Answered}
 use Rattle.rules.specs.Table.{listOf}
 use Rattle.rules.specs.Nodes.{labelIn, pending, revision, withPending, withRevision, hasLabel, nodePlace, isPresent, nodeOf, withNode, evictNode, added, isFree, oldestFree, makeRoom, addedIn, ensured, isHigh, isWorn}
 use Rattle.rules.specs.Answers.{Entry, keyIn, lengthIn, revisionIn, listIn, hasKeyOf, atLeast, serves, fetchPlace, keyPlace, filed, isLong, someLong}
-use Rattle.rules.specs.Client.{reads, kind, steps, sawPending, entryOf, idle, isIdle, begun, queryAt, stepsInAll, isBad, stepped, noted, holding}
-use Rattle.rules.specs.Memory.{Mem, mem, recordsIn, storeIn, withStore, answersIn, withAnswers, columnsAt, clientIn, withClient, cleared, opened}
+use Rattle.rules.specs.Client.{kind, steps, sawPending, entryOf, idle, isIdle, begun, queryAt, stepsInAll, isBad, stepped, noted, holding}
+use Rattle.query.specs.Shape.{shapeOf, narrow}
+use Rattle.rules.specs.Layout.{reads}
+use Rattle.rules.specs.Memory.{Mem, mem, recordsIn, storeIn, withStore, answersIn, withAnswers, clientIn, withClient, cleared, opened}
 use Rattle.rules.specs.Outcome.{number}
 use Rattle.rules.specs.Refusals.{columns, client, isShort, badColumns, badQuery, isUnsound, noClient, openCode, beginCode, atClient, stepCode}
 use Rattle.rules.specs.Steps.{nowAt, storeBack, answered, lookResult, fetchResult, tableResult, fileResult, readResult, progress}
 use Rattle.rules.specs.Calls.{unless, beginResult, stepResult}
+use Rattle.rules.specs.Refusals.{shape}
 use Rattle.rules.specs.History.{Call, beginRead, beginInsert, beginDelete, step, abandon, evictAnswer, evictNode as dropNode, renew, untrayed, callResult, isAccepted, memAfter}
 use Rattle.machine.proofs.Keys.{Key, sameKey, sameQuery, sameColumn, sameKey-eq}
 use Rattle.demands.specs.WholeHistory.{History, memAt, callAt, resultAt, acceptedAt, endsWork, endsAt, UnderWay}
@@ -63,13 +66,13 @@ q = Is 5 ∷ []
 ready : Mem → ℕ → Bool
 ready m n =
     eqb (stepCode m tray 0) 0
-    && (not (isIdle (client m 0)) && (eqb (kind (client m 0)) reads && (sameKey (asking (queryAt (columns m) (client m 0))) (asking q) && eqb (steps (client m 0)) n)))
+    && (not (isIdle narrow (client m 0)) && (eqb (kind (client m 0)) reads && (sameKey (asking (queryAt (shape m) (client m 0))) (asking q) && eqb (steps (client m 0)) n)))
 
 -- an answer of no records to q is on file, at place 0
 onFile : Mem → Bool
 onFile m =
-    eqb (length (answersIn (m .answers))) 1
-    && (same (keyIn (getD (answersIn (m .answers)) 0 [])) (keyWords q) && eqb (lengthIn (getD (answersIn (m .answers)) 0 [])) 0)
+    eqb (length (answersIn narrow (m .answers))) 1
+    && (same (keyIn (getD (answersIn narrow (m .answers)) 0 [])) (keyWords q) && eqb (lengthIn (getD (answersIn narrow (m .answers)) 0 [])) 0)
 
 quiescentAt : Mem → Call → Bool
 quiescentAt m c = isQuiet q m && keepsNodes q m (callResult m c .mem)
@@ -103,8 +106,8 @@ passes : ℕ → Mem → List Call → Bool
 passes i m [] = true
 passes i m (c ∷ cs) = tests i m c && passes (suc i) (callResult m c .mem) cs
 
-computed : passes 0 (opened 1 lent) played ≡ true
-unfolding same keep place without allBelow listed padded written rows flat entriesIn withEntries pick readNode named readCount columnOf queryOf wellMarked isQuery namesAll termValue columnValue tag tags labelWords marks keyWords columnsIn queryIn isKey listOf labelIn pending revision withPending withRevision hasLabel nodePlace isPresent nodeOf withNode evictNode added isFree oldestFree makeRoom addedIn ensured isHigh isWorn keyIn lengthIn revisionIn listIn hasKeyOf atLeast serves fetchPlace keyPlace filed isLong someLong kind steps sawPending entryOf idle isIdle begun queryAt stepsInAll isBad stepped noted holding recordsIn storeIn withStore answersIn withAnswers columnsAt clientIn withClient cleared opened columns client isShort badColumns badQuery isUnsound noClient openCode beginCode atClient stepCode nowAt storeBack answered lookResult fetchResult tableResult fileResult readResult progress unless beginResult stepResult untrayed callResult isAccepted endsWork endsAt isOpen isQuiet stillThere keepsNodes number lies admits sameKey sameQuery sameColumn ready onFile quiescentAt mayFile goes tests passes
+computed : passes 0 (opened narrow (shapeOf 1) lent) played ≡ true
+unfolding same keep place without allBelow listed padded written rows flat entriesIn withEntries pick readNode named readCount columnOf queryOf wellMarked isQuery namesAll termValue columnValue tag tags labelWords marks keyWords columnsIn queryIn isKey listOf labelIn pending revision withPending withRevision hasLabel nodePlace isPresent nodeOf withNode evictNode added isFree oldestFree makeRoom addedIn ensured isHigh isWorn keyIn lengthIn revisionIn listIn hasKeyOf atLeast serves fetchPlace keyPlace filed isLong someLong kind steps sawPending entryOf idle isIdle begun queryAt stepsInAll isBad stepped noted holding recordsIn storeIn withStore answersIn withAnswers clientIn withClient cleared opened client isShort badColumns badQuery isUnsound noClient openCode beginCode atClient stepCode nowAt storeBack answered lookResult fetchResult tableResult fileResult readResult progress unless beginResult stepResult untrayed callResult isAccepted endsWork endsAt isOpen isQuiet stillThere keepsNodes number lies admits sameKey sameQuery sameColumn ready onFile quiescentAt mayFile goes tests passes
 computed = refl
 
 -- ---- What they say of each call
@@ -118,7 +121,7 @@ passed (c ∷ cs) n m e (suc i) l =
 
 at-call : (i : ℕ) → i < 10 → tests i (memAt example i) (callAt example i) ≡ true
 unfolding memAt callAt
-at-call i l = let z : 0 + i ≡ i = omega arith in rw z at (passed played 0 (opened 1 lent) computed i l)
+at-call i l = let z : 0 + i ≡ i = omega arith in rw z at (passed played 0 (opened narrow (shapeOf 1) lent) computed i l)
 
 record Passed (i : ℕ) (m : Mem) (c : Call) : Type 0 where
   quiescent : quiescentAt m c ≡ true
@@ -155,15 +158,15 @@ is-ready : (m : Mem) (n : ℕ) → ready m n ≡ true → (stepCode m tray 0 ≡
 unfolding ready
 is-ready m n e =
     let a = and-right (eqb (stepCode m tray 0) 0) _ e in
-    let b = and-right (not (isIdle (client m 0))) _ a in
+    let b = and-right (not (isIdle narrow (client m 0))) _ a in
     let c = and-right (eqb (kind (client m 0)) reads) _ b in
-    let k = sameKey (asking (queryAt (columns m) (client m 0))) (asking q) in (
+    let k = sameKey (asking (queryAt (shape m) (client m 0))) (asking q) in (
       eqb-true (stepCode m tray 0) 0 (and-left (eqb (stepCode m tray 0) 0) _ e),
       record {
         below = omega arith;
-        busy = not-true (isIdle (client m 0)) (and-left (not (isIdle (client m 0))) _ a);
+        busy = not-true (isIdle narrow (client m 0)) (and-left (not (isIdle narrow (client m 0))) _ a);
         reader = eqb-true (kind (client m 0)) reads (and-left (eqb (kind (client m 0)) reads) _ b);
-        asks = ap (λ (x : Key). x .asked) (sameKey-eq (asking (queryAt (columns m) (client m 0))) (asking q) (and-left k _ c));
+        asks = ap (λ (x : Key). x .asked) (sameKey-eq (asking (queryAt (shape m) (client m 0))) (asking q) (and-left k _ c));
         made = eqb-true (steps (client m 0)) n (and-right k _ c);
       },
     )
@@ -219,20 +222,20 @@ was-filed =
     }
 
 abbrev e : Entry
-e = getD (answersIn (memAt example 9 .answers)) 0 []
+e = getD (answersIn narrow (memAt example 9 .answers)) 0 []
 
 record OnFile (m : Mem) : Type 0 where
-  one : length (answersIn (m .answers)) ≡ 1
-  key : keyIn (getD (answersIn (m .answers)) 0 []) ≡ keyWords q
-  none : lengthIn (getD (answersIn (m .answers)) 0 []) ≡ 0
+  one : length (answersIn narrow (m .answers)) ≡ 1
+  key : keyIn (getD (answersIn narrow (m .answers)) 0 []) ≡ keyWords q
+  none : lengthIn (getD (answersIn narrow (m .answers)) 0 []) ≡ 0
 
 is-filed : (m : Mem) → onFile m ≡ true → OnFile m
 unfolding onFile
 is-filed m e =
-    let x = getD (answersIn (m .answers)) 0 [] in
-    let a = and-right (eqb (length (answersIn (m .answers))) 1) _ e in
+    let x = getD (answersIn narrow (m .answers)) 0 [] in
+    let a = and-right (eqb (length (answersIn narrow (m .answers))) 1) _ e in
     record {
-      one = eqb-true (length (answersIn (m .answers))) 1 (and-left (eqb (length (answersIn (m .answers))) 1) _ e);
+      one = eqb-true (length (answersIn narrow (m .answers))) 1 (and-left (eqb (length (answersIn narrow (m .answers))) 1) _ e);
       key = same-eq (keyIn x) (keyWords q) (and-left (same (keyIn x) (keyWords q)) _ a);
       none = eqb-true (lengthIn x) 0 (and-right (same (keyIn x) (keyWords q)) _ a);
     }

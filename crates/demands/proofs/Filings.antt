@@ -13,7 +13,7 @@ use Rattle.laws.proofs.TestLaws.{byTest}
 use Rattle.query.specs.Query.{Query}
 use Rattle.rules.specs.Client.{entryOf}
 use Rattle.rules.specs.Memory.{storeIn}
-use Rattle.rules.specs.Refusals.{columns, client}
+use Rattle.rules.specs.Refusals.{shape, columns, client}
 use Rattle.rules.specs.Calls.{stepResult}
 use Rattle.rules.specs.History as rules
 use Rattle.rules.specs.History.{beginRead, beginInsert, beginDelete, evictAnswer, evictNode, callResult}
@@ -30,7 +30,7 @@ use Rattle.machine.proofs.Log.{after, JobFrom, linked}
 use Rattle.machine.proofs.Quiescence as machine-quiescent
 use Rattle.machine.proofs.Quiescence.{quiescent, keyAt, filesAt, files, clientOf, quiescent-next}
 use Rattle.refinement.proofs.Abstraction.{stateOf, callOf, responseOf}
-use Rattle.demands.specs.WholeHistory.{History, memAt, callAt, resultAt, UnderWay}
+use Rattle.demands.specs.WholeHistory.{shapeAt, History, memAt, callAt, resultAt, UnderWay}
 use Rattle.demands.specs.Demand2.{Quiescent, Filed, LastFiled}
 use Rattle.demands.proofs.HistoryRuns.{responseAt, logTo, sound}
 use Rattle.demands.proofs.LogPlaces.{read-places}
@@ -40,9 +40,9 @@ use Rattle.demands.proofs.Works.{Since}
 use Rattle.demands.proofs.Flags.{flagsAt, quiescent-then, quiescent-less, reading, since-key, on-client}
 
 -- ---- A step's reply
-pub step-reply : (h : History) (n d : ℕ) (tray : List ℕ) → callAt h n ≡ rules.step d tray → responseAt h n ≡ responseOf (columns (memAt h n)) (stepResult (memAt h n) tray d)
+pub step-reply : (h : History) (n d : ℕ) (tray : List ℕ) → callAt h n ≡ rules.step d tray → responseAt h n ≡ responseOf (shape (memAt h n)) (stepResult (memAt h n) tray d)
 unfolding responseAt resultAt callResult
-step-reply h n d tray e = ap (λ c. responseOf (columns (memAt h n)) (callResult (memAt h n) c)) e
+step-reply h n d tray e = ap (λ c. responseOf (shape (memAt h n)) (callResult (memAt h n) c)) e
 
 pub step-call : (c : rules.Call) (d : ℕ) (tray : List ℕ) → c ≡ rules.step d tray → callOf c ≡ machine.step d
 unfolding callOf
@@ -98,9 +98,9 @@ low-client s d q ns l v e = byTest (leb 12 d)
 filing-job : (h : History) (n d : ℕ) (q : Key) (ns : List ℕ) (l : Val) → n ≤ length (h .calls) → stateOf (memAt h n) .clients d ≡ filing q ns l
     → log.UnderWay (logTo h n) d (reads q)
 filing-job h n d q ns l w e =
-    let B = after fresh (logTo h n) .trace in
+    let B = after (fresh (shapeAt h)) (logTo h n) .trace in
     let j = job-at (stateOf (memAt h n)) B d (filing q ns l) (sound h n w .good .trace) e in
-    subst (λ x. JobFrom (logTo h n) d x) (j .has .is) (linked (logTo h n) d) .0
+    subst (λ x. JobFrom (logTo h n) d x) (j .has .is) (linked (shapeAt h) (logTo h n) d) .0
 
 pub filed-there : (h : History) (q : Query) (n : ℕ) → n < length (h .calls)
     → files (stateOf (memAt h n)) (callOf (callAt h n)) (responseAt h n) (asking q) ≡ true → (b : ℕ) × Filed h q b n
@@ -116,7 +116,7 @@ filed-there h q n w e =
         asked = u .asked;
         tray = f .tray;
         calls = f .calls;
-        takes = step-taken (columns (memAt h n)) (memAt h n) (f .tray) d (ap isRefused (sym (step-reply h n d (f .tray) (f .calls))) ∙ f .taken);
+        takes = step-taken (shape (memAt h n)) (memAt h n) (f .tray) d (ap isRefused (sym (step-reply h n d (f .tray) (f .calls))) ∙ f .taken);
         files = files-there (memAt h n) d (asking q) (x .0) (x .1) (s .fits) (no-label-twice h n (omega arith))
             (low-client (stateOf (memAt h n)) d (asking q) (x .0) (x .1) (s .good .inv) (x .2)) (x .2);
         runs = u .runs;
@@ -157,8 +157,8 @@ filed-now h q b f n c w l x le k =
     let early = x .runs .earlier in
     let z = filing-there m d q (s .fits) (no-label-twice h f (omega arith)) (x .files) in
     let r : isRefused (responseAt h f) ≡ false =
-    ap isRefused (step-reply h f d (x .tray) (x .calls) ∙ ap (responseOf (columns m)) (file-step m (x .tray) d q (x .takes) (x .files)))
-    ∙ file-accepted (columns m) m (x .tray) d (entryOf (client m d)) in
+    ap isRefused (step-reply h f d (x .tray) (x .calls) ∙ ap (responseOf (shape m)) (file-step m (x .tray) d q (x .takes) (x .files)))
+    ∙ file-accepted (shape m) m (x .tray) d (entryOf (client m d)) in
     filed-flag (stateOf m) (stateOf (memAt h (suc f))) (flagsAt h f) (callOf (callAt h f)) (responseAt h f) (asking q) d (step-call (callAt h f) d (x .tray) (x .calls))
     (files-now (stateOf m) (callAt h f) (responseAt h f) (asking q) d (x .tray) (z .0) (z .1) (x .calls) r (z .2))
     (on-client h q d b f c (since-filed h q b f (omega arith) x) le (quiescent-less h q c n f k (omega arith)) f early (omega arith))

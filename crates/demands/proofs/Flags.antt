@@ -23,7 +23,7 @@ use Rattle.machine.proofs.Quiescence.{quiescent, quiet, kept, keyAt, begins, qu
 use Rattle.machine.proofs.Log.{startOf}
 use Rattle.machine.proofs.Gets.{transition-quiescent}
 use Rattle.refinement.proofs.Abstraction.{stateOf, callOf}
-use Rattle.demands.specs.WholeHistory.{History, memAt, callAt, UnderWay}
+use Rattle.demands.specs.WholeHistory.{shapeAt, History, memAt, callAt, UnderWay}
 use Rattle.demands.specs.Demand2.{Quiescent}
 use Rattle.demands.proofs.HistoryRuns.{responseAt, logTo, sound, transition-at}
 use Rattle.demands.proofs.LogPlaces.{read-begins}
@@ -35,13 +35,13 @@ unfoldable pub flagsAt : History → ℕ → machine-quiescent.Quiescent
 flagsAt h zero = quiescent-start
 flagsAt h (suc n) = quiescent-next (stateOf (memAt h n)) (callOf (callAt h n)) (responseAt h n) (stateOf (memAt h (suc n))) (flagsAt h n)
 
-opened-state : (h : History) → stateOf (memAt h 0) ≡ machine.opened (h .k)
+opened-state : (h : History) → stateOf (memAt h 0) ≡ machine.opened (shapeAt h)
 unfolding logTo
 opened-state h = sound h 0 (omega arith) .run
 
 pub quiescent-at : (h : History) (n : ℕ) → n ≤ length (h .calls) → QuiescenceInv (stateOf (memAt h n)) (flagsAt h n)
 unfolding flagsAt
-quiescent-at h zero l = rw (opened-state h) (opened-quiescent (h .k))
+quiescent-at h zero l = rw (opened-state h) (opened-quiescent (shapeAt h))
 quiescent-at h (suc n) l =
     transition-quiescent (stateOf (memAt h n)) (flagsAt h n) (sound h n (omega arith) .good .inv) (sound h (suc n) l .good .inv) (quiescent-at h n (omega arith)) (transition-at h n (omega arith))
 

@@ -7,7 +7,7 @@ use native.Mathlib.Omega.{arith}
 use lib.ListN.{length, getD, take}
 use Rattle.rules.specs.Memory.{Mem, storeIn, opened}
 use Rattle.rules.specs.Outcome.{number}
-use Rattle.rules.specs.Refusals.{columns}
+use Rattle.rules.specs.Refusals.{shape, columns}
 use Rattle.rules.specs.History.{Call, beginRead, beginInsert, beginDelete, step, abandon, evictAnswer, evictNode, renew, callResult}
 use Rattle.rules.specs.History.{Plain, plainAtOpening, fed, fedAccepted, memAfter, plainAfter}
 use Rattle.revisions.proofs.EffectiveRevision.{NoDup}
@@ -20,9 +20,10 @@ use Rattle.machine.proofs.Claims.{Hist, next, fresh, Good, good-next, opened-go
 use Rattle.machine.proofs.Log.{Entry, entry, after}
 use Rattle.machine.proofs.Histories.{Run, after-append}
 use Rattle.refinement.proofs.Abstraction.{stateOf, callOf, responseOf, Fits}
-use Rattle.refinement.proofs.Refinement.{refines, columns-stay, number-is}
+use Rattle.refinement.proofs.Refinement.{refines, shape-stays, number-is}
 use Rattle.refinement.proofs.Opening.{opened-fits}
-use Rattle.demands.specs.WholeHistory.{History, memAt, plainAt, callAt, resultAt}
+use Rattle.demands.specs.WholeHistory.{History, shapeAt, memAt, plainAt, callAt, resultAt}
+use Rattle.query.specs.Shape.{Shape, maxColumns, narrow}
 
 -- ---- One call more
 mem-more : (cs : List Call) (m : Mem) (n : ℕ) → n < length cs → memAfter m (take (suc n) cs) ≡ callResult (memAfter m (take n cs)) (getD cs n renew) .mem
@@ -40,16 +41,16 @@ plain-more (c ∷ cs) m p (suc n) l = plain-more cs (callResult m c .mem) (fed p
 
 pub next-mem : (h : History) (n : ℕ) → n < length (h .calls) → memAt h (suc n) ≡ resultAt h n .mem
 unfolding memAt resultAt callAt
-next-mem h n l = mem-more (h .calls) (opened (h .k) (h .lent)) n l
+next-mem h n l = mem-more (h .calls) (opened narrow (shapeAt h) (h .lent)) n l
 
 next-plain : (h : History) (n : ℕ) → n < length (h .calls) → plainAt h (suc n) ≡ fed (plainAt h n) (callAt h n) (number (resultAt h n .out))
 unfolding memAt plainAt resultAt callAt
-next-plain h n l = plain-more (h .calls) (opened (h .k) (h .lent)) plainAtOpening n l
+next-plain h n l = plain-more (h .calls) (opened narrow (shapeAt h) (h .lent)) (plainAtOpening (shapeAt h)) n l
 
 -- ---- The machine's log of a history
 -- what the machine answers to call n
 unfoldable pub responseAt : History → ℕ → Response
-responseAt h n = responseOf (columns (memAt h n)) (resultAt h n)
+responseAt h n = responseOf (shape (memAt h n)) (resultAt h n)
 
 unfoldable pub entryAt : History → ℕ → Entry
 entryAt h n = entry (callOf (callAt h n)) (responseAt h n)
@@ -58,39 +59,39 @@ unfoldable pub logTo : History → ℕ → List Entry
 logTo h zero = []
 logTo h (suc n) = logTo h n ++ (entryAt h n ∷ [])
 
-pub after-to : (h : History) (n : ℕ) → after fresh (logTo h (suc n)) ≡ next (after fresh (logTo h n)) (callOf (callAt h n)) (responseAt h n)
+pub after-to : (h : History) (n : ℕ) → after (fresh (shapeAt h)) (logTo h (suc n)) ≡ next (after (fresh (shapeAt h)) (logTo h n)) (callOf (callAt h n)) (responseAt h n)
 unfolding logTo entryAt
-after-to h n = after-append (logTo h n) fresh (entryAt h n)
+after-to h n = after-append (logTo h n) (fresh (shapeAt h)) (entryAt h n)
 
 -- ---- After n calls
 pub record Sound (h : History) (n : ℕ) : Type 0 where
   pub fits : Fits (memAt h n)
-  pub cols : columns (memAt h n) ≡ h .k
-  pub good : Good (stateOf (memAt h n)) (after fresh (logTo h n))
-  pub run : Run (machine.opened (h .k)) (logTo h n) (stateOf (memAt h n))
+  pub shape : shape (memAt h n) ≡ shapeAt h
+  pub good : Good (stateOf (memAt h n)) (after (fresh (shapeAt h)) (logTo h n))
+  pub run : Run (machine.opened (shapeAt h)) (logTo h n) (stateOf (memAt h n))
 
 once : (m : Mem) → StateInv (stateOf m) → NoDup (storeIn (m .nodes) .nodes)
 unfolding stateOf
 once m t = t .once
 
--- the columns of the state
-cols-are : (m : Mem) → stateOf m .cols ≡ columns m
+-- the shape of the state
+shape-is : (m : Mem) → stateOf m .shape ≡ shape m
 unfolding stateOf
-cols-are m = refl
+shape-is m = refl
 
-opened-cols : (k : ℕ) → machine.opened k .cols ≡ k
+opened-is : (sh : Shape) → machine.opened sh .shape ≡ sh
 unfolding machine.opened
-opened-cols k = refl
+opened-is sh = refl
 
 -- as the opening has left it
-opened-columns : (h : History) → columns (opened (h .k) (h .lent)) ≡ h .k
-opened-columns h =
+opened-shape : (h : History) → shape (opened narrow (shapeAt h) (h .lent)) ≡ shapeAt h
+opened-shape h =
     let z = opened-fits (h .lent) (h .k) (h .accepted) in
-    sym (cols-are (opened (h .k) (h .lent))) ∙ ap (λ (s : State). s .cols) (z .1) ∙ opened-cols (h .k)
+    sym (shape-is (opened narrow (shapeAt h) (h .lent))) ∙ ap (λ (s : State). s .shape) (z .1) ∙ opened-is (shapeAt h)
 
-pub few-columns : (h : History) → h .k ≤ 4
+pub few-columns : (h : History) → h .k ≤ maxColumns
 few-columns h =
-    let a = opened-columns h in
+    let a = ap (λ (sh : Shape). sh .columns) (opened-shape h) in
     let b = opened-fits (h .lent) (h .k) (h .accepted) .0 .few in
     omega arith
 
@@ -100,8 +101,8 @@ sound-opened h =
     let z = opened-fits (h .lent) (h .k) (h .accepted) in
     record {
       fits = z .0;
-      cols = opened-columns h;
-      good = rw (z .1) (opened-good (h .k) (few-columns h));
+      shape = opened-shape h;
+      good = rw (z .1) (opened-good (shapeAt h) (few-columns h));
       run = z .1;
     }
 
@@ -121,9 +122,9 @@ sound-next h n l s =
     let d = transition-then h n l s in
     record {
       fits = d .1;
-      cols = ap columns (next-mem h n l) ∙ columns-stay (memAt h n) (callAt h n) (s .fits) (once (memAt h n) (s .good .inv)) ∙ s .cols;
-      good = rw (after-to h n) (good-next (stateOf (memAt h n)) (after fresh (logTo h n)) (s .good) (d .0));
-      run = run-more (logTo h n) (machine.opened (h .k)) (stateOf (memAt h n)) (stateOf (memAt h (suc n))) (callOf (callAt h n)) (responseAt h n) (s .run) (d .0);
+      shape = ap (λ (m : Mem). shape m) (next-mem h n l) ∙ shape-stays (memAt h n) (callAt h n) (s .fits) (once (memAt h n) (s .good .inv)) ∙ s .shape;
+      good = rw (after-to h n) (good-next (stateOf (memAt h n)) (after (fresh (shapeAt h)) (logTo h n)) (s .good) (d .0));
+      run = run-more (logTo h n) (machine.opened (shapeAt h)) (stateOf (memAt h n)) (stateOf (memAt h (suc n))) (callOf (callAt h n)) (responseAt h n) (s .run) (d .0);
     }
 
 pub sound : (h : History) (n : ℕ) → n ≤ length (h .calls) → Sound h n
@@ -147,19 +148,19 @@ fed-same p renew n = refl
 
 pub number-at : (h : History) (n : ℕ) → machine.number (responseAt h n) ≡ number (resultAt h n .out)
 unfolding responseAt
-number-at h n = number-is (columns (memAt h n)) (resultAt h n)
+number-at h n = number-is (shape (memAt h n)) (resultAt h n)
 
 next-is : (g : Hist) (c : machine.Call) (a : Response) → next g c a .plain ≡ plain.fed (g .plain) c (machine.number a)
 unfolding next
 next-is g c a = refl
 
-pub plain-at : (h : History) (n : ℕ) → n ≤ length (h .calls) → after fresh (logTo h n) .plain ≡ plainAt h n
+pub plain-at : (h : History) (n : ℕ) → n ≤ length (h .calls) → after (fresh (shapeAt h)) (logTo h n) .plain ≡ plainAt h n
 plain-at h zero l = start h
   where
-    start : (h : History) → after fresh (logTo h 0) .plain ≡ plainAt h 0
+    start : (h : History) → after (fresh (shapeAt h)) (logTo h 0) .plain ≡ plainAt h 0
     start h = unfold logTo in unfold after in unfold fresh in unfold plainAt in unfold plainAfter in refl
 plain-at h (suc n) l =
-    let g = after fresh (logTo h n) in
+    let g = after (fresh (shapeAt h)) (logTo h n) in
     ap (λ (x : Hist). x .plain) (after-to h n)
     ∙ next-is g (callOf (callAt h n)) (responseAt h n)
     ∙ ap (λ p. plain.fed p (callOf (callAt h n)) (machine.number (responseAt h n))) (plain-at h n (omega arith))

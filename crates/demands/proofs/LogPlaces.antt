@@ -16,7 +16,7 @@ use Rattle.rules.specs.declared.Outcome.{Outcome}
 use Rattle.rules.specs.declared.Outcome.the-variants.{Refused, Accepted, Answered, Long, Ended, Full}
 use Rattle.rules.specs.Table.{insert, delete}
 use Rattle.rules.specs.Outcome.{StepResult, number}
-use Rattle.rules.specs.Refusals.{columns}
+use Rattle.rules.specs.Refusals.{shape, columns}
 use Rattle.rules.specs.History.{Call, beginRead, beginInsert, beginDelete, step, abandon, evictAnswer, evictNode, renew, isAccepted}
 use Rattle.machine.proofs.Keys.{Key}
 use Rattle.machine.proofs.Machine as machine
@@ -29,6 +29,7 @@ use Rattle.machine.proofs.Log.{Entry, entry, startOf, isEnd, ends, goesOn, step
 use Rattle.refinement.proofs.Abstraction.{stateOf, callOf, responseIn, responseOf}
 use Rattle.demands.specs.WholeHistory.{History, memAt, callAt, resultAt, acceptedAt, endsWork, endsAt, UnderWay, isStepAt, stepsIn}
 use Rattle.demands.proofs.HistoryRuns.{responseAt, entryAt, logTo, transition-at, number-at}
+use Rattle.query.specs.Shape.{Shape}
 
 -- ---- The log by places
 pub length-log : (h : History) (n : ℕ) → length (logTo h n) ≡ n
@@ -94,30 +95,30 @@ pub accepted-at : (h : History) (n : ℕ) → n < length (h .calls) → accepted
 unfolding acceptedAt
 accepted-at h n l = ap isAccepted (sym (number-at h n)) ∙ transition-accepted (stateOf (memAt h n)) (transition-at h n l)
 
-work-ends : (k : ℕ) (tray : List ℕ) (o : Outcome) → isEnd (responseIn k tray o) ≡ endsWork o
+work-ends : (sh : Shape) (tray : List ℕ) (o : Outcome) → isEnd (responseIn sh tray o) ≡ endsWork o
 unfolding isEnd responseIn endsWork
-work-ends k tray (Refused n) = refl
-work-ends k tray Accepted = refl
-work-ends k tray (Answered n b) = refl
-work-ends k tray Long = refl
-work-ends k tray (Ended b) = refl
-work-ends k tray Full = refl
+work-ends sh tray (Refused n) = refl
+work-ends sh tray Accepted = refl
+work-ends sh tray (Answered n b) = refl
+work-ends sh tray Long = refl
+work-ends sh tray (Ended b) = refl
+work-ends sh tray Full = refl
 
-ends-same : (d k : ℕ) (c : Call) (x : StepResult) → isAccepted (number (x .out)) ≡ not (isRefused (responseOf k x))
-    → ends d (callOf c) (responseOf k x) ≡ endsAt d c (x .out)
+ends-same : (sh : Shape) (d : ℕ) (c : Call) (x : StepResult) → isAccepted (number (x .out)) ≡ not (isRefused (responseOf sh x))
+    → ends d (callOf c) (responseOf sh x) ≡ endsAt d c (x .out)
 unfolding ends callOf endsAt responseOf
-ends-same d k (beginRead e a) x i = refl
-ends-same d k (beginInsert e a) x i = refl
-ends-same d k (beginDelete e a) x i = refl
-ends-same d k (step e tray) x i = ap (λ b. eqb e d && b) (work-ends k (x .tray) (x .out))
-ends-same d k (abandon e) x i = ap (λ b. eqb e d && b) (sym i)
-ends-same d k (evictAnswer j) x i = refl
-ends-same d k (evictNode j) x i = refl
-ends-same d k renew x i = refl
+ends-same sh d (beginRead e a) x i = refl
+ends-same sh d (beginInsert e a) x i = refl
+ends-same sh d (beginDelete e a) x i = refl
+ends-same sh d (step e tray) x i = ap (λ b. eqb e d && b) (work-ends sh (x .tray) (x .out))
+ends-same sh d (abandon e) x i = ap (λ b. eqb e d && b) (sym i)
+ends-same sh d (evictAnswer j) x i = refl
+ends-same sh d (evictNode j) x i = refl
+ends-same sh d renew x i = refl
 
 pub ends-at : (h : History) (d n : ℕ) → n < length (h .calls) → ends d (callOf (callAt h n)) (responseAt h n) ≡ endsAt d (callAt h n) (resultAt h n .out)
 unfolding responseAt acceptedAt
-ends-at h d n l = ends-same d (columns (memAt h n)) (callAt h n) (resultAt h n) (accepted-at h n l)
+ends-at h d n l = ends-same (shape (memAt h n)) d (callAt h n) (resultAt h n) (accepted-at h n l)
 
 stepped-same : (d : ℕ) (c : Call) (a : Response) → stepped d (callOf c) a ≡ cond (isStepAt d c && not (isRefused a)) 1 0
 unfolding stepped callOf isStepAt

@@ -18,9 +18,11 @@ use Rattle.query.proofs.NodeLists.{read-nodes-count, read-nodes-at}
 use Rattle.rules.specs.Table.{Write, target}
 use Rattle.rules.specs.Nodes.{isPresent}
 use Rattle.rules.specs.Answers.{Entry}
-use Rattle.rules.specs.Client.{Client, kind, steps, isIdle, entryOf, queryAt, writeAt, sawPending, reads}
+use Rattle.rules.specs.Client.{Client, kind, steps, isIdle, entryOf, queryAt, writeAt, sawPending}
+use Rattle.query.specs.Shape.{Shape, narrow}
+use Rattle.rules.specs.Layout.{reads}
 use Rattle.rules.specs.Memory.{Mem, storeIn}
-use Rattle.rules.specs.Refusals.{columns, client}
+use Rattle.rules.specs.Refusals.{shape, columns, client}
 use Rattle.revisions.proofs.EffectiveRevision.{NoDup, has}
 use Rattle.revisions.proofs.NodeOperations.{present-has}
 use Rattle.machine.proofs.Keys.{Key, Val, readLabels, length-readLabels, touches}
@@ -38,9 +40,9 @@ abbrev pub asking : Query → Key
 asking q = record { asked = q }
 
 -- ---- No open write
-reader-opens : (k : ℕ) (e : Entry) (i : ℕ) (saw : Bool) (q : Key) → opens (readerOf k e i saw) q ≡ false
+reader-opens : (sh : Shape) (e : Entry) (i : ℕ) (saw : Bool) (q : Key) → opens (readerOf sh e i saw) q ≡ false
 unfolding readerOf opens
-reader-opens k e i saw q = byTest (leb i (looksOf k e)) (λ t. rw t refl) (λ t. byTest (eqb i (looksOf k e + 1)) (λ u. rw (t, u) refl) (λ u. rw (t, u) refl))
+reader-opens sh e i saw q = byTest (leb i (looksOf sh e)) (λ t. rw t refl) (λ t. byTest (eqb i (looksOf sh e + 1)) (λ u. rw (t, u) refl) (λ u. rw (t, u) refl))
 
 writer-opens : (w : Write) (i : ℕ) (c f : Bool) (q : Key) → opens (writerOf w i c f) q ≡ touches q w
 unfolding writerOf opens
@@ -50,19 +52,19 @@ not-touched : (q : Query) (w : Write) → meets q (target w) ≡ false → touch
 unfolding touches
 not-touched q w e = e
 
-client-opens : (k : ℕ) (q : Query) (c : Client) → isOpen k q c ≡ false → opens (phaseOf k c) (asking q) ≡ false
+client-opens : (sh : Shape) (q : Query) (c : Client) → isOpen narrow sh q c ≡ false → opens (phaseOf sh c) (asking q) ≡ false
 unfolding isOpen phaseOf busyPhase
-client-opens k q c e = byTest (isIdle c)
+client-opens sh q c e = byTest (isIdle narrow c)
     (λ i. rw i (unfold opens in refl))
     (λ i. byTest (eqb (kind c) reads)
-    (λ r. rw (i, r) (reader-opens k (entryOf c) (steps c) (sawPending c) (asking q)))
-    (λ r. rw (i, r) (writer-opens (writeAt k c) _ _ _ (asking q) ∙ not-touched q (writeAt k c) (rw (i, r) at e))))
+    (λ r. rw (i, r) (reader-opens sh (entryOf c) (steps c) (sawPending c) (asking q)))
+    (λ r. rw (i, r) (writer-opens (writeAt sh c) _ _ _ (asking q) ∙ not-touched q (writeAt sh c) (rw (i, r) at e))))
 
 pub quiet-there : (q : Query) (m : Mem) → isQuiet q m ≡ true → quiet (stateOf m) (asking q) ≡ true
 unfolding isQuiet quiet
 quiet-there q m e = all-below 12 (λ d. not (opens (stateOf m .clients d) (asking q))) (λ d l.
-    let o = not-true (isOpen (columns m) q (client m d)) (below-at 12 (λ d. not (isOpen (columns m) q (client m d))) d e l) in
-    rw (client-at m d l, client-opens (columns m) q (client m d) o) refl)
+    let o = not-true (isOpen narrow (shape m) q (client m d)) (below-at 12 (λ d. not (isOpen narrow (shape m) q (client m d))) d e l) in
+    rw (client-at m d l, client-opens (shape m) q (client m d) o) refl)
 
 -- ---- No node put out
 node-is : (q : Query) (j : ℕ) → j < readCount q → node (asking q) j ≡ labelWords (readNode q j)
@@ -80,13 +82,13 @@ kept-there q m t e = all-below (length (readLabels (asking q))) _ (λ j l.
     rw (has-is q m j k, has-is q t j k) (below-at (readCount q) (stillThere q m t) j e k))
 
 -- ---- A read at its fetch, and at its file step
-query-is : (k : ℕ) (c : Client) → looksOf k (entryOf c) ≡ readCount (queryAt k c)
+query-is : (sh : Shape) (c : Client) → looksOf sh (entryOf c) ≡ readCount (queryAt sh c)
 unfolding looksOf queryAt
-query-is k c = refl
+query-is sh c = refl
 
-key-is : (k : ℕ) (c : Client) (q : Query) → queryAt k c ≡ q → keyOf k (entryOf c) ≡ asking q
+key-is : (sh : Shape) (c : Client) (q : Query) → queryAt sh c ≡ q → keyOf sh (entryOf c) ≡ asking q
 unfolding keyOf queryAt
-key-is k c q e = λ i. record { asked = e i }
+key-is sh c q e = λ i. record { asked = e i }
 
 revisions-length : (n : ℕ) (c : Client) → length c ≡ 157 → n ≤ 16 → length (revisionsIn n (entryOf c)) ≡ n
 unfolding revisionsIn entryOf
@@ -104,7 +106,7 @@ pub record Fetching (m : Mem) (d : ℕ) (q : Query) : Type 0 where
 pub fetching : (m : Mem) (d : ℕ) (q : Query) → Fits m → NoDup (storeIn (m .nodes) .nodes) → Reads m d q (readCount q) → Fetching m d q
 fetching m d q f once r =
     let c = client m d in
-    let k = columns m in
+    let k = shape m in
     let g = going m f once d (r .below) (r .busy) in
     let n : looksOf k (entryOf c) ≡ readCount q = query-is k c ∙ ap readCount (r .asks) in
     let x = r .made in
@@ -123,7 +125,7 @@ pub filing-there : (m : Mem) (d : ℕ) (q : Query) → Fits m → NoDup (storeIn
     → (ns : List ℕ) × (l : Val) × (stateOf m .clients d ≡ filing (asking q) ns l)
 filing-there m d q f once r =
     let c = client m d in
-    let k = columns m in
+    let k = shape m in
     let g = going m f once d (r .below) (r .busy) in
     let n : looksOf k (entryOf c) ≡ readCount q = query-is k c ∙ ap readCount (r .asks) in
     let x = r .made in (
@@ -141,20 +143,20 @@ writer-files : (w : Write) (i : ℕ) (c f : Bool) → isFiling (writerOf w i c f
 unfolding writerOf
 writer-files w i c f = byTest (leb i (writeCount (target w))) (λ t. rw t refl) (λ t. rw t refl)
 
-idle-not : (k : ℕ) (c : Client) → isIdle c ≡ true → isFiling (phaseOf k c) ≡ false
+idle-not : (sh : Shape) (c : Client) → isIdle narrow c ≡ true → isFiling (phaseOf sh c) ≡ false
 unfolding phaseOf
-idle-not k c e = rw e refl
+idle-not sh c e = rw e refl
 
-writer-not : (k : ℕ) (c : Client) → isIdle c ≡ false → eqb (kind c) reads ≡ false → isFiling (phaseOf k c) ≡ false
+writer-not : (sh : Shape) (c : Client) → isIdle narrow c ≡ false → eqb (kind c) reads ≡ false → isFiling (phaseOf sh c) ≡ false
 unfolding phaseOf busyPhase
-writer-not k c e r = rw (e, r) (writer-files (writeAt k c) _ _ _)
+writer-not sh c e r = rw (e, r) (writer-files (writeAt sh c) _ _ _)
 
-reader-files : (m : Mem) (d : ℕ) (q : Key) (ns : List ℕ) (l : Val) → Going m d → isIdle (client m d) ≡ false → kind (client m d) ≡ reads
-    → phaseOf (columns m) (client m d) ≡ filing q ns l → Reads m d (q .asked) (readCount (q .asked) + 2)
+reader-files : (m : Mem) (d : ℕ) (q : Key) (ns : List ℕ) (l : Val) → Going m d → isIdle narrow (client m d) ≡ false → kind (client m d) ≡ reads
+    → phaseOf (shape m) (client m d) ≡ filing q ns l → Reads m d (q .asked) (readCount (q .asked) + 2)
 unfolding keyOf queryAt
 reader-files m d q ns l g b r e =
     let c = client m d in
-    let k = columns m in
+    let k = shape m in
     let n = query-is k c in
     let late = g .busy .going in
     let lst = last-read k c r in
@@ -171,9 +173,9 @@ reader-files m d q ns l g b r e =
 pub files-there : (m : Mem) (d : ℕ) (q : Key) (ns : List ℕ) (l : Val) → Fits m → NoDup (storeIn (m .nodes) .nodes) → d < 12
     → stateOf m .clients d ≡ filing q ns l → Reads m d (q .asked) (readCount (q .asked) + 2)
 files-there m d q ns l f once h e =
-    let e′ : phaseOf (columns m) (client m d) ≡ filing q ns l = sym (client-at m d h) ∙ e in
-    byTest (isIdle (client m d))
-    (λ i. not-filing _ (idle-not (columns m) (client m d) i) e′)
+    let e′ : phaseOf (shape m) (client m d) ≡ filing q ns l = sym (client-at m d h) ∙ e in
+    byTest (isIdle narrow (client m d))
+    (λ i. not-filing _ (idle-not (shape m) (client m d) i) e′)
     (λ i. byTest (eqb (kind (client m d)) reads)
     (λ r. reader-files m d q ns l (going m f once d h i) i (eqb-true _ _ r) e′)
-    (λ r. not-filing _ (writer-not (columns m) (client m d) i r) e′))
+    (λ r. not-filing _ (writer-not (shape m) (client m d) i r) e′))

@@ -12,9 +12,11 @@ use Rattle.laws.proofs.ListLaws.{same-refl, below-at}
 use Rattle.laws.proofs.TestLaws.{byTest, clash, or-right}
 use Rattle.query.specs.Query.{Query, Record, lies, writeCount}
 use Rattle.rules.specs.Table.{Table, Write, insert, delete, target, has, effect, noRoom}
-use Rattle.rules.specs.Client.{Client, kind, steps, isIdle, entryOf, sawPending, didChange, foundFull, writeAt, reads}
+use Rattle.rules.specs.Client.{Client, kind, steps, isIdle, entryOf, sawPending, didChange, foundFull, writeAt}
+use Rattle.query.specs.Shape.{Shape, narrow}
+use Rattle.rules.specs.Layout.{reads}
 use Rattle.rules.specs.Memory.{Mem}
-use Rattle.rules.specs.Refusals.{columns, client}
+use Rattle.rules.specs.Refusals.{shape, columns, client}
 use Rattle.records.proofs.RecordSets.{has-insert, has-delete, no-room-same}
 use Rattle.machine.proofs.Machine.{State, Phase, idle, looking, tabling, filing, announcing, raising, Call, Response}
 use Rattle.machine.proofs.Machine.{at-client, with-store, with-filed, with-tab}
@@ -58,10 +60,10 @@ isAnnouncing (raising w j c f) = false
 no-announcing : {A : Type 0} {x : Phase} {w : Write} {i : ℕ} → x ≡ announcing w i → isAnnouncing x ≡ false → A
 no-announcing e f = clash (ap isAnnouncing e) f
 
-reader-announces : (k : ℕ) (c : Client) → isAnnouncing (readerOf k (entryOf c) (steps c) (sawPending c)) ≡ false
+reader-announces : (sh : Shape) (c : Client) → isAnnouncing (readerOf sh (entryOf c) (steps c) (sawPending c)) ≡ false
 unfolding readerOf
-reader-announces k c = byTest (leb (steps c) (looksOf k (entryOf c))) (λ t. rw t refl)
-    (λ t. byTest (eqb (steps c) (looksOf k (entryOf c) + 1)) (λ u. rw (t, u) refl) (λ u. rw (t, u) refl))
+reader-announces sh c = byTest (leb (steps c) (looksOf sh (entryOf c))) (λ t. rw t refl)
+    (λ t. byTest (eqb (steps c) (looksOf sh (entryOf c) + 1)) (λ u. rw (t, u) refl) (λ u. rw (t, u) refl))
 
 writer-announces : (v w : Write) (n i : ℕ) (c f : Bool) → writerOf v n c f ≡ announcing w i → v ≡ w
 unfolding writerOf
@@ -70,13 +72,13 @@ writer-announces v w n i c f e = byTest (leb n (writeCount (target v)))
     (λ t. no-announcing (rw t at e) refl)
 
 -- a client that marks is a writer's
-client-announces : (k : ℕ) (c : Client) (w : Write) (i : ℕ) (v : Bool) (r : Record) → phaseOf k c ≡ announcing w i → isOpposed k v r c ≡ false → undoes v r w ≡ false
+client-announces : (sh : Shape) (c : Client) (w : Write) (i : ℕ) (v : Bool) (r : Record) → phaseOf sh c ≡ announcing w i → isOpposed narrow sh v r c ≡ false → undoes v r w ≡ false
 unfolding phaseOf busyPhase isOpposed
-client-announces k c w i v r e f = byTest (isIdle c)
+client-announces sh c w i v r e f = byTest (isIdle narrow c)
     (λ t. no-announcing (rw t at e) refl)
     (λ t. byTest (eqb (kind c) reads)
-    (λ u. no-announcing (rw (t, u) at e) (reader-announces k c))
-    (λ u. ap (undoes v r) (sym (writer-announces (writeAt k c) w (steps c) i (didChange c) (foundFull c) (rw (t, u) at e))) ∙ (rw (t, u) at f)))
+    (λ u. no-announcing (rw (t, u) at e) (reader-announces sh c))
+    (λ u. ap (undoes v r) (sym (writer-announces (writeAt sh c) w (steps c) i (didChange c) (foundFull c) (rw (t, u) at e))) ∙ (rw (t, u) at f)))
 
 -- no desk is about to undo it
 abbrev Quiescent : Bool → Record → State → Type 0
@@ -85,8 +87,8 @@ Quiescent v r s = (d : ℕ) (w : Write) (i : ℕ) → d < 12 → s .clients d �
 quiescent-there : (v : Bool) (r : Record) (m : Mem) → isUnopposed v r m ≡ true → Quiescent v r (stateOf m)
 unfolding isUnopposed
 quiescent-there v r m e d w i l k =
-    client-announces (columns m) (client m d) w i v r (sym (client-at m d l) ∙ k)
-    (not-true (isOpposed (columns m) v r (client m d)) (below-at 12 (λ d. not (isOpposed (columns m) v r (client m d))) d e l))
+    client-announces (shape m) (client m d) w i v r (sym (client-at m d l) ∙ k)
+    (not-true (isOpposed narrow (shape m) v r (client m d)) (below-at 12 (λ d. not (isOpposed narrow (shape m) v r (client m d))) d e l))
 
 -- ---- A call, and a history
 transition-keeps : (s : State) (v : Bool) (r : Record) {c : Call} {a : Response} {t : State} → Transition s c a t → Quiescent v r s → has r (s .tab) ≡ v → has r (t .tab) ≡ v

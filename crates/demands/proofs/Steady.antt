@@ -13,7 +13,7 @@ use lib.ListN.{length}
 use Rattle.laws.proofs.ListLaws.{below-at}
 use Rattle.laws.proofs.TestLaws.{byTest, clash}
 use Rattle.query.specs.Query.{Query}
-use Rattle.rules.specs.Sizes.{maxList}
+use Rattle.rules.specs.Layout.{maxList}
 use Rattle.rules.specs.Table.{Write, listOf, effect}
 use Rattle.rules.specs.History as rules
 use Rattle.machine.proofs.Sharing.{effect-list}

@@ -10,13 +10,13 @@ use Rattle.records.proofs.RecordsAscending.{list-ascending}
 use Rattle.machine.proofs.TableAscending.{TableGood}
 use Rattle.machine.proofs.Histories.{tables-good}
 use Rattle.refinement.proofs.Abstraction.{stateOf}
-use Rattle.demands.specs.WholeHistory.{History, memAt}
+use Rattle.demands.specs.WholeHistory.{shapeAt, History, memAt}
 use Rattle.demands.proofs.HistoryRuns.{logTo, sound, few-columns}
 use Rattle.demands.proofs.Demand3Holds.{table-is}
 
 pub good-table : (h : History) (n : ℕ) → n ≤ length (h .calls) → TableGood (h .k) (recordsIn (h .k) (memAt h n .table))
 good-table h n l =
-    subst (λ t. TableGood (h .k) t) (table-is h n l) (tables-good (h .k) (few-columns h) (logTo h n) (stateOf (memAt h n)) (sound h n l .run))
+    subst (λ t. TableGood (h .k) t) (table-is h n l) (tables-good (shapeAt h) (few-columns h) (logTo h n) (stateOf (memAt h n)) (sound h n l .run))
 
 pub demand-2-ascending : (h : History) (n : ℕ) → n ≤ length (h .calls)
     → Ascending (recordsIn (h .k) (memAt h n .table)) × ((q : Query) → Ascending (listOf q (recordsIn (h .k) (memAt h n .table))))

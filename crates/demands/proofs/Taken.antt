@@ -15,10 +15,12 @@ use Rattle.laws.proofs.WrittenLaws.{written-read}
 use Rattle.query.specs.Query.{Query, readCount}
 use Rattle.rules.specs.declared.Outcome.the-variants.{Answered}
 use Rattle.rules.specs.Answers.{Entry, lengthIn, listIn, fetchPlace}
-use Rattle.rules.specs.Client.{kind, entryOf, sawPending, reads}
+use Rattle.rules.specs.Client.{kind, entryOf, sawPending}
+use Rattle.query.specs.Shape.{Shape, narrow}
+use Rattle.rules.specs.Layout.{reads}
 use Rattle.rules.specs.Memory.{Mem, answersIn}
 use Rattle.rules.specs.Outcome.{StepResult}
-use Rattle.rules.specs.Refusals.{columns, client, stepCode}
+use Rattle.rules.specs.Refusals.{shape, columns, client, stepCode}
 use Rattle.rules.specs.Steps.{answered, fetchResult, fileResult, readResult, progress}
 use Rattle.rules.specs.Calls.{stepResult}
 use Rattle.rules.proofs.ClientLaws.{list-room}
@@ -32,9 +34,9 @@ use Rattle.refinement.proofs.StepFrame.{length-list}
 use Rattle.demands.specs.Demand2.{Reads}
 
 -- ---- Accepted
-pub step-taken : (k : ℕ) (m : Mem) (tray : List ℕ) (d : ℕ) → isRefused (responseOf k (stepResult m tray d)) ≡ false → stepCode m tray d ≡ 0
+pub step-taken : (sh : Shape) (m : Mem) (tray : List ℕ) (d : ℕ) → isRefused (responseOf sh (stepResult m tray d)) ≡ false → stepCode m tray d ≡ 0
 unfolding stepResult responseOf responseIn isRefused
-step-taken k m tray d e = byTest (eqb (stepCode m tray d) 0)
+step-taken sh m tray d e = byTest (eqb (stepCode m tray d) 0)
     (λ t. eqb-true (stepCode m tray d) 0 t)
     (λ t. absurd (true≢false (rw t at e)))
 
@@ -44,7 +46,7 @@ unfolding stepResult progress
 read-step m tray d q n e r = rw (eq-eqb (stepCode m tray d) 0 e, eq-eqb (kind (client m d)) reads (r .reader), r .asks, r .made) refl
 
 pub fetch-step : (m : Mem) (tray : List ℕ) (d : ℕ) (q : Query) → stepCode m tray d ≡ 0 → Reads m d q (readCount q)
-    → stepResult m tray d ≡ fetchResult m tray d (fetchPlace (readCount q) (entryOf (client m d)) (answersIn (m .answers)))
+    → stepResult m tray d ≡ fetchResult m tray d (fetchPlace narrow (readCount q) (entryOf (client m d)) (answersIn narrow (m .answers)))
 unfolding readResult
 fetch-step m tray d q e r =
     read-step m tray d q (readCount q) e r
@@ -62,13 +64,13 @@ file-step m tray d q e r =
     ) refl
 
 -- neither is turned down
-pub fetch-accepted : (k : ℕ) (m : Mem) (tray : List ℕ) (d i : ℕ) → isRefused (responseOf k (fetchResult m tray d i)) ≡ false
+pub fetch-accepted : (sh : Shape) (m : Mem) (tray : List ℕ) (d i : ℕ) → isRefused (responseOf sh (fetchResult m tray d i)) ≡ false
 unfolding fetchResult answered responseOf responseIn isRefused
-fetch-accepted k m tray d i = byTest (not (sawPending (client m d)) && ltb i (length (answersIn (m .answers)))) (λ t. rw t refl) (λ t. rw t refl)
+fetch-accepted sh m tray d i = byTest (not (sawPending (client m d)) && ltb i (length (answersIn narrow (m .answers)))) (λ t. rw t refl) (λ t. rw t refl)
 
-pub file-accepted : (k : ℕ) (m : Mem) (tray : List ℕ) (d : ℕ) (e : Entry) → isRefused (responseOf k (fileResult m tray d e)) ≡ false
+pub file-accepted : (sh : Shape) (m : Mem) (tray : List ℕ) (d : ℕ) (e : Entry) → isRefused (responseOf sh (fileResult m tray d e)) ≡ false
 unfolding fileResult answered responseOf responseIn isRefused
-file-accepted k m tray d e = refl
+file-accepted sh m tray d e = refl
 
 -- ---- What a fetch that hits returns
 value-of : {v u : Val} {a b : Bool} → machine.answered v a ≡ machine.answered u b → v ≡ u
@@ -78,28 +80,28 @@ not-went : {A : Type 0} {v : Val} {b : Bool} → machine.went ≡ machine.answer
 not-went e = absurd (let z : _≡_ {A = ℕ} 0 1 = cc in omega arith)
 
 -- with the value that the machine answers, all of the reply
-pub record Gave (k : ℕ) (lent : List ℕ) (e : Entry) (x : StepResult) : Type 0 where
+pub record Gave (sh : Shape) (lent : List ℕ) (e : Entry) (x : StepResult) : Type 0 where
   pub out : x .out ≡ Answered (lengthIn e) true
-  pub tray : x .tray ≡ written lent 0 (listIn k e)
+  pub tray : x .tray ≡ written lent 0 (listIn narrow sh e)
 
-list-given : (k : ℕ) (tray : List ℕ) (x e : Entry) → length (listIn k x) ≡ lengthIn x * k
-    → machine.answered (record { count = lengthIn x; numbers = take (lengthIn x * k) (written tray 0 (listIn k x)) }) true ≡ machine.answered (valueIn k e) true
-    → (lengthIn x ≡ lengthIn e) × (listIn k x ≡ listIn k e)
+list-given : (sh : Shape) (tray : List ℕ) (x e : Entry) → length (listIn narrow sh x) ≡ lengthIn x * sh .columns
+    → machine.answered (record { count = lengthIn x; numbers = take (lengthIn x * sh .columns) (written tray 0 (listIn narrow sh x)) }) true ≡ machine.answered (valueIn sh e) true
+    → (lengthIn x ≡ lengthIn e) × (listIn narrow sh x ≡ listIn narrow sh e)
 unfolding valueIn
-list-given k tray x e l a =
+list-given sh tray x e l a =
     let v = value-of a in
-    (ap (λ (z : Val). z .count) v, sym (written-read tray (listIn k x) (lengthIn x * k) l) ∙ ap (λ (z : Val). z .numbers) v)
+    (ap (λ (z : Val). z .count) v, sym (written-read tray (listIn narrow sh x) (lengthIn x * sh .columns) l) ∙ ap (λ (z : Val). z .numbers) v)
 
 pub fetch-gave : (m : Mem) (tray : List ℕ) (d i : ℕ) (e : Entry) → Fits m
-    → responseOf (columns m) (fetchResult m tray d i) ≡ machine.answered (valueIn (columns m) e) true → Gave (columns m) tray e (fetchResult m tray d i)
+    → responseOf (shape m) (fetchResult m tray d i) ≡ machine.answered (valueIn (shape m) e) true → Gave (shape m) tray e (fetchResult m tray d i)
 unfolding fetchResult answered responseOf responseIn
-fetch-gave m tray d i e f a = byTest (not (sawPending (client m d)) && ltb i (length (answersIn (m .answers))))
-    (λ t. let es = answersIn (m .answers) in
+fetch-gave m tray d i e f a = byTest (not (sawPending (client m d)) && ltb i (length (answersIn narrow (m .answers))))
+    (λ t. let es = answersIn narrow (m .answers) in
     let x = getD es i [] in
     let h = ltb-true i (length es) (and-right (not (sawPending (client m d))) _ t) in
     let j = in-at [] es i h in
     let w = wide-in 152 (wide-answers (m .answers) (f .answers-long) (f .answers)) j in
-    let l = length-list (columns m) x w (list-room (lengthIn x) (columns m) (f .kept x j .short) (f .few)) in
-    let z = list-given (columns m) tray x e l (rw t at a) in
+    let l = length-list (shape m) x w (list-room (lengthIn x) (columns m) (f .kept x j .short) (f .few)) in
+    let z = list-given (shape m) tray x e l (rw t at a) in
     rw t (record { out = ap (λ n. Answered n true) (z .0); tray = ap (written tray 0) (z .1) }))
     (λ t. not-went (rw t at a))

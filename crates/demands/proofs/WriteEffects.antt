@@ -10,7 +10,7 @@ use lib.ListN.{length}
 use Rattle.rules.specs.declared.Outcome.{Outcome}
 use Rattle.rules.specs.declared.Outcome.the-variants.{Refused, Accepted, Answered, Long, Ended, Full}
 use Rattle.rules.specs.Table.{Write, effect}
-use Rattle.rules.specs.Refusals.{columns}
+use Rattle.rules.specs.Refusals.{shape, columns}
 use Rattle.rules.specs.History as rules
 use Rattle.machine.proofs.Machine as machine
 use Rattle.machine.proofs.Machine.{Phase, idle, looking, tabling, filing, announcing, raising, Response, write-end}
@@ -20,13 +20,14 @@ use Rattle.machine.proofs.TraceInv.{begunBy, tabledBy, JobOk, Placed, AtTable}
 use Rattle.machine.proofs.Claims.{Hist, next, fresh, step-op}
 use Rattle.machine.proofs.Log.{after, startOf, JobFrom, linked, tabs-are, now-after, plainTable}
 use Rattle.refinement.proofs.Abstraction.{stateOf, callOf, responseIn, responseOf}
-use Rattle.demands.specs.WholeHistory.{History, memAt, plainAt, callAt, resultAt}
+use Rattle.demands.specs.WholeHistory.{shapeAt, History, memAt, plainAt, callAt, resultAt}
 use Rattle.demands.specs.Corollaries.{Begins, inserting, deleting, isWriteEnd, Ends, WritesTake}
 use Rattle.demands.proofs.HistoryRuns.{responseAt, logTo, after-to, sound}
 use Rattle.demands.proofs.LogPlaces.{length-log, take-log, insert-begins, delete-begins, under-places}
 use Rattle.demands.proofs.Demand3Holds.{plain-table}
 use Rattle.demands.proofs.Filings.{step-call}
 use Rattle.demands.proofs.Works.{workAt, Since, work-since, one-work}
+use Rattle.query.specs.Shape.{Shape}
 
 -- ---- The job at a busy desk
 job-of : (B : Trace) (d : ℕ) (j : Job) (y : Phase) (w : Write) → JobOk B d j y → workAt y ≡ some (writes w)
@@ -43,35 +44,35 @@ job-of B d j (raising v i c f) w o e =
     (n, o .has .is ∙ ap (λ x. job (writes x) n (begunBy j) (tabledBy j)) k)
 
 -- ---- What its last step enters in the trace
-placed-end : (k : ℕ) (tray : List ℕ) (o : Outcome) (w : Write) (b t f i : ℕ) → isWriteEnd o ≡ true
-    → placed (writes w) b t f i (responseIn k tray o) ≡ at-table (writes w) t (gave i (responseIn k tray o))
+placed-end : (sh : Shape) (tray : List ℕ) (o : Outcome) (w : Write) (b t f i : ℕ) → isWriteEnd o ≡ true
+    → placed (writes w) b t f i (responseIn sh tray o) ≡ at-table (writes w) t (gave i (responseIn sh tray o))
 unfolding isWriteEnd placed responseIn
-placed-end k tray (Refused n) w b t f i e = absurd (false≢true e)
-placed-end k tray Accepted w b t f i e = absurd (false≢true e)
-placed-end k tray (Answered n c) w b t f i e = absurd (false≢true e)
-placed-end k tray Long w b t f i e = absurd (false≢true e)
-placed-end k tray (Ended c) w b t f i e = refl
-placed-end k tray Full w b t f i e = refl
+placed-end sh tray (Refused n) w b t f i e = absurd (false≢true e)
+placed-end sh tray Accepted w b t f i e = absurd (false≢true e)
+placed-end sh tray (Answered n c) w b t f i e = absurd (false≢true e)
+placed-end sh tray Long w b t f i e = absurd (false≢true e)
+placed-end sh tray (Ended c) w b t f i e = refl
+placed-end sh tray Full w b t f i e = refl
 
-end-taken : (k : ℕ) (tray : List ℕ) (o : Outcome) → isWriteEnd o ≡ true → isRefused (responseIn k tray o) ≡ false
+end-taken : (sh : Shape) (tray : List ℕ) (o : Outcome) → isWriteEnd o ≡ true → isRefused (responseIn sh tray o) ≡ false
 unfolding isWriteEnd responseIn isRefused
-end-taken k tray (Refused n) e = absurd (false≢true e)
-end-taken k tray Accepted e = refl
-end-taken k tray (Answered n c) e = refl
-end-taken k tray Long e = refl
-end-taken k tray (Ended c) e = refl
-end-taken k tray Full e = refl
+end-taken sh tray (Refused n) e = absurd (false≢true e)
+end-taken sh tray Accepted e = refl
+end-taken sh tray (Answered n c) e = refl
+end-taken sh tray Long e = refl
+end-taken sh tray (Ended c) e = refl
+end-taken sh tray Full e = refl
 
-end-given : (k : ℕ) (tray : List ℕ) (o : Outcome) (c f : Bool) → isWriteEnd o ≡ true → unsourced (responseIn k tray o) ≡ write-end c f → o ≡ cond f Full (Ended c)
+end-given : (sh : Shape) (tray : List ℕ) (o : Outcome) (c f : Bool) → isWriteEnd o ≡ true → unsourced (responseIn sh tray o) ≡ write-end c f → o ≡ cond f Full (Ended c)
 unfolding isWriteEnd responseIn unsourced write-end
-end-given k tray (Refused n) c f e t = absurd (false≢true e)
-end-given k tray Accepted c f e t = absurd (false≢true e)
-end-given k tray (Answered n b) c f e t = absurd (false≢true e)
-end-given k tray Long c f e t = absurd (false≢true e)
-end-given k tray (Ended b) c true e t = absurd (let z : _≡_ {A = ℕ} 0 1 = cc in omega arith)
-end-given k tray (Ended b) c false e t = let z : b ≡ c = cc in ap Ended z
-end-given k tray Full c true e t = refl
-end-given k tray Full c false e t = absurd (let z : _≡_ {A = ℕ} 0 1 = cc in omega arith)
+end-given sh tray (Refused n) c f e t = absurd (false≢true e)
+end-given sh tray Accepted c f e t = absurd (false≢true e)
+end-given sh tray (Answered n b) c f e t = absurd (false≢true e)
+end-given sh tray Long c f e t = absurd (false≢true e)
+end-given sh tray (Ended b) c true e t = absurd (let z : _≡_ {A = ℕ} 0 1 = cc in omega arith)
+end-given sh tray (Ended b) c false e t = let z : b ≡ c = cc in ap Ended z
+end-given sh tray Full c true e t = refl
+end-given sh tray Full c false e t = absurd (let z : _≡_ {A = ℕ} 0 1 = cc in omega arith)
 
 -- ---- The trace of a history
 write-begins : (d : ℕ) (begin : rules.Call) (w : Write) → Begins d begin w → callOf begin ≡ startOf (writes w) d
@@ -85,26 +86,26 @@ since-write h d w b e o x =
 
 -- its job is the one that call b began
 write-job : (h : History) (d : ℕ) (w : Write) (b e : ℕ) → Since h (writes w) d b e
-    → (n : ℕ) × (τ : ℕ) × (after fresh (logTo h e) .trace .jobs d ≡ job (writes w) n (suc b) τ)
+    → (n : ℕ) × (τ : ℕ) × (after (fresh (shapeAt h)) (logTo h e) .trace .jobs d ≡ job (writes w) n (suc b) τ)
 write-job h d w b e s =
-    let B = after fresh (logTo h e) .trace in
+    let B = after (fresh (shapeAt h)) (logTo h e) .trace in
     let J = B .jobs d in
     let z = job-of B d J (stateOf (memAt h e) .clients d) w (sound h e (s .within) .good .trace .job d)
     (work-since h (writes w) d b e s e (s .runs .earlier) (omega arith)) in
-    let f = subst (λ y. JobFrom (logTo h e) d y) (z .1) (linked (logTo h e) d) in
+    let f = subst (λ y. JobFrom (logTo h e) d y) (z .1) (linked (shapeAt h) (logTo h e) d) in
     let p = under-places h d e (writes w) (s .within) (f .0) in
     let i : length (f .0 .earlier) ≡ b = one-work h d (writes w) (writes w) (length (f .0 .earlier)) b e
     (record { begin = callAt h (length (f .0 .earlier)); is = p .0; within = s .within; runs = p .1 }) s in
     (z .0, tabledBy J, z .1 ∙ ap (λ y. job (writes w) (z .0) y (tabledBy J)) (f .1 ∙ ap suc i))
 
 -- the plain table by the trace
-trace-table : (h : History) (n j : ℕ) → n ≤ length (h .calls) → j ≤ n → after fresh (logTo h n) .trace .tabs j ≡ plainAt h j .table
+trace-table : (h : History) (n j : ℕ) → n ≤ length (h .calls) → j ≤ n → after (fresh (shapeAt h)) (logTo h n) .trace .tabs j ≡ plainAt h j .table
 trace-table h n j l m =
-    tabs-are (logTo h n) j (let k = length-log h n in omega arith) ∙ ap plainTable (take-log h j n m) ∙ plain-table h j (omega arith)
+    tabs-are (shapeAt h) (logTo h n) j (let k = length-log h n in omega arith) ∙ ap (plainTable (shapeAt h)) (take-log h j n m) ∙ plain-table h j (omega arith)
 
-result-end : (h : History) (e : ℕ) (o : Outcome) → resultAt h e .out ≡ o → responseAt h e ≡ responseIn (columns (memAt h e)) (resultAt h e .tray) o
+result-end : (h : History) (e : ℕ) (o : Outcome) → resultAt h e .out ≡ o → responseAt h e ≡ responseIn (shape (memAt h e)) (resultAt h e .tray) o
 unfolding responseAt responseOf
-result-end h e o i = ap (responseIn (columns (memAt h e)) (resultAt h e .tray)) i
+result-end h e o i = ap (responseIn (shape (memAt h e)) (resultAt h e .tray)) i
 
 -- what the trace have of the write after its end
 next-ops : (g : Hist) (c : machine.Call) (a : Response) (d i : ℕ) → c ≡ machine.step d
@@ -112,17 +113,17 @@ next-ops : (g : Hist) (c : machine.Call) (a : Response) (d i : ℕ) → c ≡ ma
 unfolding next
 next-ops g c a d i e = ap (λ x. next g x a .trace .ops i) e
 
-now-is : (h : History) (n : ℕ) → after fresh (logTo h n) .trace .now ≡ n
+now-is : (h : History) (n : ℕ) → after (fresh (shapeAt h)) (logTo h n) .trace .now ≡ n
 unfolding fresh empty-trace
-now-is h n = let a = now-after (logTo h n) fresh in let b = length-log h n in omega arith
+now-is h n = let a = now-after (logTo h n) (fresh (shapeAt h)) in let b = length-log h n in omega arith
 
 ended-op : (h : History) (d : ℕ) (w : Write) (b e : ℕ) (o : Outcome) → Ends h d w b e o
-    → (t : ℕ) × (i : ℕ) × AtTable (after fresh (logTo h (suc e)) .trace) (suc b) (writes w) t (gave i (responseIn (columns (memAt h e)) (resultAt h e .tray) o))
+    → (t : ℕ) × (i : ℕ) × AtTable (after (fresh (shapeAt h)) (logTo h (suc e)) .trace) (suc b) (writes w) t (gave i (responseIn (shape (memAt h e)) (resultAt h e .tray) o))
 ended-op h d w b e o x =
-    let k = columns (memAt h e) in
+    let k = shape (memAt h e) in
     let tray = resultAt h e .tray in
-    let g = after fresh (logTo h e) in
-    let C = after fresh (logTo h (suc e)) .trace in
+    let g = after (fresh (shapeAt h)) (logTo h e) in
+    let C = after (fresh (shapeAt h)) (logTo h (suc e)) .trace in
     let l = x .within in
     let j = write-job h d w b e (since-write h d w b e o x) in
     let a = responseIn k tray o in
@@ -153,5 +154,5 @@ writes-take h d w b e o x =
       omega arith,
       omega arith,
       ap (λ i. plainAt h i .table) s ∙ sym (trace-table h (suc e) τ (omega arith) up) ∙ A .moved ∙ ap (effect w) T,
-      rw (sym T) (end-given (columns (memAt h e)) (resultAt h e .tray) o _ _ (x .ends) (A .gives)),
+      rw (sym T) (end-given (shape (memAt h e)) (resultAt h e .tray) o _ _ (x .ends) (A .gives)),
     )

@@ -11,11 +11,12 @@ use Rattle.query.specs.Query.{Query, Record, lies}
 use Rattle.query.specs.Encoding.{queryOf, recordOf}
 use Rattle.rules.specs.declared.Outcome.{Outcome}
 use Rattle.rules.specs.declared.Outcome.the-variants.{Refused, Accepted, Answered, Long, Ended, Full}
-use Rattle.rules.specs.Sizes.{maxRecords, maxList}
+use Rattle.query.specs.Shape.{Form, Shape}
+use Rattle.rules.specs.Layout.{maxRecords, maxClients, maxList, reads}
 use Rattle.rules.specs.Table.{Table, Write, insert, delete, listOf, has, effect, changes, noRoom, Ascending}
-use Rattle.rules.specs.Client.{Client, kind, isIdle, writeAt, reads}
+use Rattle.rules.specs.Client.{Client, kind, isIdle, writeAt}
 use Rattle.rules.specs.Memory.{Mem, recordsIn}
-use Rattle.rules.specs.Refusals.{columns, client}
+use Rattle.rules.specs.Refusals.{form, shape, client}
 use Rattle.rules.specs.History.{Call, beginRead, beginInsert, beginDelete, step}
 use Rattle.demands.specs.WholeHistory.{History, memAt, plainAt, callAt, resultAt, UnderWay}
 use Rattle.demands.specs.Demand3.{IsList}
@@ -116,11 +117,11 @@ undoes false r (insert s) = same s r
 undoes false r (delete q) = false
 
 -- no such write is open
-unfoldable pub isOpposed : ℕ → Bool → Record → Client → Bool
-isOpposed k v r c = not (isIdle c) && (not (eqb (kind c) reads) && undoes v r (writeAt k c))
+unfoldable pub isOpposed : Form → Shape → Bool → Record → Client → Bool
+isOpposed f sh v r c = not (isIdle f c) && (not (eqb (kind c) reads) && undoes v r (writeAt sh c))
 
 unfoldable pub isUnopposed : Bool → Record → Mem → Bool
-isUnopposed v r m = allBelow 12 (λ d. not (isOpposed (columns m) v r (client m d)))
+isUnopposed v r m = allBelow maxClients (λ d. not (isOpposed (form m) (shape m) v r (client m d)))
 
 -- from call b to call n
 abbrev pub Unopposed : History → Bool → Record → ℕ → ℕ → Type 0

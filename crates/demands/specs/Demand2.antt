@@ -14,20 +14,22 @@ use Rattle.rules.specs.declared.Outcome.the-variants.{Answered}
 use Rattle.rules.specs.Table.{target}
 use Rattle.rules.specs.Nodes.{isPresent}
 use Rattle.rules.specs.Answers.{Entry, keyIn, lengthIn, listIn}
-use Rattle.rules.specs.Client.{Client, kind, steps, isIdle, queryAt, writeAt, reads}
+use Rattle.rules.specs.Client.{Client, kind, steps, isIdle, queryAt, writeAt}
+use Rattle.query.specs.Shape.{Form, Shape}
+use Rattle.rules.specs.Layout.{maxClients, reads}
 use Rattle.rules.specs.Memory.{Mem, storeIn, answersIn}
-use Rattle.rules.specs.Refusals.{client, columns, stepCode}
+use Rattle.rules.specs.Refusals.{form, shape, client, stepCode}
 use Rattle.rules.specs.History.{beginRead, step}
-use Rattle.demands.specs.WholeHistory.{History, memAt, callAt, resultAt, UnderWay}
+use Rattle.demands.specs.WholeHistory.{History, shapeAt, memAt, callAt, resultAt, UnderWay}
 
 -- ---- The last sentence
 -- "A write is open from its begin until its desk is idle.": a write that meets q is open at a desk
-unfoldable pub isOpen : ℕ → Query → Client → Bool
-isOpen k q c = not (isIdle c) && (not (eqb (kind c) reads) && meets q (target (writeAt k c)))
+unfoldable pub isOpen : Form → Shape → Query → Client → Bool
+isOpen f sh q c = not (isIdle f c) && (not (eqb (kind c) reads) && meets q (target (writeAt sh c)))
 
 -- "no write meeting the query was open"
 unfoldable pub isQuiet : Query → Mem → Bool
-isQuiet q m = allBelow 12 (λ d. not (isOpen (columns m) q (client m d)))
+isQuiet q m = allBelow maxClients (λ d. not (isOpen (form m) (shape m) q (client m d)))
 
 -- "none of its nodes was put out": each node of q that was there still is
 unfoldable pub stillThere : Query → Mem → Mem → ℕ → Bool
@@ -44,10 +46,10 @@ pub record Quiescent (h : History) (q : Query) (b n : ℕ) : Type 0 where
 
 -- the client at desk d is a reader of q that has made so many steps
 pub record Reads (m : Mem) (d : ℕ) (q : Query) (n : ℕ) : Type 0 where
-  pub below : d < 12
-  pub busy : isIdle (client m d) ≡ false
+  pub below : d < maxClients
+  pub busy : isIdle (form m) (client m d) ≡ false
   pub reader : kind (client m d) ≡ reads
-  pub asks : queryAt (columns m) (client m d) ≡ q
+  pub asks : queryAt (shape m) (client m d) ≡ q
   pub made : steps (client m d) ≡ n
 
 -- call f is the file step of a read of q that call b began
@@ -71,8 +73,8 @@ pub record Fetches (h : History) (q : Query) (b n : ℕ) (e : Entry) : Type 0 wh
   pub fetches : Reads (memAt h n) client q (readCount q)
   pub runs : UnderWay h (beginRead client asked) client b n
   pub place : ℕ
-  pub there : place < length (answersIn (memAt h n .answers))
-  pub is : getD (answersIn (memAt h n .answers)) place [] ≡ e
+  pub there : place < length (answersIn (form (memAt h n)) (memAt h n .answers))
+  pub is : getD (answersIn (form (memAt h n)) (memAt h n .answers)) place [] ≡ e
   pub key : keyIn e ≡ keyWords q
 
 -- the answer to q on file at call n was filed by call f: it is the last that filed under q
@@ -84,4 +86,4 @@ LastFiled h q f n = (f < n) × ((g b : ℕ) → f < g → g < n → Filed h q b 
 abbrev pub GetsIt : History → Type 0
 GetsIt h = (q : Query) (b n : ℕ) (e : Entry) (x : Fetches h q b n e) (b′ f : ℕ) → Filed h q b′ f → LastFiled h q f n
     → (c : ℕ) → c ≤ b → c ≤ b′ → (c ≡ b) ⊎ (c ≡ b′) → Quiescent h q c n
-    → (resultAt h n .out ≡ Answered (lengthIn e) true) × (resultAt h n .tray ≡ written (x .tray) 0 (listIn (h .k) e))
+    → (resultAt h n .out ≡ Answered (lengthIn e) true) × (resultAt h n .tray ≡ written (x .tray) 0 (listIn (form (memAt h n)) (shapeAt h) e))

@@ -16,7 +16,7 @@ use Rattle.demands.specs.WholeHistory.{History, memAt, plainAt, callAt, 
 -- "An answer is exactly such a list if its count is the list's length and the tray holds the list's records, in that order, from its start."
 pub record IsList (k : ℕ) (l : List Record) (count : ℕ) (tray : List ℕ) : Type 0 where
   pub counted : count ≡ length l
-  pub unsourced : take (length l * k) tray ≡ flat l
+  pub records : take (length l * k) tray ≡ flat l
 
 -- "whatever a read answers with, count and records, is exactly its query's list on the plain table at some moment from that read's begin
 -- to its answer": the read of `asked` was begun at desk d by call b, and moment j lies after call b and not after call n, which answers

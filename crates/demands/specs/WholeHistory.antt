@@ -12,6 +12,7 @@ use Rattle.rules.specs.Memory.{Mem, opened}
 use Rattle.rules.specs.Outcome.{StepResult, number}
 use Rattle.rules.specs.Refusals.{openCode}
 use Rattle.rules.specs.History.{Call, beginRead, beginInsert, beginDelete, step, abandon, evictAnswer, evictNode, renew, callResult, isAccepted, Plain, plainAtOpening, memAfter, plainAfter}
+use Rattle.query.specs.Shape.{Shape, shapeOf, narrow}
 
 -- "A history is an accepted opening, with any k, and after it a list of calls, the empty one too"
 pub record History : Type 0 where
@@ -20,12 +21,16 @@ pub record History : Type 0 where
   pub accepted : openCode lent k ≡ 0
   pub calls : List Call
 
+-- the shape that its opening makes
+abbrev pub shapeAt : History → Shape
+shapeAt h = shapeOf (h .k)
+
 -- the memories and the plain table after the first n calls; calls are numbered from 0
 unfoldable pub memAt : History → ℕ → Mem
-memAt h n = memAfter (opened (h .k) (h .lent)) (take n (h .calls))
+memAt h n = memAfter (opened narrow (shapeAt h) (h .lent)) (take n (h .calls))
 
 unfoldable pub plainAt : History → ℕ → Plain
-plainAt h n = plainAfter (opened (h .k) (h .lent)) plainAtOpening (take n (h .calls))
+plainAt h n = plainAfter (opened narrow (shapeAt h) (h .lent)) (plainAtOpening (shapeAt h)) (take n (h .calls))
 
 -- call n, and what it returned and left
 unfoldable pub callAt : History → ℕ → Call

@@ -1,11 +1,12 @@
--- The hall's sizes as one value, and what the clearing of one memory leaves. Leans on the rules (Sizes, Memory).
+-- The hall's sizes as one value, and what the clearing of one memory leaves. Leans on the rules (Layout, Memory).
 -- Definitions only. Assumes nothing.
 use mathlib.Core.Bool.{Bool, cond}
 use mathlib.Core.List.{List}
 use Prim.Native.Nat.{ℕ}
 use lib.Dec.{leb}
 use lib.ListN.{length, set}
-use Rattle.rules.specs.Sizes.{maxRecords, maxNodes, maxAnswers, maxClients, maxList, tableLeast, nodesLeast, answersLeast, clientsLeast, trayLeast}
+use Rattle.query.specs.Shape.{narrow, Shape}
+use Rattle.rules.specs.Layout.{firstFloor, floorOffset, columnsOffset, maxRecords, maxNodes, maxAnswers, maxClients, maxList, tableLeast, nodesLeast, answersLeast, clientsLeast, trayLeast}
 use Rattle.rules.specs.Memory.{cleared}
 use Rattle.hall.specs.declared.Limits.{Limits}
 
@@ -34,10 +35,10 @@ unfoldable pub tableCleared : List ℕ → List ℕ
 tableCleared s = whereLong tableLeast s (cleared tableLeast s)
 
 unfoldable pub nodesCleared : List ℕ → List ℕ
-nodesCleared s = whereLong nodesLeast s (set (cleared nodesLeast s) 0 1)
+nodesCleared s = whereLong (nodesLeast narrow) s (set (cleared (nodesLeast narrow) s) floorOffset firstFloor)
 
-unfoldable pub answersCleared : List ℕ → List ℕ
-answersCleared s = whereLong answersLeast s (cleared answersLeast s)
+unfoldable pub answersCleared : Shape → List ℕ → List ℕ
+answersCleared sh s = whereLong (answersLeast narrow sh) s (cleared (answersLeast narrow sh) s)
 
-unfoldable pub clientsCleared : ℕ → List ℕ → List ℕ
-clientsCleared k s = whereLong clientsLeast s (set (cleared clientsLeast s) 0 k)
+unfoldable pub clientsCleared : Shape → List ℕ → List ℕ
+clientsCleared sh s = whereLong (clientsLeast narrow sh) s (set (cleared (clientsLeast narrow sh) s) columnsOffset (sh .columns))

@@ -1,8 +1,9 @@
 // The hall: its fixed sizes as associated constants, the functions that make the cleared state, and the opening call.
-// The rules stand in rules; specs/Hall.antt says what one memory's clearing leaves.
+// The rules stand in rules; specs/HallContracts.antt says what one memory's clearing leaves.
 use rules::Outcome;
 ghost use mathlib.Core.Path.{_≡_};
-ghost use Rattle.rules.specs.Sizes.{tableLeast, nodesLeast, answersLeast, clientsLeast};
+ghost use Rattle.query.specs.Shape.{narrow, Shape, shapeOf};
+ghost use Rattle.rules.specs.Layout.{tableLeast, nodesLeast, answersLeast, clientsLeast};
 ghost use Rattle.rules.specs.Memory.{mem};
 ghost use Rattle.rules.specs.Outcome.{result};
 ghost use Rattle.rules.specs.Refusals.{isShort, openCode};
@@ -23,6 +24,7 @@ pub struct Limits {
 }
 
 impl Hall {
+    // ---- Sizes. Each constant here is named in rules' Layout.
     pub const RECORDS: u32 = 2048;
 
     pub const NODES: u32 = 1024;
@@ -31,13 +33,25 @@ impl Hall {
 
     pub const CLIENTS: u32 = 12;
 
+    // The most columns.
+    pub const COLUMNS: u32 = 4;
+
     // The most pending writes of a node.
     pub const PENDING: u32 = 12;
 
-    // The most records that a read lists.
+    // The most records that a read lists, and the most looks that it makes.
     pub const LIST: u32 = 32;
 
-    // The least lengths of the lent memories.
+    pub const LOOKS: usize = 16;
+
+    // The largest revision, the number above which a revision or the floor stops writes, and the first floor.
+    pub const LARGEST_REVISION: u32 = 4294967295;
+
+    pub const WORN_ABOVE: u32 = 4294967103;
+
+    pub const FIRST_FLOOR: u32 = 1;
+
+    // ---- The least lengths of the lent memories.
     pub const TABLE_LEAST: usize = 8200;
 
     pub const NODES_LEAST: usize = 8200;
@@ -47,6 +61,99 @@ impl Hall {
     pub const CLIENTS_LEAST: usize = 2000;
 
     pub const TRAY_LEAST: usize = 128;
+
+    // ---- Headers: how many numbers each memory has before its entries, and what stands where in them.
+    pub const HEADER: usize = 8;
+
+    pub const RECORD_COUNT_OFFSET: usize = 0;
+
+    pub const FLOOR_OFFSET: usize = 0;
+
+    pub const NODE_COUNT_OFFSET: usize = 1;
+
+    pub const ANSWER_COUNT_OFFSET: usize = 0;
+
+    pub const COLUMNS_OFFSET: usize = 0;
+
+    // ---- A label and a key.
+    pub const LABEL_WIDTH: usize = 1 + Hall::COLUMNS as usize;
+
+    // Two numbers are kept for a range.
+    pub const KEY_WIDTH: usize = 1 + Hall::COLUMNS as usize + 2;
+
+    // ---- A node.
+    pub const PENDING_OFFSET: usize = Hall::LABEL_WIDTH;
+
+    pub const REVISION_OFFSET: usize = Hall::PENDING_OFFSET + 1;
+
+    pub const NODE_WIDTH: usize = Hall::REVISION_OFFSET + 2;
+
+    // ---- An entry.
+    pub const LENGTH_OFFSET: usize = Hall::KEY_WIDTH;
+
+    pub const REVISIONS_OFFSET: usize = Hall::LENGTH_OFFSET + 1;
+
+    pub const LIST_OFFSET: usize = Hall::REVISIONS_OFFSET + Hall::LOOKS;
+
+    pub const LIST_WIDTH: usize = Hall::LIST as usize * Hall::COLUMNS as usize;
+
+    pub const ENTRY_WIDTH: usize = Hall::LIST_OFFSET + Hall::LIST_WIDTH;
+
+    // ---- A client.
+    pub const KIND_OFFSET: usize = 0;
+
+    pub const STEPS_OFFSET: usize = 1;
+
+    pub const SAW_OFFSET: usize = 2;
+
+    pub const CHANGED_OFFSET: usize = 3;
+
+    pub const FULL_OFFSET: usize = 4;
+
+    pub const ENTRY_OFFSET: usize = 5;
+
+    pub const CLIENT_WIDTH: usize = Hall::ENTRY_OFFSET + Hall::ENTRY_WIDTH;
+
+    pub const HELD_LENGTH_OFFSET: usize = Hall::ENTRY_OFFSET + Hall::LENGTH_OFFSET;
+
+    pub const NOTED_OFFSET: usize = Hall::ENTRY_OFFSET + Hall::REVISIONS_OFFSET;
+
+    pub const HELD_LIST_OFFSET: usize = Hall::ENTRY_OFFSET + Hall::LIST_OFFSET;
+
+    // ---- Kinds of work; 0 stands at an idle client.
+    pub const READS: u32 = 1;
+
+    pub const INSERTS: u32 = 2;
+
+    pub const DELETES: u32 = 3;
+
+    // ---- Refusals, by the paper's words: short, columns, unsound, no desk, taken, idle, committed, no entry, marked, worn, occupied.
+    pub const REFUSED_SHORT: u32 = 1;
+
+    pub const REFUSED_COLUMNS: u32 = 2;
+
+    pub const REFUSED_UNSOUND: u32 = 3;
+
+    pub const REFUSED_NO_CLIENT: u32 = 4;
+
+    pub const REFUSED_TAKEN: u32 = 5;
+
+    pub const REFUSED_IDLE: u32 = 6;
+
+    pub const REFUSED_COMMITTED: u32 = 7;
+
+    pub const REFUSED_NO_ENTRY: u32 = 8;
+
+    pub const REFUSED_PENDING: u32 = 9;
+
+    pub const REFUSED_WORN: u32 = 10;
+
+    pub const REFUSED_OCCUPIED: u32 = 11;
+
+    // 12 long and 13 full end the work they name.
+    pub const ENDED_LONG: u32 = 12;
+
+    pub const ENDED_FULL: u32 = 13;
 
     // The sizes are the rules'. The least lengths of the four memories are so by the calls below.
     pub fn limits() -> Limits
@@ -75,19 +182,19 @@ impl Hall {
 
     // Empties the nodes and sets the floor to 1.
     pub fn clear_nodes(nodes: &mut [u32]) -> bool
-        ensures { λ r. ⌜ (r ≡ isLong nodesLeast (now (nodes .entry))) × (now (nodes .exit) ≡ nodesCleared (now (nodes .entry))) ⌝ }
+        ensures { λ r. ⌜ (r ≡ isLong (nodesLeast narrow) (now (nodes .entry))) × (now (nodes .exit) ≡ nodesCleared (now (nodes .entry))) ⌝ }
     {
         if nodes.len() < Hall::NODES_LEAST {
             return false;
         }
         words::clear(nodes, Hall::NODES_LEAST);
-        nodes[0] = 1;
+        nodes[Hall::FLOOR_OFFSET] = Hall::FIRST_FLOOR;
         true
     }
 
     // Empties the answers.
     pub fn clear_answers(answers: &mut [u32]) -> bool
-        ensures { λ r. ⌜ (r ≡ isLong answersLeast (now (answers .entry))) × (now (answers .exit) ≡ answersCleared (now (answers .entry))) ⌝ }
+        ensures { λ r. ⌜ ((sh : Shape) → (r ≡ isLong (answersLeast narrow sh) (now (answers .entry))) × (now (answers .exit) ≡ answersCleared sh (now (answers .entry)))) ⌝ }
     {
         if answers.len() < Hall::ANSWERS_LEAST {
             return false;
@@ -98,19 +205,19 @@ impl Hall {
 
     // Leaves every client idle and sets the number of columns to k.
     pub fn clear_clients(clients: &mut [u32], k: u32) -> bool
-        ensures { λ r. ⌜ (r ≡ isLong clientsLeast (now (clients .entry))) × (now (clients .exit) ≡ clientsCleared k (now (clients .entry))) ⌝ }
+        ensures { λ r. ⌜ (r ≡ isLong (clientsLeast narrow (shapeOf k)) (now (clients .entry))) × (now (clients .exit) ≡ clientsCleared (shapeOf k) (now (clients .entry))) ⌝ }
     {
         if clients.len() < Hall::CLIENTS_LEAST {
             return false;
         }
         words::clear(clients, Hall::CLIENTS_LEAST);
-        clients[0] = k;
+        clients[Hall::COLUMNS_OFFSET] = k;
         true
     }
 
     // Whether a lent memory is below its least length.
     pub fn is_short(table: &[u32], nodes: &[u32], answers: &[u32], clients: &[u32]) -> bool
-        ensures { λ r. ⌜ r ≡ isShort (mem (now (table .entry)) (now (nodes .entry)) (now (answers .entry)) (now (clients .entry))) ⌝ }
+        ensures { λ r. ⌜ ((sh : Shape) → r ≡ isShort narrow sh (mem (now (table .entry)) (now (nodes .entry)) (now (answers .entry)) (now (clients .entry)))) ⌝ }
     {
         if table.len() < Hall::TABLE_LEAST {
             return true;
@@ -129,13 +236,13 @@ impl Hall {
         ensures { λ r. ⌜ r ≡ openCode (mem (now (table .entry)) (now (nodes .entry)) (now (answers .entry)) (now (clients .entry))) k ⌝ }
     {
         if Hall::is_short(table, nodes, answers, clients) {
-            return 1;
+            return Hall::REFUSED_SHORT;
         }
         if k == 0 {
-            return 2;
+            return Hall::REFUSED_COLUMNS;
         }
-        if 4 < k {
-            return 2;
+        if Hall::COLUMNS < k {
+            return Hall::REFUSED_COLUMNS;
         }
         0
     }

@@ -7,6 +7,7 @@ use mathlib.Core.Bool.{Bool, true, false}
 use Prim.Native.Nat.{ℕ, suc, _≤_, _<_}
 use native.Mathlib.Omega.{arith}
 use Rattle.laws.proofs.TestLaws.{byTest}
+use Rattle.query.specs.Shape.{Shape, maxColumns}
 use Rattle.rules.specs.Table.{Table}
 use Rattle.rules.specs.History.{Plain, plainAtOpening}
 use Rattle.machine.proofs.Sums.{upd-same}
@@ -32,8 +33,8 @@ pub record Hist : Type 0 where
 unfoldable pub next : Hist → Call → Response → Hist
 next h c a = record { plain = fed (h .plain) c (number a); trace = next-trace (h .trace) c a (fed (h .plain) c (number a) .table) }
 
-unfoldable pub fresh : Hist
-fresh = record { plain = plainAtOpening; trace = empty-trace }
+unfoldable pub fresh : Shape → Hist
+fresh sh = record { plain = plainAtOpening sh; trace = empty-trace }
 
 -- ---- What is claimed
 -- the list was the key's at a call between the read's begin b and now
@@ -163,15 +164,15 @@ limited : (s : State) (B : Trace) (d : ℕ) (j : Job) (x : Phase) → StateInv s
 unfolding tableStep
 limited s B d j idle v e o = rw o tt
 limited s B d j (looking q ns saw) v e o =
-    let f = fit-at s d (looking q ns saw) v e in let a = read-few q (s .cols) (f .0) (v .few) in let b = f .1 in rw (o .is) (omega arith)
+    let f = fit-at s d (looking q ns saw) v e in let a = read-few q (s .shape .columns) (f .0) (v .few) in let b = f .1 in rw (o .is) (omega arith)
 limited s B d j (tabling q ns saw) v e o =
-    let f = fit-at s d (tabling q ns saw) v e in let a = read-few q (s .cols) (f .0) (v .few) in rw (o .is) (omega arith)
+    let f = fit-at s d (tabling q ns saw) v e in let a = read-few q (s .shape .columns) (f .0) (v .few) in rw (o .is) (omega arith)
 limited s B d j (filing q ns l) v e o =
-    let f = fit-at s d (filing q ns l) v e in let a = read-few q (s .cols) f (v .few) in rw (o .has .is) (omega arith)
+    let f = fit-at s d (filing q ns l) v e in let a = read-few q (s .shape .columns) f (v .few) in rw (o .has .is) (omega arith)
 limited s B d j (announcing w i) v e o =
-    let f = fit-at s d (announcing w i) v e in let a = write-few w (s .cols) (f .0) (v .few) in let b = f .1 in rw (o .has .is) (omega arith)
+    let f = fit-at s d (announcing w i) v e in let a = write-few w (s .shape .columns) (f .0) (v .few) in let b = f .1 in rw (o .has .is) (omega arith)
 limited s B d j (raising w i c g) v e o =
-    let f = fit-at s d (raising w i c g) v e in let a = write-few w (s .cols) (f .0) (v .few) in let b = f .1 in rw (o .has .is) (omega arith)
+    let f = fit-at s d (raising w i c g) v e in let a = write-few w (s .shape .columns) (f .0) (v .few) in let b = f .1 in rw (o .has .is) (omega arith)
 
 -- ---- All that holds at a point of a history
 pub record Good (s : State) (h : Hist) : Type 0 where
@@ -205,6 +206,6 @@ claims s h {c} {a} {t} g o =
       limits = good-limits t (next h c a) n;
     }
 
-pub opened-good : (k : ℕ) → k ≤ 4 → Good (opened k) fresh
+pub opened-good : (sh : Shape) → sh .columns ≤ maxColumns → Good (opened sh) (fresh sh)
 unfolding fresh opened empty-trace plainAtOpening
-opened-good k l = record { inv = opened-inv k l; trace = opened-trace k; plain = record { table = refl; notes = λ d. tt } }
+opened-good sh l = record { inv = opened-inv sh l; trace = opened-trace sh; plain = record { table = refl; notes = λ d. tt } }

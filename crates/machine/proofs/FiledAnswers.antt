@@ -11,7 +11,7 @@ use borrow.Author.Tests.{ltb-false}
 use lib.ListN.{length}
 use Rattle.laws.proofs.TestLaws.{byTest, clash}
 use Rattle.lists.specs.Lists.{place, without}
-use Rattle.rules.specs.Sizes.{maxAnswers}
+use Rattle.rules.specs.Layout.{maxAnswers}
 use Rattle.machine.proofs.Sums.{In, here, there, in-append, in-under, in-none}
 use Rattle.machine.proofs.Keys.{Key, Val, sameKey, sameKey-eq, sameKey-refl, sameKey-sym}
 use Rattle.machine.proofs.Machine.{Ans, has-key, cut, room, filed-in}

@@ -11,6 +11,7 @@ use borrow.Author.Tests.{eqb-true, eqb-false, not-true}
 use lib.ListN.{length, take, length-append}
 use Rattle.laws.proofs.ListLaws.{and-left, and-right}
 use Rattle.laws.proofs.TestLaws.{byTest}
+use Rattle.query.specs.Shape.{Shape, maxColumns}
 use Rattle.rules.specs.Table.{Table}
 use Rattle.machine.proofs.Sums.{upd, upd-same, upd-other, In}
 use Rattle.machine.proofs.Keys.{Key, Val, valueOf, readLabels}
@@ -23,7 +24,7 @@ use Rattle.machine.proofs.Trace.{Act, reads, writes, Job, no-job, job, 
 use Rattle.machine.proofs.Trace.{tick, turn, job-after, tabled-at, isRefused, empty-trace}
 use Rattle.machine.proofs.TraceInv.{JobOk}
 use Rattle.machine.proofs.Claims.{Hist, next, fresh, WasAt, Limited, Good, good-limits, good-next, claims, opened-good}
-use Rattle.machine.proofs.StateInv.{StateInv, transition-inv, transition-cols, opened-inv}
+use Rattle.machine.proofs.StateInv.{StateInv, transition-inv, transition-shape, opened-inv}
 use Rattle.machine.proofs.TableAscending.{TableGood, table-good, opened-table}
 use Rattle.machine.proofs.Quiescence.{Quiescent, quiescent-next, quiescent-start, QuiescenceInv, opened-quiescent}
 use Rattle.machine.proofs.Gets.{transition-quiescent, gets}
@@ -41,31 +42,31 @@ run-good [] s t h g r = rw r g
 run-good (e ∷ l) s t h g r = run-good l (r .0) t (next h (e .call) (e .result)) (good-next s h g (r .1)) (r .2)
 
 -- ---- Claim 1: the table
-pub tables : (k : ℕ) → k ≤ 4 → (l : List Entry) (s : State) → Run (opened k) l s → s .tab ≡ plainTable l
+pub tables : (sh : Shape) → sh .columns ≤ maxColumns → (l : List Entry) (s : State) → Run (opened sh) l s → s .tab ≡ plainTable sh l
 unfolding plainTable
-tables k b l s r = run-good l (opened k) s fresh (opened-good k b) r .plain .table
+tables sh b l s r = run-good l (opened sh) s (fresh sh) (opened-good sh b) r .plain .table
 
 -- ---- Claim 2: the answers
 -- an answer v of desk d after the log l: a read is under way there, and v was its key's list after a call from its begin on to this one
-pub record WasList (l : List Entry) (d : ℕ) (v : Val) (f : Bool) : Type 0 where
+pub record WasList (sh : Shape) (l : List Entry) (d : ℕ) (v : Val) (f : Bool) : Type 0 where
   pub key : Key
   pub underWay : UnderWay l d (reads key)
   pub moment : ℕ
   pub later : length (underWay .earlier) < moment
   pub upto : moment ≤ suc (length l)
-  pub was : v ≡ valueOf key (plainTable (take moment (l ++ (entry (step d) (answered v f) ∷ []))))
+  pub was : v ≡ valueOf key (plainTable sh (take moment (l ++ (entry (step d) (answered v f) ∷ []))))
 
 pub after-append : (l : List Entry) (h : Hist) (e : Entry) → after h (l ++ (e ∷ [])) ≡ next (after h l) (e .call) (e .result)
 unfolding after
 after-append [] h e = refl
 after-append (c ∷ l) h e = after-append l (next h (c .call) (c .result)) e
 
-was-list : (l : List Entry) (d : ℕ) (v : Val) (f : Bool) (B : Trace) (j : Job) → B .now ≡ suc (length l)
-    → ((i : ℕ) → i ≤ B .now → B .tabs i ≡ plainTable (take i (l ++ (entry (step d) (answered v f) ∷ []))))
-    → JobFrom l d j → WasAt B j v → WasList l d v f
-was-list l d v f B no-job n t u w = absurd w
-was-list l d v f B (job (writes x) m b i) n t u w = absurd w
-was-list l d v f B (job (reads q) m b i) n t u w =
+was-list : (sh : Shape) (l : List Entry) (d : ℕ) (v : Val) (f : Bool) (B : Trace) (j : Job) → B .now ≡ suc (length l)
+    → ((i : ℕ) → i ≤ B .now → B .tabs i ≡ plainTable sh (take i (l ++ (entry (step d) (answered v f) ∷ []))))
+    → JobFrom l d j → WasAt B j v → WasList sh l d v f
+was-list sh l d v f B no-job n t u w = absurd w
+was-list sh l d v f B (job (writes x) m b i) n t u w = absurd w
+was-list sh l d v f B (job (reads q) m b i) n t u w =
     let y = u .1 in
     record {
       key = q;
@@ -76,21 +77,21 @@ was-list l d v f B (job (reads q) m b i) n t u w =
       was = w .3 ∙ ap (valueOf q) (t (w .0) (w .2));
     }
 
-pub answers : (k : ℕ) → k ≤ 4 → (l : List Entry) (s t : State) → Run (opened k) l s → (d : ℕ) (v : Val) (f : Bool)
-    → Transition s (step d) (answered v f) t → WasList l d v f
-answers k b l s t r d v f o =
-    let h = after fresh l in
+pub answers : (sh : Shape) → sh .columns ≤ maxColumns → (l : List Entry) (s t : State) → Run (opened sh) l s → (d : ℕ) (v : Val) (f : Bool)
+    → Transition s (step d) (answered v f) t → WasList sh l d v f
+answers sh b l s t r d v f o =
+    let h = after (fresh sh) l in
     let e = entry (step d) (answered v f) in
-    let g = run-good l (opened k) s fresh (opened-good k b) r in
-    let eq = after-append l fresh e in
+    let g = run-good l (opened sh) s (fresh sh) (opened-good sh b) r in
+    let eq = after-append l (fresh sh) e in
     let len = length-append l (e ∷ []) in
     let n : next h (step d) (answered v f) .trace .now ≡ suc (length l) =
-    let z = now-after (l ++ (e ∷ [])) fresh in
-    let y : fresh .trace .now ≡ 0 = unfold fresh in unfold empty-trace in refl in
+    let z = now-after (l ++ (e ∷ [])) (fresh sh) in
+    let y : (fresh sh) .trace .now ≡ 0 = unfold fresh in unfold empty-trace in refl in
     ap (λ (x : Hist). x .trace .now) (sym eq) ∙ (omega arith) in
-    was-list l d v f (next h (step d) (answered v f) .trace) (h .trace .jobs d) n
-    (λ i le. ap (λ (x : Hist). x .trace .tabs i) (sym eq) ∙ tabs-are (l ++ (e ∷ [])) i (omega arith))
-    (linked l d) (claims s h g o .answer)
+    was-list sh l d v f (next h (step d) (answered v f) .trace) (h .trace .jobs d) n
+    (λ i le. ap (λ (x : Hist). x .trace .tabs i) (sym eq) ∙ tabs-are sh (l ++ (e ∷ [])) i (omega arith))
+    (linked sh l d) (claims s h g o .answer)
 
 -- ---- Claim 3: the limits
 -- an accepted begin at desk d
@@ -254,14 +255,14 @@ below-limit (reads q) n b t l = l
 below-limit (writes w) n b t l = l
 
 -- what is under way has made fewer
-pub limits : (k : ℕ) → k ≤ 4 → (l : List Entry) (s : State) → Run (opened k) l s → (d : ℕ) (x : Act) (u : UnderWay l d x)
+pub limits : (sh : Shape) → sh .columns ≤ maxColumns → (l : List Entry) (s : State) → Run (opened sh) l s → (d : ℕ) (x : Act) (u : UnderWay l d x)
     → stepsOf d (u .since) < limit x
 unfolding after next
-limits k b l s r d x u =
+limits sh b l s r d x u =
     let e = entry (startOf x d) (u .result) in
-    let z = run-split (u .earlier) (e ∷ u .since) (opened k) s (subst (λ y. Run (opened k) y s) (u .split) r) in
-    let h = after fresh (u .earlier) in
-    let g = run-good (u .earlier) (opened k) (z .0) fresh (opened-good k b) (z .1) in
+    let z = run-split (u .earlier) (e ∷ u .since) (opened sh) s (subst (λ y. Run (opened sh) y s) (u .split) r) in
+    let h = after (fresh sh) (u .earlier) in
+    let g = run-good (u .earlier) (opened sh) (z .0) (fresh sh) (opened-good sh b) (z .1) in
     let m = next h (startOf x d) (u .result) in
     let r2 = z .2 in
     let g2 = good-next (z .0) h g (r2 .1) in
@@ -272,15 +273,15 @@ limits k b l s r d x u =
     omega arith
 
 -- ---- The table of a history
-run-table : (l : List Entry) (s t : State) → StateInv s → TableGood (s .cols) (s .tab) → Run s l t → TableGood (s .cols) (t .tab)
+run-table : (l : List Entry) (s t : State) → StateInv s → TableGood (s .shape .columns) (s .tab) → Run s l t → TableGood (s .shape .columns) (t .tab)
 run-table [] s t v g r = rw r g
 run-table (e ∷ l) s t v g r =
     let w = transition-inv s v (r .1) in
-    subst (λ n. TableGood n (t .tab)) (transition-cols s v (r .1)) (run-table l (r .0) t w (table-good s v (r .1) g) (r .2))
+    subst (λ (sh : Shape). TableGood (sh .columns) (t .tab)) (transition-shape s v (r .1)) (run-table l (r .0) t w (table-good s v (r .1) g) (r .2))
 
-pub tables-good : (k : ℕ) → k ≤ 4 → (l : List Entry) (s : State) → Run (opened k) l s → TableGood k (s .tab)
+pub tables-good : (sh : Shape) → sh .columns ≤ maxColumns → (l : List Entry) (s : State) → Run (opened sh) l s → TableGood (sh .columns) (s .tab)
 unfolding opened
-tables-good k b l s r = run-table l (opened k) s (opened-inv k b) (opened-table k) r
+tables-good sh b l s r = run-table l (opened sh) s (opened-inv sh b) (opened-table sh) r
 
 -- ---- Demand 2's last sentence for every history
 -- the flags along a run
@@ -295,11 +296,11 @@ run-quiescent (e ∷ l) s t r k v u =
     let w = transition-inv s v (r .1) in
     run-quiescent l (r .0) t (r .2) (quiescent-next s (e .call) (e .result) (r .0) k) w (transition-quiescent s k v w u (r .1))
 
-pub fetches : (k : ℕ) → k ≤ 4 → (l : List Entry) (s t : State) (r : Run (opened k) l s) (d : ℕ) (a : Response) → Transition s (step d) a t
+pub fetches : (sh : Shape) → sh .columns ≤ maxColumns → (l : List Entry) (s t : State) (r : Run (opened sh) l s) (d : ℕ) (a : Response) → Transition s (step d) a t
     → isRefused a ≡ false
     → (q : Key) (ns : List ℕ) (saw : Bool) → s .clients d ≡ looking q ns saw → length (readLabels q) ≤ length ns
     → (x : Ans) → In x (s .filed) → x .query ≡ q
-    → quiescent-after l (opened k) s r quiescent-start .onClient d ≡ true → quiescent-after l (opened k) s r quiescent-start .onFile q ≡ true → a ≡ answered (x .list) true
-fetches k b l s t r d a o f q ns saw e n x i y m g =
-    let z = run-quiescent l (opened k) s r quiescent-start (opened-inv k b) (opened-quiescent k) in
-    gets s (quiescent-after l (opened k) s r quiescent-start) (z .0) (z .1) o f q ns saw e n x i y m g
+    → quiescent-after l (opened sh) s r quiescent-start .onClient d ≡ true → quiescent-after l (opened sh) s r quiescent-start .onFile q ≡ true → a ≡ answered (x .list) true
+fetches sh b l s t r d a o f q ns saw e n x i y m g =
+    let z = run-quiescent l (opened sh) s r quiescent-start (opened-inv sh b) (opened-quiescent sh) in
+    gets s (quiescent-after l (opened sh) s r quiescent-start) (z .0) (z .1) o f q ns saw e n x i y m g

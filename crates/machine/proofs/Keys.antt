@@ -16,7 +16,7 @@ use Rattle.query.specs.declared.Column.{Column}
 use Rattle.query.specs.declared.Column.the-variants.{Is, Wildcard}
 use Rattle.query.specs.Query.{Query, Record, Meet, readNode, writeNode, readCount, writeCount, readNodes, writeNodes}
 use Rattle.query.specs.Encoding.{labelWords}
-use Rattle.rules.specs.Sizes.{maxList}
+use Rattle.rules.specs.Layout.{maxList}
 use Rattle.rules.specs.Table.{Table, Write, target, listOf, effect}
 use Rattle.machine.proofs.Sums.{Words, In}
 use Rattle.query.specs.Graph.{meets}

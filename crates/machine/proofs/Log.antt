@@ -10,6 +10,7 @@ use borrow.Author.Tests.{eqb-true, eqb-false, eq-eqb, ne-eqb}
 use lib.ListN.{length, take, length-append}
 use Rattle.laws.proofs.ListLaws.{and-left, and-right}
 use Rattle.laws.proofs.TestLaws.{byTest}
+use Rattle.query.specs.Shape.{Shape}
 use Rattle.rules.specs.Table.{Table}
 use Rattle.rules.specs.History.{plainAtOpening}
 use Rattle.machine.proofs.Sums.{upd, upd-same, upd-other}
@@ -34,8 +35,8 @@ after h [] = h
 after h (e ∷ l) = after (next h (e .call) (e .result)) l
 
 -- the plain table after a log
-unfoldable pub plainTable : List Entry → Table
-plainTable l = after fresh l .plain .table
+unfoldable pub plainTable : Shape → List Entry → Table
+plainTable sh l = after (fresh sh) l .plain .table
 
 -- ---- The trace by places
 step-ext : (B : Trace) (d : ℕ) (j : Job) (a : Response) (T : Table) → Ext B (step-trace B d j a T) T
@@ -94,11 +95,11 @@ tabs-from (c ∷ l) h (suc j) k e =
     rw n (tabs-from l g j (omega arith) (ap (g .trace .tabs) (x .now) ∙ x .last))
 
 -- the trace's table at call j is the plain table after the first j calls
-pub tabs-are : (l : List Entry) (j : ℕ) → j ≤ length l → after fresh l .trace .tabs j ≡ plainTable (take j l)
+pub tabs-are : (sh : Shape) (l : List Entry) (j : ℕ) → j ≤ length l → after (fresh sh) l .trace .tabs j ≡ plainTable sh (take j l)
 unfolding plainTable fresh empty-trace plainAtOpening
-tabs-are l j k =
+tabs-are sh l j k =
     let z : 0 + j ≡ j = omega arith in
-    rw z at (tabs-from l fresh j k refl)
+    rw z at (tabs-from l (fresh sh) j k refl)
 
 -- ---- What is under way at a desk, by the log
 unfoldable pub startOf : Act → ℕ → Call
@@ -287,8 +288,8 @@ after-linked (c ∷ l) p h e f d =
     subst (λ z. JobFrom z d (after g l .trace .jobs d)) (append-assoc p (c ∷ []) l)
     (after-linked l (p ++ (c ∷ [])) g n (next-linked p (h .trace) (c .call) (c .result) (g .plain .table) e f) d)
 
-pub linked : (l : List Entry) (d : ℕ) → JobFrom l d (after fresh l .trace .jobs d)
-linked l d = after-linked l [] fresh (unfold fresh in unfold empty-trace in refl) (λ d. none-linked d) d
+pub linked : (sh : Shape) (l : List Entry) (d : ℕ) → JobFrom l d (after (fresh sh) l .trace .jobs d)
+linked sh l d = after-linked l [] (fresh sh) (unfold fresh in unfold empty-trace in refl) (λ d. none-linked d) d
   where
-    none-linked : (d : ℕ) → JobFrom [] d (fresh .trace .jobs d)
+    none-linked : (d : ℕ) → JobFrom [] d ((fresh sh) .trace .jobs d)
     none-linked d = unfold fresh in unfold empty-trace in tt

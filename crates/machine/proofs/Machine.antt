@@ -6,7 +6,8 @@ use Prim.Native.Nat.{ℕ}
 use lib.Dec.{ltb, leb}
 use lib.ListN.{length, getD}
 use Rattle.lists.specs.Lists.{place, without, allBelow}
-use Rattle.rules.specs.Sizes.{maxAnswers}
+use Rattle.query.specs.Shape.{Shape}
+use Rattle.rules.specs.Layout.{maxAnswers, firstFloor}
 use Rattle.rules.specs.Table.{Table, Write}
 use Rattle.rules.specs.Nodes.{Store, store}
 use Rattle.machine.proofs.Sums.{Words, upd}
@@ -30,7 +31,7 @@ pub record Ans : Type 0 where
   pub list : Val
 
 pub record State : Type 0 where
-  pub cols : ℕ
+  pub shape : Shape
   pub tab : Table
   pub store : Store
   pub filed : List Ans
@@ -74,20 +75,20 @@ write-end c false = ended c
 
 -- ---- States with a part changed
 unfoldable pub at-client : State → ℕ → Phase → State
-at-client s d x = record { cols = s .cols; tab = s .tab; store = s .store; filed = s .filed; clients = upd (s .clients) d x }
+at-client s d x = record { shape = s .shape; tab = s .tab; store = s .store; filed = s .filed; clients = upd (s .clients) d x }
 
 unfoldable pub with-store : State → Store → State
-with-store s t = record { cols = s .cols; tab = s .tab; store = t; filed = s .filed; clients = s .clients }
+with-store s t = record { shape = s .shape; tab = s .tab; store = t; filed = s .filed; clients = s .clients }
 
 unfoldable pub with-filed : State → List Ans → State
-with-filed s f = record { cols = s .cols; tab = s .tab; store = s .store; filed = f; clients = s .clients }
+with-filed s f = record { shape = s .shape; tab = s .tab; store = s .store; filed = f; clients = s .clients }
 
 unfoldable pub with-tab : State → Table → State
-with-tab s t = record { cols = s .cols; tab = t; store = s .store; filed = s .filed; clients = s .clients }
+with-tab s t = record { shape = s .shape; tab = t; store = s .store; filed = s .filed; clients = s .clients }
 
--- as an opening with k columns leaves it
-unfoldable pub opened : ℕ → State
-opened k = record { cols = k; tab = []; store = store 1 []; filed = []; clients = λ d. idle }
+-- as an opening of this shape leaves it
+unfoldable pub opened : Shape → State
+opened sh = record { shape = sh; tab = []; store = store firstFloor []; filed = []; clients = λ d. idle }
 
 -- ---- The filed answers
 -- an answer that a fetch may take: of the same key, no revision below the one noted

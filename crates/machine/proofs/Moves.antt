@@ -1,4 +1,4 @@
--- The answers, filed or in a client's hand, and what is true of them: a revision that has grown past an answer's, or will, makes it stale.
+-- The answers, filed or in a desk's hand, and what is true of them: a revision that has grown past an answer's, or will, makes it stale.
 -- What every call but a renewal does to revisions, owed labels, the table and the answers (Move), and what any such move keeps.
 -- Leans on PendingLabels. Assumes nothing.
 use mathlib.Core.Path.{_≡_, refl, sym, ap, _∙_, subst}
@@ -12,6 +12,7 @@ use borrow.Author.Tests.{eqb-true, eqb-false, lt-ltb}
 use lib.ListN.{length, getD, length-append, List·getD-append}
 use lib.Seq.{getD-append-seam}
 use Rattle.laws.proofs.TestLaws.{byTest, clash, or-left, or-right}
+use Rattle.query.specs.Shape.{Shape}
 use Rattle.rules.specs.Table.{Write, effect}
 use Rattle.rules.specs.Nodes.{Store}
 use Rattle.revisions.proofs.EffectiveRevision.{effective, pendingOf, tally, Grew}
@@ -38,13 +39,13 @@ pub data IsAns (s : State) (q : Key) (r : List ℕ) (l : Val) : Type 0 where
   in-hand : (d : ℕ) → s .clients d ≡ filing q r l → IsAns s q r l
 
 pub record AnsOk (s : State) (q : Key) (r : List ℕ) (l : Val) : Type 0 where
-  pub fits : width q ≡ s .cols
+  pub fits : width q ≡ s .shape .columns
   pub bound : BoundTo (length (readLabels q)) (effective (s .store)) q r
   pub now : (l ≡ valueOf q (s .tab)) ⊎ Stale s q r
 
 -- an answer that a call has made
 abbrev pub New : State → Key → List ℕ → Val → Type 0
-New t q r l = BoundTo (length (readLabels q)) (effective (t .store)) q r × (width q ≡ t .cols) × (l ≡ valueOf q (t .tab))
+New t q r l = BoundTo (length (readLabels q)) (effective (t .store)) q r × (width q ≡ t .shape .columns) × (l ≡ valueOf q (t .tab))
 
 -- a read at q that has noted ns will not take an answer with the revisions r
 abbrev pub LateFor : State → Key → List ℕ → List ℕ → ℕ → Type 0
@@ -55,10 +56,10 @@ Behind s q ns saw r = (saw ≡ true) ⊎ ((j : ℕ) × (j < length (readLabels q
 
 -- ---- Moves
 pub record Move (s t : State) : Type 0 where
-  pub cols : t .cols ≡ s .cols
+  pub shape : t .shape ≡ s .shape
   pub mono : (p : Words) → effective (s .store) p ≤ effective (t .store) p
   pub owed : (p : Words) → Owed s p → Owed t p ⊎ (effective (s .store) p < effective (t .store) p)
-  pub lists : (q : Key) → width q ≡ s .cols → (valueOf q (t .tab) ≡ valueOf q (s .tab)) ⊎ ((j : ℕ) × (j < length (readLabels q)) × Owed t (node q j))
+  pub lists : (q : Key) → width q ≡ s .shape .columns → (valueOf q (t .tab) ≡ valueOf q (s .tab)) ⊎ ((j : ℕ) × (j < length (readLabels q)) × Owed t (node q j))
   pub answers : (q : Key) (r : List ℕ) (l : Val) → IsAns t q r l → IsAns s q r l ⊎ New t q r l
 
 late-moves : {s t : State} → Move s t → (p : Words) (x : ℕ) → x ≤ effective (s .store) p → Late s p x → Late t p x
@@ -81,7 +82,7 @@ pub ans-moves : {s t : State} → Move s t → ((q : Key) (r : List ℕ) (l : Va
     → (q : Key) (r : List ℕ) (l : Val) → IsAns t q r l → AnsOk t q r l
 ans-moves {s} {t} m h q r l i = elim (m .answers q r l i) [
   | inl i′ ↦ let a = h q r l i′ in
-      record { fits = a .fits ∙ sym (m .cols); bound = bound-on (length (readLabels q)) (effective (s .store)) (effective (t .store)) q r (m .mono) (a .bound); now = ans-now m q r l a }
+      record { fits = a .fits ∙ ap (λ (sh : Shape). sh .columns) (sym (m .shape)); bound = bound-on (length (readLabels q)) (effective (s .store)) (effective (t .store)) q r (m .mono) (a .bound); now = ans-now m q r l a }
   | inr n ↦ record { fits = n .1; bound = n .0; now = inl (n .2) }
 ]
 
@@ -101,8 +102,8 @@ behind-moves m q ns saw r b (inr z) = inr (
 pub record MoveAt (s t : State) (d : ℕ) (x : Phase) : Type 0 where
   pub low : d < 12
   pub clients : t .clients ≡ upd (s .clients) d x
-  pub cols : t .cols ≡ s .cols
-  pub lists : (q : Key) → width q ≡ s .cols → (valueOf q (t .tab) ≡ valueOf q (s .tab)) ⊎ ((j : ℕ) × (j < length (readLabels q)) × Owed t (node q j))
+  pub shape : t .shape ≡ s .shape
+  pub lists : (q : Key) → width q ≡ s .shape .columns → (valueOf q (t .tab) ≡ valueOf q (s .tab)) ⊎ ((j : ℕ) × (j < length (readLabels q)) × Owed t (node q j))
   pub mono : (p : Words) → effective (s .store) p ≤ effective (t .store) p
   pub owed : (p : Words) → 0 < tally p (owes (s .clients d)) → (0 < tally p (owes x)) ⊎ (effective (s .store) p < effective (t .store) p)
   pub file : (q : Key) (r : List ℕ) (l : Val) → In (record { query = q; revs = r; list = l }) (t .filed) → IsAns s q r l ⊎ New t q r l
@@ -117,7 +118,7 @@ client-other {s} {t} {d} {x} m e ne = ap (λ f. f e) (m .clients) ∙ upd-other 
 pub move-at : {s t : State} {d : ℕ} {x : Phase} → MoveAt s t d x → Move s t
 move-at {s} {t} {d} {x} m = record {
   mono = m .mono;
-  cols = m .cols;
+  shape = m .shape;
   lists = m .lists;
   owed = λ p o. byTest (eqb (o .0) d)
       (λ e. elim (m .owed p (rw (eqb-true (o .0) d e) at (o .2)))
@@ -156,16 +157,16 @@ pub filing-of : (P : Key → List ℕ → Val → Type 0) {q q′ : Key} {ns ns�
 filing-of P e x = subst (Filed P) e x
 
 -- ---- The moves of the calls
-pub same-lists : (s t : State) → t .tab ≡ s .tab → (q : Key) → width q ≡ s .cols
+pub same-lists : (s t : State) → t .tab ≡ s .tab → (q : Key) → width q ≡ s .shape .columns
     → (valueOf q (t .tab) ≡ valueOf q (s .tab)) ⊎ ((j : ℕ) × (j < length (readLabels q)) × Owed t (node q j))
 same-lists s t e q f = inl (ap (valueOf q) e)
 
 -- a desk that owes nothing becomes one that holds no list; table and answers stay
-pub quiet-move : (s t : State) (d : ℕ) (x : Phase) → d < 12 → t .clients ≡ upd (s .clients) d x → t .tab ≡ s .tab → t .filed ≡ s .filed → t .cols ≡ s .cols
+pub quiet-move : (s t : State) (d : ℕ) (x : Phase) → d < 12 → t .clients ≡ upd (s .clients) d x → t .tab ≡ s .tab → t .filed ≡ s .filed → t .shape ≡ s .shape
     → ((p : Words) → effective (s .store) p ≤ effective (t .store) p) → ((p : Words) → tally p (owes (s .clients d)) ≡ 0) → isFiling x ≡ false → MoveAt s t d x
 quiet-move s t d x l e a f c m o n = record {
   low = l;
-  cols = c;
+  shape = c;
   clients = e;
   lists = same-lists s t a;
   mono = m;
@@ -176,12 +177,12 @@ quiet-move s t d x l e a f c m o n = record {
 
 pub move-refl : (s : State) → Move s s
 move-refl s = record
-    { cols = refl; mono = λ p. omega arith; owed = λ p o. inl o; lists = λ q f. inl refl; answers = λ q r l a. inl a }
+    { shape = refl; mono = λ p. omega arith; owed = λ p o. inl o; lists = λ q f. inl refl; answers = λ q r l a. inl a }
 
 pub cut-move : (s : State) (i : ℕ) → Move s (with-filed s (cut i (s .filed)))
 unfolding with-filed
 cut-move s i = record {
-  cols = refl;
+  shape = refl;
   mono = λ p. omega arith;
   owed = λ p o. inl o;
   lists = λ q f. inl refl;
@@ -191,7 +192,7 @@ cut-move s i = record {
 pub out-move : (s : State) (t : Store) → Grew (s .store) t → Move s (with-store s t)
 unfolding with-store
 out-move s t g = record {
-  cols = refl;
+  shape = refl;
   mono = g .mono;
   owed = λ p o. inl o;
   lists = λ q f. inl refl;

@@ -60,7 +60,7 @@ step-tab (writes w) n T = cond (eqb n (tableStep (writes w))) (effect w T) T
 
 -- a plain table with one note changed
 abbrev noted : Plain → Table → ℕ → Note → Plain
-noted p T d m = record { table = T; notes = upd (p .notes) d m }
+noted p T d m = record { shape = p .shape; table = T; notes = upd (p .notes) d m }
 
 one-step : (p : Plain) (d : ℕ) (x : Act) (n : ℕ) → oneStep p d (note-of x n) ≡ noted p (step-tab x (suc n) (p .table)) d (note-of x (suc n))
 unfolding oneStep noteAt note-of step-tab tableStep upd

@@ -11,6 +11,7 @@ use borrow.Author.Tests.{ltb-true, ltb-false, not-true}
 use lib.ListN.{length, getD, take, drop}
 use Rattle.laws.proofs.ListLaws.{and-left, and-right, below-at}
 use Rattle.laws.proofs.TestLaws.{byTest, clash}
+use Rattle.query.specs.Shape.{Shape}
 use Rattle.lists.specs.Lists.{allBelow}
 use Rattle.rules.specs.Table.{Write}
 use Rattle.revisions.proofs.EffectiveRevision.{effective, pendingOf, has, tally}
@@ -125,9 +126,9 @@ pub record QuiescenceInv (s : State) (k : Quiescent) : Type 0 where
   pub client : (d : ℕ) → k .onClient d ≡ true → Settled s (s .clients d)
   pub file : (a : Ans) → In a (s .filed) → k .onFile (a .query) ≡ true → Settled-file s a
 
-pub opened-quiescent : (n : ℕ) → QuiescenceInv (opened n) quiescent-start
+pub opened-quiescent : (sh : Shape) → QuiescenceInv (opened sh) quiescent-start
 unfolding opened
-opened-quiescent n = record { client = λ d e. tt; file = λ a i e. in-none i }
+opened-quiescent sh = record { client = λ d e. tt; file = λ a i e. in-none i }
 
 -- ---- The nodes of a key that no open write touches have no marks, and nobody owes them
 no-tally : (q : Key) (w : Write) (p : Words) (ps : List Words) → ((i : In p ps) → In p (writeLabels w)) → In p (readLabels q) → not (touches q w) ≡ true
@@ -185,7 +186,7 @@ still-moves s t q ns n d e k l z j b =
     (u, a .1 ∙ sym (d (node q j) (a .0) u (unowed s q e j (omega arith))))
 
 -- a desk that stays as it is
-settled-moves : (s t : State) (x : Phase) → Fit (s .cols) (effective (s .store)) x → Steady s t → quiescent s t (keyAt x) ≡ true → Settled s x → Settled t x
+settled-moves : (s t : State) (x : Phase) → Fit (s .shape) (effective (s .store)) x → Steady s t → quiescent s t (keyAt x) ≡ true → Settled s x → Settled t x
 unfolding keyAt
 settled-moves s t idle o d e z = tt
 settled-moves s t (looking q ns saw) o d e z = (still-moves s t q ns (length ns) d (z .1) e (o .1) (z .0), quiescent-quiet s t q e, z .2)

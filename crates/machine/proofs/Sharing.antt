@@ -16,7 +16,7 @@ use Rattle.query.specs.Graph.{meets, Shares}
 use Rattle.query.specs.Encoding.{labelWords}
 use Rattle.query.proofs.Meet.{meets-is, meet-meets, lemma-2}
 use Rattle.query.proofs.EncodingLaws.{label-words-injective}
-use Rattle.rules.specs.Sizes.{maxRecords}
+use Rattle.rules.specs.Layout.{maxRecords}
 use Rattle.rules.specs.Table.{Table, Write, insert, delete, target, listOf, has, putIn, outside, effect}
 use Rattle.machine.proofs.Sums.{Words, In, here, there, in-none}
 

@@ -10,6 +10,7 @@ use lib.Dec.{eqb, ltb}
 use borrow.Author.Tests.{eqb-true, eqb-false}
 use lib.ListN.{length, getD, take, drop, drop-of-length-le}
 use Rattle.laws.proofs.TestLaws.{byTest}
+use Rattle.query.specs.Shape.{Shape, maxColumns}
 use Rattle.rules.specs.Table.{Write, effect, changes, noRoom}
 use Rattle.rules.specs.Nodes.{Store, store}
 use Rattle.revisions.proofs.EffectiveRevision.{effective, pendingOf, pendingIn, NoDup, tally, Raised}
@@ -28,24 +29,24 @@ use Rattle.machine.proofs.Transition
 use Rattle.machine.proofs.Transition.{Transition, isReader}
 
 -- a client's own facts
-abbrev pub Fit : ℕ → (Words → ℕ) → Phase → Type 0
-Fit k e idle = Unit
-Fit k e (looking q ns saw) = (width q ≡ k) × (length ns ≤ length (readLabels q)) × BoundTo (length ns) e q ns
-Fit k e (tabling q ns saw) = (width q ≡ k) × BoundTo (length (readLabels q)) e q ns
-Fit k e (filing q ns l) = width q ≡ k
-Fit k e (announcing w i) = (widthOf w ≡ k) × (i ≤ length (writeLabels w))
-Fit k e (raising w j c f) = (widthOf w ≡ k) × (j < length (writeLabels w))
+abbrev pub Fit : Shape → (Words → ℕ) → Phase → Type 0
+Fit sh e idle = Unit
+Fit sh e (looking q ns saw) = (width q ≡ sh .columns) × (length ns ≤ length (readLabels q)) × BoundTo (length ns) e q ns
+Fit sh e (tabling q ns saw) = (width q ≡ sh .columns) × BoundTo (length (readLabels q)) e q ns
+Fit sh e (filing q ns l) = width q ≡ sh .columns
+Fit sh e (announcing w i) = (widthOf w ≡ sh .columns) × (i ≤ length (writeLabels w))
+Fit sh e (raising w j c f) = (widthOf w ≡ sh .columns) × (j < length (writeLabels w))
 
 pub record StateInv (s : State) : Type 0 where
-  pub few : s .cols ≤ 4
+  pub few : s .shape .columns ≤ maxColumns
   pub once : NoDup (s .store .nodes)
   pub high : (d : ℕ) → 12 ≤ d → s .clients d ≡ idle
-  pub fit : (d : ℕ) → Fit (s .cols) (effective (s .store)) (s .clients d)
+  pub fit : (d : ℕ) → Fit (s .shape) (effective (s .store)) (s .clients d)
   pub held : (p : Words) → held-of (s .clients) p ≡ pendingOf (s .store) p
   pub ans : (q : Key) (r : List ℕ) (l : Val) → IsAns s q r l → AnsOk s q r l
   pub one : OneEach (s .filed)
 
-fit-on : (k : ℕ) (e f : Words → ℕ) (x : Phase) → ((p : Words) → e p ≤ f p) → Fit k e x → Fit k f x
+fit-on : (sh : Shape) (e f : Words → ℕ) (x : Phase) → ((p : Words) → e p ≤ f p) → Fit sh e x → Fit sh f x
 fit-on k e f idle m o = tt
 fit-on k e f (looking q ns saw) m o = (o .0, o .1, bound-on (length ns) e f q ns m (o .2))
 fit-on k e f (tabling q ns saw) m o = (o .0, bound-on (length (readLabels q)) e f q ns m (o .1))
@@ -53,15 +54,15 @@ fit-on k e f (filing q ns l) m o = o
 fit-on k e f (announcing w i) m o = o
 fit-on k e f (raising w j c g) m o = o
 
-pub fit-at : (s : State) (d : ℕ) (x : Phase) → StateInv s → s .clients d ≡ x → Fit (s .cols) (effective (s .store)) x
-fit-at s d x v e = subst (λ y. Fit (s .cols) (effective (s .store)) y) e (v .fit d)
+pub fit-at : (s : State) (d : ℕ) (x : Phase) → StateInv s → s .clients d ≡ x → Fit (s .shape) (effective (s .store)) x
+fit-at s d x v e = subst (λ y. Fit (s .shape) (effective (s .store)) y) e (v .fit d)
 
 -- ---- What a call did, as a move of one desk or none
 -- the desk d becomes x
 pub record At (s t : State) (d : ℕ) (x : Phase) : Type 0 where
   pub move : MoveAt s t d x
   pub once : NoDup (t .store .nodes)
-  pub fit : Fit (s .cols) (effective (t .store)) x
+  pub fit : Fit (s .shape) (effective (t .store)) x
   pub pendings : (p : Words) → tally p (holds x) + pendingOf (s .store) p ≡ tally p (holds (s .clients d)) + pendingOf (t .store) p
   pub one : OneEach (t .filed)
 
@@ -77,7 +78,7 @@ pub record Aside (s t : State) : Type 0 where
 pub record Anew (s t : State) : Type 0 where
   pub idle : (d : ℕ) → s .clients d ≡ idle
   pub clients : t .clients ≡ s .clients
-  pub cols : t .cols ≡ s .cols
+  pub shape : t .shape ≡ s .shape
   pub store : t .store ≡ store 1 []
   pub filed : t .filed ≡ []
 
@@ -90,14 +91,14 @@ pub data Kept (s : State) : Call → State → Type 0 where
 at-inv : (s t : State) (d : ℕ) (x : Phase) → StateInv s → At s t d x → StateInv t
 at-inv s t d x v k =
     let ds = k .move .clients in
-    let c = k .move .cols in
+    let c = k .move .shape in
     record {
       few = rw c (v .few);
       once = k .once;
       high = λ e l. ap (λ f. f e) ds ∙ upd-other (s .clients) d x e (λ i. let a = k .move .low in omega arith) ∙ v .high e l;
-      fit = λ e. rw c (subst (λ f. Fit (s .cols) (effective (t .store)) (f e)) (sym ds) (byTest (eqb e d)
-          (λ i. subst (λ y. Fit (s .cols) (effective (t .store)) (upd (s .clients) d x y)) (sym (eqb-true e d i)) (rw (upd-same (s .clients) d x) (k .fit)))
-          (λ i. rw (upd-other (s .clients) d x e (eqb-false e d i)) (fit-on (s .cols) (effective (s .store)) (effective (t .store)) (s .clients e) (k .move .mono) (v .fit e)))));
+      fit = λ e. rw c (subst (λ f. Fit (s .shape) (effective (t .store)) (f e)) (sym ds) (byTest (eqb e d)
+          (λ i. subst (λ y. Fit (s .shape) (effective (t .store)) (upd (s .clients) d x y)) (sym (eqb-true e d i)) (rw (upd-same (s .clients) d x) (k .fit)))
+          (λ i. rw (upd-other (s .clients) d x e (eqb-false e d i)) (fit-on (s .shape) (effective (s .store)) (effective (t .store)) (s .clients e) (k .move .mono) (v .fit e)))));
       held = λ p. let a = held-upd (s .clients) d x p (k .move .low) in let b = v .held p in let c = k .pendings p in
           subst (λ f. held-of f p ≡ pendingOf (t .store) p) (sym ds) (omega arith);
       ans = ans-moves (move-at (k .move)) (v .ans);
@@ -107,12 +108,12 @@ at-inv s t d x v k =
 aside-inv : (s t : State) → StateInv s → Aside s t → StateInv t
 aside-inv s t v k =
     let ds = k .clients in
-    let c = k .move .cols in
+    let c = k .move .shape in
     record {
       few = rw c (v .few);
       once = k .once;
       high = λ e l. ap (λ f. f e) ds ∙ v .high e l;
-      fit = λ e. rw c (subst (λ f. Fit (s .cols) (effective (t .store)) (f e)) (sym ds) (fit-on (s .cols) (effective (s .store)) (effective (t .store)) (s .clients e) (k .move .mono) (v .fit e)));
+      fit = λ e. rw c (subst (λ f. Fit (s .shape) (effective (t .store)) (f e)) (sym ds) (fit-on (s .shape) (effective (s .store)) (effective (t .store)) (s .clients e) (k .move .mono) (v .fit e)));
       held = λ p. subst (λ f. held-of f p ≡ pendingOf (t .store) p) (sym ds) (v .held p ∙ sym (k .pendings p));
       ans = ans-moves (k .move) (v .ans);
       one = k .one;
@@ -123,7 +124,7 @@ unfolding NoDup pendingOf pendingIn OneEach
 anew-inv s t v k =
     let at : (d : ℕ) → t .clients d ≡ idle = λ d. ap (λ f. f d) (k .clients) ∙ k .idle d in
     record {
-      few = rw (k .cols) (v .few);
+      few = rw (k .shape) (v .few);
       once = rw (k .store) tt;
       high = λ d l. at d;
       fit = λ d. rw (at d) tt;
@@ -136,7 +137,7 @@ anew-inv s t v k =
 -- a desk that owes nothing becomes one that holds no list; table and answers stay
 quiet-at : {c : Call} (s : State) (t : Store) (d : ℕ) (x : Phase) → StateInv s → d < 12 → ((p : Words) → effective (s .store) p ≤ effective t p)
     → ((p : Words) → tally p (owes (s .clients d)) ≡ 0) → isFiling x ≡ false
-    → NoDup (t .nodes) → Fit (s .cols) (effective t) x → ((p : Words) → tally p (holds x) + pendingOf (s .store) p ≡ tally p (holds (s .clients d)) + pendingOf t p)
+    → NoDup (t .nodes) → Fit (s .shape) (effective t) x → ((p : Words) → tally p (holds x) + pendingOf (s .store) p ≡ tally p (holds (s .clients d)) + pendingOf t p)
     → Kept s c (at-client (with-store s t) d x)
 unfolding at-client with-store
 quiet-at s t d x v l m o n u f k = at {t = at-client (with-store s t) d x} d x (record
@@ -144,16 +145,16 @@ quiet-at s t d x v l m o n u f k = at {t = at-client (with-store s t) d x} d x (
 
 -- a reader's step that leaves the nodes alone
 reader-at : {c : Call} (s : State) (d : ℕ) (x : Phase) → StateInv s → d < 12 → isReader (s .clients d) ≡ true → isFiling x ≡ false
-    → Fit (s .cols) (effective (s .store)) x → ((p : Words) → tally p (holds x) ≡ 0)
+    → Fit (s .shape) (effective (s .store)) x → ((p : Words) → tally p (holds x) ≡ 0)
     → Kept s c (at-client s d x)
 unfolding at-client with-store
 reader-at s d x v l e n f h = quiet-at s (s .store) d x v l (λ p. omega arith) (λ p. reader-owes p (s .clients d) e) n (v .once) f
     (λ p. let a = reader-holds p (s .clients d) e in let b = h p in omega arith)
 
-look-fit : (k : ℕ) (e f : Words → ℕ) (q : Key) (ns : List ℕ) (saw saw′ : Bool) → length ns < length (readLabels q) → ((p : Words) → e p ≤ f p)
-    → Fit k e (looking q ns saw)
-    → Fit k f (looking q (grown ns (f (node q (length ns)))) saw′)
-look-fit k e f q ns saw saw′ l m o =
+look-fit : (sh : Shape) (e f : Words → ℕ) (q : Key) (ns : List ℕ) (saw saw′ : Bool) → length ns < length (readLabels q) → ((p : Words) → e p ≤ f p)
+    → Fit sh e (looking q ns saw)
+    → Fit sh f (looking q (grown ns (f (node q (length ns)))) saw′)
+look-fit sh e f q ns saw saw′ l m o =
     let c = f (node q (length ns)) in
     let n = length-grown ns c in (
       o .0,
@@ -169,7 +170,7 @@ raise-at : {y : Call} (s : State) (t : Store) (d : ℕ) (w : Write) (j : ℕ) (c
     → isFiling x ≡ false
     → Raised true (getD (writeLabels w) j [] ∷ []) (s .store) t
     → ((p : Words) → tally p (owes x) ≡ tally p (drop (suc j) (writeLabels w))) → ((p : Words) → tally p (holds x) ≡ tally p (drop (suc j) (writeLabels w)))
-    → Fit (s .cols) (effective t) x
+    → Fit (s .shape) (effective t) x
     → Kept s y (at-client (with-store s t) d x)
 unfolding at-client with-store holds
 raise-at s t d w j c f x v l e nf m ow ho fi =
@@ -177,7 +178,7 @@ raise-at s t d w j c f x v l e nf m ow ho fi =
     at {t = at-client (with-store s t) d x} d x (record {
       move = record {
         low = l;
-        cols = refl;
+        shape = refl;
         clients = refl;
         lists = same-lists s (at-client (with-store s t) d x) refl;
         mono = λ p. let a = raise-up (getD (writeLabels w) j []) (s .store) t m p in omega arith;
@@ -204,7 +205,7 @@ transition-kept s v (Transition.looked {d} {q} {ns} {saw} {t} l e k m n) =
     let c = effective t (node q (length ns)) in
     let y = saw || ltb 0 (pendingOf t (node q (length ns))) in
     quiet-at s t d (looking q (ns ++ (c ∷ [])) y) v l (m .mono) (λ p. rw e refl) refl (m .once)
-    (look-fit (s .cols) (effective (s .store)) (effective t) q ns saw y k (m .mono) o) (λ p. rw e (let b = m .keep p in omega arith))
+    (look-fit (s .shape) (effective (s .store)) (effective t) q ns saw y k (m .mono) o) (λ p. rw e (let b = m .keep p in omega arith))
 transition-kept s v (Transition.missed {d} {q} {ns} {saw} l e k y) =
     let o = fit-at s d (looking q ns saw) v e in
     reader-at s d (tabling q ns saw) v l (rw e refl) refl (o .0, λ j b. o .2 j (omega arith)) (λ p. refl)
@@ -217,7 +218,7 @@ transition-kept s v (Transition.took {d} {q} {ns} l e k) =
     at {t = t} d (filing q ns (valueOf q (s .tab))) (record {
       move = record {
         low = l;
-        cols = refl;
+        shape = refl;
         clients = refl;
         lists = same-lists s t refl;
         mono = λ p. omega arith;
@@ -235,7 +236,7 @@ transition-kept s v (Transition.filed {d} {q} {ns} {l = y} l e) =
     at {t = t} d idle (record {
       move = record {
         low = l;
-        cols = refl;
+        shape = refl;
         clients = refl;
         lists = same-lists s t refl;
         mono = λ p. omega arith;
@@ -263,7 +264,7 @@ transition-kept s v (Transition.wrote {d} {w} {i} l e k) =
     at {t = t} d (raising w 0 c f) (record {
       move = record {
         low = l;
-        cols = refl;
+        shape = refl;
         clients = refl;
         lists = λ q z. wrote-lists s t d w c f q (z ∙ sym (o .0)) l (upd-same (s .clients) d (raising w 0 c f)) refl;
         mono = λ p. omega arith;
@@ -287,7 +288,7 @@ transition-kept s v (Transition.abandoned-write {d} {w} {i} {t} l e m) =
     quiet-at s t d idle v l (λ p. let a = back-up (take i (writeLabels w)) (s .store) t m p in omega arith) (λ p. rw e refl) refl (m .once) tt (λ p. rw e (let a = m .less p in omega arith))
 transition-kept s v (Transition.evicted-answer {i} l) = aside (record { move = cut-move s i; clients = refl; once = v .once; pendings = λ p. refl; one = cut-one i (s .filed) (v .one) })
 transition-kept s v (Transition.evicted-node {t} l m) = aside (record { move = out-move s t m; clients = refl; once = m .once; pendings = m .keep; one = v .one })
-transition-kept s v (Transition.renewed i) = anew (record { idle = i; clients = refl; cols = refl; store = refl; filed = refl })
+transition-kept s v (Transition.renewed i) = anew (record { idle = i; clients = refl; shape = refl; store = refl; filed = refl })
 
 -- ---- So: the invariant, and the move
 kept-inv : (s : State) {c : Call} {t : State} → StateInv s → Kept s c t → StateInv t
@@ -315,18 +316,18 @@ kept-move s (anew k) e = absurd (true≢false e)
 pub transition-move : (s : State) {c : Call} {a : Response} {t : State} → StateInv s → Transition s c a t → renews c ≡ false → Move s t
 transition-move s v o e = kept-move s (transition-kept s v o) e
 
-kept-cols : (s : State) {c : Call} {t : State} → Kept s c t → t .cols ≡ s .cols
-kept-cols s (at d x k) = k .move .cols
-kept-cols s (aside k) = k .move .cols
-kept-cols s (anew k) = k .cols
+kept-shape : (s : State) {c : Call} {t : State} → Kept s c t → t .shape ≡ s .shape
+kept-shape s (at d x k) = k .move .shape
+kept-shape s (aside k) = k .move .shape
+kept-shape s (anew k) = k .shape
 
-pub transition-cols : (s : State) {c : Call} {a : Response} {t : State} → StateInv s → Transition s c a t → t .cols ≡ s .cols
-transition-cols s v o = kept-cols s (transition-kept s v o)
+pub transition-shape : (s : State) {c : Call} {a : Response} {t : State} → StateInv s → Transition s c a t → t .shape ≡ s .shape
+transition-shape s v o = kept-shape s (transition-kept s v o)
 
 -- an opened hall
-pub opened-inv : (k : ℕ) → k ≤ 4 → StateInv (opened k)
+pub opened-inv : (sh : Shape) → sh .columns ≤ maxColumns → StateInv (opened sh)
 unfolding opened NoDup pendingOf pendingIn OneEach
-opened-inv k l = record {
+opened-inv sh l = record {
   few = l;
   once = tt;
   high = λ d m. refl;

@@ -5,7 +5,8 @@ use Prim.Native.Nat.{ℕ, _≤_}
 use native.Mathlib.Omega.{arith}
 use lib.ListN.{length}
 use Rattle.laws.proofs.RowLaws.{Wide, wide-nil}
-use Rattle.rules.specs.Sizes.{maxRecords}
+use Rattle.query.specs.Shape.{Shape}
+use Rattle.rules.specs.Layout.{maxRecords}
 use Rattle.rules.specs.Table.{Table, Write, effect, Ascending}
 use Rattle.records.proofs.RecordWrites.{of-width, effect-wide, effect-few}
 use Rattle.records.proofs.RecordsAscending.{effect-ascending, none-ascending}
@@ -31,7 +32,7 @@ effect-good k w t l g =
       most = effect-few w t (g .most);
     }
 
-pub table-good : (s : State) {c : Call} {a : Response} {t : State} → StateInv s → Transition s c a t → TableGood (s .cols) (s .tab) → TableGood (t .cols) (t .tab)
+pub table-good : (s : State) {c : Call} {a : Response} {t : State} → StateInv s → Transition s c a t → TableGood (s .shape .columns) (s .tab) → TableGood (t .shape .columns) (t .tab)
 unfolding at-client with-store with-filed with-tab
 table-good s v (Transition.nothing e) g = g
 table-good s v (Transition.began l e k) g = g
@@ -44,7 +45,7 @@ table-good s v (Transition.listed l e k) g = g
 table-good s v (Transition.took l e k) g = g
 table-good s v (Transition.filed l e) g = g
 table-good s v (Transition.announced l e k m) g = g
-table-good s v (Transition.wrote {d} {w} {i} l e k) g = effect-good (s .cols) w (s .tab) (fit-at s d (announcing w i) v e .0) g
+table-good s v (Transition.wrote {d} {w} {i} l e k) g = effect-good (s .shape .columns) w (s .tab) (fit-at s d (announcing w i) v e .0) g
 table-good s v (Transition.raised l e k m) g = g
 table-good s v (Transition.last l e k m) g = g
 table-good s v (Transition.abandoned-read l e) g = g
@@ -53,6 +54,6 @@ table-good s v (Transition.evicted-answer l) g = g
 table-good s v (Transition.evicted-node l m) g = g
 table-good s v (Transition.renewed i) g = g
 
-pub opened-table : (k : ℕ) → TableGood (opened k .cols) (opened k .tab)
+pub opened-table : (sh : Shape) → TableGood (opened sh .shape .columns) (opened sh .tab)
 unfolding opened
-opened-table k = record { ascending = none-ascending; widths = wide-nil k; most = omega arith }
+opened-table sh = record { ascending = none-ascending; widths = wide-nil (sh .columns); most = omega arith }

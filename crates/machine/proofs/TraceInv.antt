@@ -11,6 +11,7 @@ use lib.Dec.{eqb}
 use borrow.Author.Tests.{eqb-true, eqb-false}
 use lib.ListN.{length}
 use Rattle.laws.proofs.TestLaws.{byTest}
+use Rattle.query.specs.Shape.{Shape}
 use Rattle.rules.specs.Table.{Table, Write}
 use Rattle.machine.proofs.Sums.{upd-same, upd-other, In, in-none}
 use Rattle.machine.proofs.Keys.{Key, Val, valueOf, short, readLabels}
@@ -286,9 +287,9 @@ turned {s} {t} {B} {C} v u k = record {
 }
 
 -- an opened hall
-pub opened-trace : (k : ℕ) → TraceInv (opened k) empty-trace
+pub opened-trace : (sh : Shape) → TraceInv (opened sh) empty-trace
 unfolding opened empty-trace
-opened-trace k = record {
+opened-trace sh = record {
   tab = refl;
   none = refl;
   later = λ b l. refl;

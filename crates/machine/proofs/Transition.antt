@@ -10,6 +10,7 @@ use lib.Dec.{ltb}
 use lib.ListN.{length, getD, take}
 use Rattle.rules.specs.Table.{Write, effect, changes, noRoom}
 use Rattle.rules.specs.Nodes.{Store, store, isWorn}
+use Rattle.query.specs.Shape.{narrow}
 use Rattle.rules.specs.History.{isAccepted}
 use Rattle.revisions.proofs.EffectiveRevision.{has, effective, pendingOf, Grew, Announced, Raised}
 use Rattle.machine.proofs.Sums.{In}
@@ -31,8 +32,8 @@ pub data Transition (s : State) : Call → Response → State → Type 0 where
   -- refused
   nothing : {c : Call} {n : ℕ} → isAccepted n ≡ false → Transition s c (refused n) s
   -- begins
-  began : {d : ℕ} {q : Key} → d < 12 → s .clients d ≡ idle → width q ≡ s .cols → Transition s (begin-read d q) went (at-client s d (looking q [] false))
-  began-write : {d : ℕ} {w : Write} → d < 12 → s .clients d ≡ idle → widthOf w ≡ s .cols → isWorn (s .store) ≡ false
+  began : {d : ℕ} {q : Key} → d < 12 → s .clients d ≡ idle → width q ≡ s .shape .columns → Transition s (begin-read d q) went (at-client s d (looking q [] false))
+  began-write : {d : ℕ} {w : Write} → d < 12 → s .clients d ≡ idle → widthOf w ≡ s .shape .columns → isWorn narrow (s .shape) (s .store) ≡ false
       → Transition s (begin-write d w) went (at-client s d (announcing w 0))
   -- a read: look, fetch, table, file
   looked : {d : ℕ} {q : Key} {ns : List ℕ} {saw : Bool} {t : Store} → d < 12 → s .clients d ≡ looking q ns saw → length ns < length (readLabels q)

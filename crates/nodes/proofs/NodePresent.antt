@@ -13,7 +13,8 @@ use lib.Seq.{getD-set-other}
 use borrow.Author.Tests.{lt-ltb, le-ltb, le-leb, lt-leb}
 use Rattle.laws.proofs.ListLaws.{and-true, false-left, false-right, true-false}
 use Rattle.rules.specs.Nodes.{Words, Store, store, pending, revision, withPending, withRevision, nodePlace, isPresent, nodeOf, withNode, evictNode, added, oldestFree, makeRoom, addedIn, ensured, announcedIn, announced, isPending, released, raised}
-use Rattle.rules.specs.Sizes.{maxNodes, maxPending, maxRevision}
+use Rattle.rules.specs.Layout.{maxNodes, maxPending, maxRevision}
+use Rattle.query.specs.Shape.{narrow}
 use Rattle.rules.specs.Memory.{storeIn, withStore}
 use Rattle.nodes.specs.declared.Sight.the-variants.{Seen, Stuck}
 use Rattle.nodes.specs.declared.Spot.the-variants.{At, Nowhere}
@@ -82,33 +83,33 @@ module _ (p : Words) (s : List ℕ) (i : ℕ) (e : i ≡ nodePlace p (storeIn s 
   spot-missing h = rw (← pending-missing h)
 
 -- ---- a raise
-raised-not : (p : Words) (s : List ℕ) → isPending p (storeIn s) && ltb (revision (nodeOf p (storeIn s))) maxRevision ≡ false → attempt false s ≡ tried s (raised p (storeIn s))
+raised-not : (p : Words) (s : List ℕ) → isPending p (storeIn s) && ltb (revision (nodeOf p (storeIn s))) (maxRevision narrow) ≡ false → attempt false s ≡ tried s (raised narrow p (storeIn s))
 unfolding raised tried
 raised-not p s h = rw h
 
-raised-so : (p : Words) (s : List ℕ) → isPending p (storeIn s) && ltb (revision (nodeOf p (storeIn s))) maxRevision ≡ true
-    → tried s (raised p (storeIn s)) ≡ attempt true (withStore s (released p (withNode p (set (nodeOf p (storeIn s)) 6 (revision (nodeOf p (storeIn s)) + 1)) (storeIn s))))
+raised-so : (p : Words) (s : List ℕ) → isPending p (storeIn s) && ltb (revision (nodeOf p (storeIn s))) (maxRevision narrow) ≡ true
+    → tried s (raised narrow p (storeIn s)) ≡ attempt true (withStore s (released p (withNode p (set (nodeOf p (storeIn s)) 6 (revision (nodeOf p (storeIn s)) + 1)) (storeIn s))))
 unfolding raised tried withRevision
 raised-so p s h = rw h
 
 module _ (p : Words) (s : List ℕ) (i : ℕ) (e : i ≡ nodePlace p (storeIn s .nodes)) where
-  pub raise-missing : getD s 1 0 ≤ i → attempt false s ≡ tried s (raised p (storeIn s))
-  raise-missing h = raised-not p s (false-left (isPending p (storeIn s)) (ltb (revision (nodeOf p (storeIn s))) maxRevision) (sym (pending-missing p s i e h)))
+  pub raise-missing : getD s 1 0 ≤ i → attempt false s ≡ tried s (raised narrow p (storeIn s))
+  raise-missing h = raised-not p s (false-left (isPending p (storeIn s)) (ltb (revision (nodeOf p (storeIn s))) (maxRevision narrow)) (sym (pending-missing p s i e h)))
 
   module _ (h : i < getD s 1 0) where
-    pub raise-idle : getD s (8 + i * 8 + 5) 0 ≡ 0 → attempt false s ≡ tried s (raised p (storeIn s))
+    pub raise-idle : getD s (8 + i * 8 + 5) 0 ≡ 0 → attempt false s ≡ tried s (raised narrow p (storeIn s))
     raise-idle z =
-        raised-not p s (false-left (isPending p (storeIn s)) (ltb (revision (nodeOf p (storeIn s))) maxRevision)
+        raised-not p s (false-left (isPending p (storeIn s)) (ltb (revision (nodeOf p (storeIn s))) (maxRevision narrow))
         (sym (pending-test p s i e h) ∙ le-ltb 0 (getD s (8 + i * 8 + 5) 0) (omega arith)))
 
-    pub raise-largest : maxRevision ≤ getD s (8 + i * 8 + 6) 0 → attempt false s ≡ tried s (raised p (storeIn s))
+    pub raise-largest : maxRevision narrow ≤ getD s (8 + i * 8 + 6) 0 → attempt false s ≡ tried s (raised narrow p (storeIn s))
     raise-largest z =
-        raised-not p s (false-right (isPending p (storeIn s)) (ltb (revision (nodeOf p (storeIn s))) maxRevision)
-        (rw (revision-here p s i e h) (le-ltb (getD s (8 + i * 8 + 6) 0) maxRevision z)))
+        raised-not p s (false-right (isPending p (storeIn s)) (ltb (revision (nodeOf p (storeIn s))) (maxRevision narrow))
+        (rw (revision-here p s i e h) (le-ltb (getD s (8 + i * 8 + 6) 0) (maxRevision narrow) z)))
 
     -- the revision is set first, then the pending writes
-    pub raise-both : Fit s → (getD s (8 + i * 8 + 5) 0 ≡ 0 → ⊥) → getD s (8 + i * 8 + 6) 0 < maxRevision
-        → attempt true (set (set s (8 + i * 8 + 6) (getD s (8 + i * 8 + 6) 0 + 1)) (8 + i * 8 + 5) (getD s (8 + i * 8 + 5) 0 - 1)) ≡ tried s (raised p (storeIn s))
+    pub raise-both : Fit s → (getD s (8 + i * 8 + 5) 0 ≡ 0 → ⊥) → getD s (8 + i * 8 + 6) 0 < maxRevision narrow
+        → attempt true (set (set s (8 + i * 8 + 6) (getD s (8 + i * 8 + 6) 0 + 1)) (8 + i * 8 + 5) (getD s (8 + i * 8 + 5) 0 - 1)) ≡ tried s (raised narrow p (storeIn s))
     raise-both f y z =
         let x : ℕ = revision (nodeOf p (storeIn s)) + 1 in
         let t : Store = withNode p (set (nodeOf p (storeIn s)) 6 x) (storeIn s) in
@@ -129,8 +130,8 @@ module _ (p : Words) (s : List ℕ) (i : ℕ) (e : i ≡ nodePlace p (storeIn s 
         ∙ ap (λ (r : List ℕ). withStore r (released p t)) (sym a)
         ∙ store-twice s t (released p t) f sized (sized-released p t sized) (λ q. omega arith) in
         let q : isPending p (storeIn s) ≡ true = sym (pending-test p s i e h) ∙ lt-ltb 0 (getD s (8 + i * 8 + 5) 0) (omega arith) in
-        let w : ltb (revision (nodeOf p (storeIn s))) maxRevision ≡ true = rw (revision-here p s i e h) (lt-ltb (getD s (8 + i * 8 + 6) 0) maxRevision z) in
-        ap (attempt true) v ∙ sym (raised-so p s (and-true (isPending p (storeIn s)) (ltb (revision (nodeOf p (storeIn s))) maxRevision) q w))
+        let w : ltb (revision (nodeOf p (storeIn s))) (maxRevision narrow) ≡ true = rw (revision-here p s i e h) (lt-ltb (getD s (8 + i * 8 + 6) 0) (maxRevision narrow) z) in
+        ap (attempt true) v ∙ sym (raised-so p s (and-true (isPending p (storeIn s)) (ltb (revision (nodeOf p (storeIn s))) (maxRevision narrow)) q w))
 
 -- ---- room for a node more
 module _ (s : List ℕ) where

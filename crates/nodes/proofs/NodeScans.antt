@@ -15,7 +15,8 @@ use Rattle.laws.proofs.ListLaws.{eq-same, ne-same}
 use Rattle.laws.proofs.TestLaws.{byTest}
 use Rattle.laws.proofs.SearchLaws.{place-start, place-found, place-next, place-none}
 use Rattle.rules.specs.Nodes.{Words, Node, pending, revision, labelIn, hasLabel, isFree, isHigh, isWorn}
-use Rattle.rules.specs.Sizes.{wornAbove}
+use Rattle.rules.specs.Layout.{wornAbove}
+use Rattle.query.specs.Shape.{narrow, Shape}
 use Rattle.rules.specs.Memory.{storeIn}
 use Rattle.nodes.proofs.NodeStores.{five, count-nodes, floor-in, node-word, node-at}
 
@@ -97,13 +98,13 @@ module _ (s : List ℕ) (i : ℕ) (h : i < getD s 1 0) where
   unfolding isFree
   busy-test n = ne-eqb (pending (getD (storeIn s .nodes) i [])) 0 (λ e. n (sym pending-at ∙ e))
 
-  pub high-test : wornAbove < getD s (8 + i * 8 + 6) 0 → isHigh (getD (storeIn s .nodes) i []) ≡ true
+  pub high-test : (sh : Shape) → wornAbove narrow sh < getD s (8 + i * 8 + 6) 0 → isHigh narrow sh (getD (storeIn s .nodes) i []) ≡ true
   unfolding isHigh
-  high-test k = rw revision-at (lt-ltb wornAbove (getD s (8 + i * 8 + 6) 0) k)
+  high-test sh k = rw revision-at (lt-ltb (wornAbove narrow sh) (getD s (8 + i * 8 + 6) 0) k)
 
-  pub low-test : getD s (8 + i * 8 + 6) 0 ≤ wornAbove → isHigh (getD (storeIn s .nodes) i []) ≡ false
+  pub low-test : (sh : Shape) → getD s (8 + i * 8 + 6) 0 ≤ wornAbove narrow sh → isHigh narrow sh (getD (storeIn s .nodes) i []) ≡ false
   unfolding isHigh
-  low-test k = rw revision-at (le-ltb wornAbove (getD s (8 + i * 8 + 6) 0) k)
+  low-test sh k = rw revision-at (le-ltb (wornAbove narrow sh) (getD s (8 + i * 8 + 6) 0) k)
 
 -- ---- the search for the first node that passes a test q: before place i none does
 unfoldable pub Past : (Node → Bool) → List ℕ → ℕ → Type 0
@@ -130,21 +131,21 @@ module _ (q : Node → Bool) (s : List ℕ) where
       omega arith
 
 -- ---- whether the floor or a revision is too high
-module _ (s : List ℕ) where
-  pub worn-floor : wornAbove < getD s 0 0 → true ≡ isWorn (storeIn s)
+module _ (sh : Shape) (s : List ℕ) where
+  pub worn-floor : wornAbove narrow sh < getD s 0 0 → true ≡ isWorn narrow sh (storeIn s)
   unfolding isWorn storeIn
-  worn-floor h = rw (lt-ltb wornAbove (getD s 0 0) h)
+  worn-floor h = rw (lt-ltb (wornAbove narrow sh) (getD s 0 0) h)
 
-  pub worn-node : (i : ℕ) → Past isHigh s i → i < getD s 1 0 → wornAbove < getD s (8 + i * 8 + 6) 0 → true ≡ isWorn (storeIn s)
+  pub worn-node : (i : ℕ) → Past (isHigh narrow sh) s i → i < getD s 1 0 → wornAbove narrow sh < getD s (8 + i * 8 + 6) 0 → true ≡ isWorn narrow sh (storeIn s)
   unfolding isWorn
   worn-node i p h k =
       let l : length (storeIn s .nodes) ≡ getD s 1 0 = count-nodes s in
-      let e : i ≡ place isHigh (storeIn s .nodes) = scan-found isHigh s i p h (high-test s i h k) in
-      rw (lt-ltb (place isHigh (storeIn s .nodes)) (length (storeIn s .nodes)) (omega arith)) (sym (or-true (ltb wornAbove (storeIn s .floor))))
+      let e : i ≡ place (isHigh narrow sh) (storeIn s .nodes) = scan-found (isHigh narrow sh) s i p h (high-test s i h sh k) in
+      rw (lt-ltb (place (isHigh narrow sh) (storeIn s .nodes)) (length (storeIn s .nodes)) (omega arith)) (sym (or-true (ltb (wornAbove narrow sh) (storeIn s .floor))))
 
-  pub worn-not : (i : ℕ) → Past isHigh s i → i ≤ getD s 1 0 → getD s 1 0 ≤ i → getD s 0 0 ≤ wornAbove → false ≡ isWorn (storeIn s)
+  pub worn-not : (i : ℕ) → Past (isHigh narrow sh) s i → i ≤ getD s 1 0 → getD s 1 0 ≤ i → getD s 0 0 ≤ wornAbove narrow sh → false ≡ isWorn narrow sh (storeIn s)
   unfolding isWorn
   worn-not i p h k f =
       let l : length (storeIn s .nodes) ≡ getD s 1 0 = count-nodes s in
-      let e : i ≡ place isHigh (storeIn s .nodes) = scan-none isHigh s i p h k in
-      rw (le-ltb (place isHigh (storeIn s .nodes)) (length (storeIn s .nodes)) (omega arith), floor-in s, le-ltb wornAbove (getD s 0 0) f)
+      let e : i ≡ place (isHigh narrow sh) (storeIn s .nodes) = scan-none (isHigh narrow sh) s i p h k in
+      rw (le-ltb (place (isHigh narrow sh) (storeIn s .nodes)) (length (storeIn s .nodes)) (omega arith), floor-in s, le-ltb (wornAbove narrow sh) (getD s 0 0) f)

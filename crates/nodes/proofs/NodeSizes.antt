@@ -16,7 +16,8 @@ use Rattle.laws.proofs.ListLaws.{same-refl, length-without}
 use Rattle.laws.proofs.SearchLaws.{place-le}
 use Rattle.laws.proofs.RowLaws.{wide-nil, wide-set, wide-without, wide-snoc, wide-at}
 use Rattle.rules.specs.Nodes.{Words, Node, Store, store, labelIn, pending, revision, withPending, withRevision, hasLabel, nodePlace, isPresent, nodeOf, withNode, evictNode, added, oldestFree, makeRoom, addedIn, ensured, announcedIn, announced, isPending, released, raised, releasedAll}
-use Rattle.rules.specs.Sizes.{maxNodes, maxPending, maxRevision}
+use Rattle.query.specs.Shape.{narrow}
+use Rattle.rules.specs.Layout.{maxNodes, maxPending, maxRevision}
 use Rattle.nodes.specs.NodeContracts.{releasedAt}
 use Rattle.nodes.proofs.NodeStores.{Sized}
 use Rattle.nodes.proofs.NodePlaces.{place-set, place-snoc, place-without}
@@ -225,9 +226,9 @@ sized-announced p t u h z = go (ensured p t) refl
         more false k =
             rw (← some-is (withNode p (set (nodeOf p r) 5 (pending (nodeOf p r) + 1)) r) u k) (sized-word p r 5 (pending (nodeOf p r) + 1) (made-present p t r h z e .sized))
 
-pub sized-raised : (p : Words) (t u : Store) → Sized t → raised p t ≡ some u → Sized u
+pub sized-raised : (p : Words) (t u : Store) → Sized t → raised narrow p t ≡ some u → Sized u
 unfolding raised withRevision
-sized-raised p t u z = go (isPending p t && ltb (revision (nodeOf p t)) maxRevision)
+sized-raised p t u z = go (isPending p t && ltb (revision (nodeOf p t)) (maxRevision narrow))
   where
     r : Store
     r = withNode p (set (nodeOf p t) 6 (revision (nodeOf p t) + 1)) t

@@ -6,6 +6,7 @@ use Prim.Native.Nat.{ℕ, _<_}
 use native.Mathlib.Omega.{arith}
 use lib.ListN.{length, getD}
 use Rattle.rules.specs.Nodes.{Words, Store, store, evictNode, added, ensured, announced, raised, releasedAll}
+use Rattle.query.specs.Shape.{narrow}
 use Rattle.rules.specs.Memory.{storeIn, withStore}
 use Rattle.nodes.specs.NodeContracts.{Fit, tried, looked, releasedAt}
 use Rattle.nodes.proofs.NodeStores.{Sized, Keeps, count-nodes, sized-in, keeps-store}
@@ -41,8 +42,8 @@ module _ (s : List ℕ) (f : Fit s) where
   pub keeps-announced : (p : Words) → length p ≡ 5 → Keeps s (tried s (announced p (storeIn s)) .mem)
   keeps-announced p h = keeps-tried (announced p (storeIn s)) (λ t e. sized-announced p (storeIn s) t h (sized-in s f) e)
 
-  pub keeps-raised : (p : Words) → Keeps s (tried s (raised p (storeIn s)) .mem)
-  keeps-raised p = keeps-tried (raised p (storeIn s)) (λ t e. sized-raised p (storeIn s) t (sized-in s f) e)
+  pub keeps-raised : (p : Words) → Keeps s (tried s (raised narrow p (storeIn s)) .mem)
+  keeps-raised p = keeps-tried (raised narrow p (storeIn s)) (λ t e. sized-raised p (storeIn s) t (sized-in s f) e)
 
   pub keeps-released-all : (ps : List Words) → Keeps s (tried s (releasedAll ps (storeIn s)) .mem)
   keeps-released-all ps = keeps-tried (releasedAll ps (storeIn s)) (λ t e. sized-released-all ps (storeIn s) t (sized-in s f) e)

@@ -8,6 +8,7 @@ ghost use Prim.Native.Nat.{_+_, _≤_, _<_, max};
 ghost use lib.ListN.{length, getD, take, drop};
 ghost use Rattle.lists.specs.Lists.{same};
 ghost use Rattle.rules.specs.Nodes.{store, nodePlace, oldestFree, evictNode, added, makeRoom, ensured, announced, raised, pending, isWorn};
+ghost use Rattle.query.specs.Shape.{narrow, Shape};
 ghost use Rattle.rules.specs.Memory.{storeIn, withStore};
 ghost use Rattle.nodes.specs.NodeContracts.{Fit, attempt, tried, saw, looked, put, placed, pendingSpot, releasedAt};
 
@@ -214,7 +215,7 @@ pub fn release(nodes: &mut [u32], i: usize)
 // The label's node: revision up by one, pending writes down by one. False: it is missing, has none pending, or its revision is the largest.
 pub fn raise(nodes: &mut [u32], label: &[u32]) -> bool
     requires { ⌜ Fit (now nodes) × (length (now label) ≡ 5) ⌝ }
-    ensures { λ r. ⌜ attempt r (now (nodes .exit)) ≡ tried (now (nodes .entry)) (raised (now (label .entry)) (storeIn (now (nodes .entry)))) ⌝ }
+    ensures { λ r. ⌜ attempt r (now (nodes .exit)) ≡ tried (now (nodes .entry)) (raised narrow (now (label .entry)) (storeIn (now (nodes .entry)))) ⌝ }
 {
     let i = find(nodes, label);
     if nodes[1] as usize <= i {
@@ -239,7 +240,7 @@ pub fn raise(nodes: &mut [u32], label: &[u32]) -> bool
 // Whether the floor or a revision is too high for another write.
 pub fn is_worn(nodes: &[u32]) -> bool
     requires { ⌜ Fit (now nodes) ⌝ }
-    ensures { λ r. ⌜ r ≡ isWorn (storeIn (now (nodes .entry))) ⌝ }
+    ensures { λ r. ⌜ ((sh : Shape) → r ≡ isWorn narrow sh (storeIn (now (nodes .entry)))) ⌝ }
 {
     if 4294967103 < nodes[0] {
         return true;

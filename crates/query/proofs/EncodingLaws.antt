@@ -13,7 +13,8 @@ use Rattle.laws.proofs.ListLaws.{and-left, length-padded}
 use Rattle.lists.specs.Lists.{same, padded}
 use Rattle.query.specs.declared.Column.the-variants.{Is, Wildcard}
 use Rattle.query.specs.Query.{Query, Term, value, wildcard, any, Label}
-use Rattle.query.specs.Encoding.{columnOf, queryOf, wellMarked, isQuery, termValue, columnValue, tag, tags, labelWords, marks, keyWords, columnsIn, queryIn, isKey}
+use Rattle.query.specs.Shape.{Shape, shapeOf, maxColumns}
+use Rattle.query.specs.Encoding.{rangeWidth, columnOf, queryOf, wellMarked, isQuery, termValue, columnValue, tag, tags, labelWords, marks, keyWords, columnsIn, queryIn, isKey}
 use Rattle.query.proofs.ListedNumbers.{same-is, append-fronts}
 
 -- ---- Labels
@@ -107,14 +108,14 @@ columns-decoded (Wildcard ∷ q) l =
     rw (a, b, columns-decoded q l) refl
 
 -- a query's key holds it, if the number of columns is known
-pub query-in-key : (k : ℕ) (q : Query) → length q ≡ k → queryIn k (keyWords q) ≡ q
+pub query-in-key : (sh : Shape) (q : Query) → length q ≡ sh .columns → queryIn sh (keyWords q) ≡ q
 unfolding queryIn keyWords padded
-query-in-key k q e = rw (← e) (columns-decoded q (replicate (6 - length (map columnValue q)) 0))
+query-in-key sh q e = rw (← e) (columns-decoded q (replicate (maxColumns + rangeWidth - length (map columnValue q)) 0))
 
 -- "an answer is filed for this query": of as many columns, two queries have the same key only if they are the same
 pub key-words-injective : (q w : Query) → length q ≡ length w → keyWords q ≡ keyWords w → q ≡ w
 key-words-injective q w n e =
-    sym (query-in-key (length w) q n) ∙ ap (queryIn (length w)) e ∙ query-in-key (length w) w refl
+    sym (query-in-key (shapeOf (length w)) q n) ∙ ap (queryIn (shapeOf (length w))) e ∙ query-in-key (shapeOf (length w)) w refl
 
 -- without it the key does not tell: a query's key is also that of the query with a wildcard more
 pub key-words-shorter : keyWords [] ≡ keyWords (Wildcard ∷ [])
@@ -127,22 +128,22 @@ columns-length zero m vs = refl
 columns-length (suc k) m vs = ap suc (columns-length k (m / 2) (drop 1 vs))
 
 -- whatever a key is, what it holds has k columns
-pub query-in-length : (k : ℕ) (key : List ℕ) → length (queryIn k key) ≡ k
+pub query-in-length : (sh : Shape) (key : List ℕ) → length (queryIn sh key) ≡ sh .columns
 unfolding queryIn
-query-in-length k key = columns-length k (getD key 0 0) (drop 1 key)
+query-in-length sh key = columns-length (sh .columns) (getD key 0 0) (drop 1 key)
 
 -- what passes for a key of k columns is the key of a query of k columns, and each such key passes
-pub is-key : (k : ℕ) (key : List ℕ) → (isKey k key ≡ true) ↔ ((q : Query) × (length q ≡ k) × (key ≡ keyWords q))
+pub is-key : (sh : Shape) (key : List ℕ) → (isKey sh key ≡ true) ↔ ((q : Query) × (length q ≡ sh .columns) × (key ≡ keyWords q))
 unfolding isKey
-is-key k key = (
-  λ e. (queryIn k key, query-in-length k key, same-is key (keyWords (queryIn k key)) .0 e),
+is-key sh key = (
+  λ e. (queryIn sh key, query-in-length sh key, same-is key (keyWords (queryIn sh key)) .0 e),
   λ h.
-      let a : queryIn k key ≡ h .0 = ap (queryIn k) (h .2) ∙ query-in-key k (h .0) (h .1) in
-      same-is key (keyWords (queryIn k key)) .1 (h .2 ∙ ap keyWords (sym a)),
+      let a : queryIn sh key ≡ h .0 = ap (queryIn sh) (h .2) ∙ query-in-key sh (h .0) (h .1) in
+      same-is key (keyWords (queryIn sh key)) .1 (h .2 ∙ ap keyWords (sym a)),
 )
 
-pub key-is-key : (k : ℕ) (q : Query) → length q ≡ k → isKey k (keyWords q) ≡ true
-key-is-key k q e = is-key k (keyWords q) .1 (q, e, refl)
+pub key-is-key : (sh : Shape) (q : Query) → length q ≡ sh .columns → isKey sh (keyWords q) ≡ true
+key-is-key sh q e = is-key sh (keyWords q) .1 (q, e, refl)
 
 -- ---- A query as it arrives
 query-of-length : (k : ℕ) (a : List ℕ) → length a ≡ 2 * k → length (queryOf a) ≡ k
@@ -153,6 +154,7 @@ query-of-length zero (mark ∷ v ∷ a) e = absurd (omega arith)
 query-of-length (suc k) (mark ∷ v ∷ a) e = ap suc (query-of-length k a (omega arith))
 
 -- "a query whose columns are not as many as the k in memory" is none: what is one has k columns
-pub is-query-length : (k : ℕ) (a : List ℕ) → isQuery k a ≡ true → length (queryOf a) ≡ k
+pub is-query-length : (sh : Shape) (a : List ℕ) → isQuery sh a ≡ true → length (queryOf a) ≡ sh .columns
 unfolding isQuery
-is-query-length k a e = query-of-length k a (eqb-true (length a) (2 * k) (and-left (eqb (length a) (2 * k)) (wellMarked a) e))
+is-query-length sh a e =
+    query-of-length (sh .columns) a (eqb-true (length a) (2 * sh .columns) (and-left (eqb (length a) (2 * sh .columns)) (wellMarked a) e))

@@ -14,6 +14,7 @@ use Rattle.rules.specs.Client.{sawPending, entryOf, idle, queryAt, stepped}
 use Rattle.rules.specs.Memory.{mem, clientIn, withClient, answersIn, withAnswers}
 use Rattle.rules.specs.Outcome.{resultWith}
 use Rattle.rules.specs.Refusals.{columns, client}
+use Rattle.query.specs.Shape.{narrow, shapeOf}
 use Rattle.rules.specs.Steps.{nowAt, answered, fetchResult, fileResult, readResult}
 use Rattle.clients.specs.ClientContracts as client-contracts
 use Rattle.answers.specs.AnswerContracts as answers
@@ -31,43 +32,43 @@ opened : (b : Bool) (count place r : ℕ) → r ≡ cond b count place → r < c
 opened true count place r e h = absurd (omega arith)
 opened false count place r e h = (lt-ltb place count (omega arith), sym e)
 
-module _ (s clients tray : List ℕ) (d k : ℕ) (r : Reads clients d k) (h : made clients d ≡ looks clients d k) (i : ℕ) (e : i ≡ foundFor s (clientIn clients d)) where
-  found : i ≡ cond (sawPending (clientIn clients d)) (length (answersIn s)) (fetchPlace (looks clients d k) (entryOf (clientIn clients d)) (answersIn s))
+module _ (s clients tray : List ℕ) (d k : ℕ) (r : Reads clients d k) (h : made clients d ≡ looks clients d k) (i : ℕ) (e : i ≡ foundFor s (clientIn narrow clients d)) where
+  found : i ≡ cond (sawPending (clientIn narrow clients d)) (length (answersIn narrow s)) (fetchPlace narrow (looks clients d k) (entryOf (clientIn narrow clients d)) (answersIn narrow s))
   unfolding foundFor
   found = e ∙ rw (← count-is s, h)
 
-  pub fetch-not : getD s 0 0 ≤ i → (clients′ : List ℕ) → clients′ ≡ withClient clients d (stepped (clientIn clients d)) → (t n : List ℕ)
-      → resultWith Accepted (mem t n s clients′) tray ≡ readResult (mem t n s clients) tray d (queryAt k (clientIn clients d)) (made clients d)
+  pub fetch-not : getD s 0 0 ≤ i → (clients′ : List ℕ) → clients′ ≡ withClient narrow clients d (stepped (clientIn narrow clients d)) → (t n : List ℕ)
+      → resultWith Accepted (mem t n s clients′) tray ≡ readResult (mem t n s clients) tray d (queryAt (shapeOf k) (clientIn narrow clients d)) (made clients d)
   unfolding fetchResult nowAt client
   fetch-not g clients′ u t n =
       let l = count-is s in
-      rw (fetch-is (mem t n s clients) tray d (queryAt k (clientIn clients d)) (made clients d) h, closed (sawPending (clientIn clients d)) (length (answersIn s)) (fetchPlace (looks clients d k) (entryOf (clientIn clients d)) (answersIn s)) i found (omega arith), u)
+      rw (fetch-is (mem t n s clients) tray d (queryAt (shapeOf k) (clientIn narrow clients d)) (made clients d) h, closed (sawPending (clientIn narrow clients d)) (length (answersIn narrow s)) (fetchPlace narrow (looks clients d k) (entryOf (clientIn narrow clients d)) (answersIn narrow s)) i found (omega arith), u)
 
-  pub fetch-given : i < getD s 0 0 → (count : ℕ) (tray′ clients′ : List ℕ) → answers.Gave k (getD (answersIn s) i []) tray count tray′ → clients′ ≡ withClient clients d idle → (t n : List ℕ)
-      → resultWith (Answered count true) (mem t n s clients′) tray′ ≡ readResult (mem t n s clients) tray d (queryAt k (clientIn clients d)) (made clients d)
-  unfolding fetchResult answered nowAt client columns
+  pub fetch-given : i < getD s 0 0 → (count : ℕ) (tray′ clients′ : List ℕ) → answers.Gave k (getD (answersIn narrow s) i []) tray count tray′ → clients′ ≡ withClient narrow clients d (idle narrow) → (t n : List ℕ)
+      → resultWith (Answered count true) (mem t n s clients′) tray′ ≡ readResult (mem t n s clients) tray d (queryAt (shapeOf k) (clientIn narrow clients d)) (made clients d)
+  unfolding fetchResult answered nowAt client
   fetch-given g count tray′ clients′ w u t n =
       let l = count-is s in
-      let o = opened (sawPending (clientIn clients d)) (length (answersIn s)) (fetchPlace (looks clients d k) (entryOf (clientIn clients d)) (answersIn s)) i found (omega arith) in
-      rw (fetch-is (mem t n s clients) tray d (queryAt k (clientIn clients d)) (made clients d) h, o .0, o .1, u, w .count, w .list, ← r .columns)
+      let o = opened (sawPending (clientIn narrow clients d)) (length (answersIn narrow s)) (fetchPlace narrow (looks clients d k) (entryOf (clientIn narrow clients d)) (answersIn narrow s)) i found (omega arith) in
+      rw (fetch-is (mem t n s clients) tray d (queryAt (shapeOf k) (clientIn narrow clients d)) (made clients d) h, o .0, o .1, u, w .count, w .list, ← r .columns)
 
 -- ---- the search
 module _ (s clients : List ℕ) (d i : ℕ) where
-  pub found-pending : (b : Bool) → b ≡ sawPending (clientIn clients d) → b ≡ true → i ≡ getD s 0 0 → i ≡ foundFor s (clientIn clients d)
+  pub found-pending : (b : Bool) → b ≡ sawPending (clientIn narrow clients d) → b ≡ true → i ≡ getD s 0 0 → i ≡ foundFor s (clientIn narrow clients d)
   unfolding foundFor
   found-pending b e h g = rw (← e, h) g
 
-  pub found-search : (b : Bool) (n : ℕ) → b ≡ sawPending (clientIn clients d) → b ≡ false → n ≡ made clients d → client-contracts.Fit clients d
-      → i ≡ fetchPlace n (take (8 + d * 157 + 5 + 152 - (8 + d * 157 + 5)) (drop (8 + d * 157 + 5) clients)) (answersIn s) → i ≡ foundFor s (clientIn clients d)
+  pub found-search : (b : Bool) (n : ℕ) → b ≡ sawPending (clientIn narrow clients d) → b ≡ false → n ≡ made clients d → client-contracts.Fit clients d
+      → i ≡ fetchPlace narrow n (take (8 + d * 157 + 5 + 152 - (8 + d * 157 + 5)) (drop (8 + d * 157 + 5) clients)) (answersIn narrow s) → i ≡ foundFor s (clientIn narrow clients d)
   unfolding foundFor
   found-search b n e h l f g = rw (← e, h, ← l, ← entry-part clients d f) g
 
 -- ---- the file step
 module _ (s clients tray : List ℕ) (d k : ℕ) (r : Reads clients d k) (h : made clients d ≡ looks clients d k + 2) where
   pub file-left : (s′ tray′ clients′ : List ℕ) (count : ℕ)
-      → s′ ≡ withAnswers s (filed (take (8 + d * 157 + 5 + 152 - (8 + d * 157 + 5)) (drop (8 + d * 157 + 5) clients)) (answersIn s))
-      → (count ≡ lengthIn (entryOf (clientIn clients d))) × (tray′ ≡ written tray 0 (listIn k (entryOf (clientIn clients d)))) → clients′ ≡ withClient clients d idle → (t n : List ℕ)
-      → resultWith (Answered count false) (mem t n s′ clients′) tray′ ≡ readResult (mem t n s clients) tray d (queryAt k (clientIn clients d)) (made clients d)
-  unfolding fileResult answered nowAt client columns
+      → s′ ≡ withAnswers narrow s (filed (take (8 + d * 157 + 5 + 152 - (8 + d * 157 + 5)) (drop (8 + d * 157 + 5) clients)) (answersIn narrow s))
+      → (count ≡ lengthIn (entryOf (clientIn narrow clients d))) × (tray′ ≡ written tray 0 (listIn narrow (shapeOf k) (entryOf (clientIn narrow clients d)))) → clients′ ≡ withClient narrow clients d (idle narrow) → (t n : List ℕ)
+      → resultWith (Answered count false) (mem t n s′ clients′) tray′ ≡ readResult (mem t n s clients) tray d (queryAt (shapeOf k) (clientIn narrow clients d)) (made clients d)
+  unfolding fileResult answered nowAt client
   file-left s′ tray′ clients′ count e g u t n =
-      rw (file-is (mem t n s clients) tray d (queryAt k (clientIn clients d)) (made clients d) h, e, g .0, g .1, u, ← r .columns, entry-part clients d (fit-clients clients d k r))
+      rw (file-is (mem t n s clients) tray d (queryAt (shapeOf k) (clientIn narrow clients d)) (made clients d) h, e, g .0, g .1, u, ← r .columns, entry-part clients d (fit-clients clients d k r))

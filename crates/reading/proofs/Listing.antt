@@ -24,6 +24,7 @@ use Rattle.rules.specs.Memory.{mem, clientIn, withClient, recordsIn}
 use Rattle.rules.specs.Outcome.{resultWith}
 use Rattle.rules.specs.Refusals.{columns, client}
 use Rattle.rules.specs.Steps.{nowAt, answered, tableResult, readResult}
+use Rattle.query.specs.Shape.{narrow, shapeOf}
 use Rattle.rules.proofs.ClientLaws.{list-room}
 use Rattle.clients.specs.ClientContracts.{listSet}
 use Rattle.clients.proofs.ClientMemory.{length-client, with-self, with-words, client-same, with-twice, written-inside}
@@ -66,21 +67,21 @@ over l n e h = go (leb (length l) 32) refl e
 
 -- the list that the step takes
 abbrev pub listFor : List ℕ → List ℕ → ℕ → ℕ → List Record
-listFor s clients d k = listOf (queryAt k (clientIn clients d)) (recordsIn k s)
+listFor s clients d k = listOf (queryAt (shapeOf k) (clientIn narrow clients d)) (recordsIn k s)
 
 module _ (s clients : List ℕ) (d k : ℕ) (r : Reads clients d k) (f : table.Fit k s) where
   list-short : length (flat (take 32 (listFor s clients d k))) ≤ 128
   list-short =
       let l : List Record = listFor s clients d k in
-      let a : length (flat (take 32 l)) ≡ length (take 32 l) * k = length-flat k (take 32 l) (wide-take k 32 l (wide-list k s (queryAt k (clientIn clients d)) f)) in
+      let a : length (flat (take 32 l)) ≡ length (take 32 l) * k = length-flat k (take 32 l) (wide-take k 32 l (wide-list k s (queryAt (shapeOf k) (clientIn narrow clients d)) f)) in
       let b : length (take 32 l) ≤ 32 = rw length-take (omega arith) in
       rw a (list-room (length (take 32 l)) k b (r .most))
 
   list-wide : length (flat (listFor s clients d k)) ≡ length (listFor s clients d k) * k
-  list-wide = length-flat k (listFor s clients d k) (wide-list k s (queryAt k (clientIn clients d)) f)
+  list-wide = length-flat k (listFor s clients d k) (wide-list k s (queryAt (shapeOf k) (clientIn narrow clients d)) f)
 
   -- what the gathering leaves, cols being the columns that the code read
-  pub gather-left : (cols : List Column) (t : List ℕ) → cols ≡ four (queryAt k (clientIn clients d))
+  pub gather-left : (cols : List Column) (t : List ℕ) → cols ≡ four (queryAt (shapeOf k) (clientIn narrow clients d))
       → t ≡ written (take (8 + d * 157 + 29 + 128 - (8 + d * 157 + 29)) (drop (8 + d * 157 + 29) clients)) 0 (flat (take 32 (listOf (take k cols) (recordsIn k s))))
       → putMid (8 + d * 157 + 29) (8 + d * 157 + 29 + 128 - (8 + d * 157 + 29)) clients t ≡ written clients (8 + d * 157 + 29) (flat (take 32 (listFor s clients d k)))
   gather-left cols t e g =
@@ -88,58 +89,57 @@ module _ (s clients : List ℕ) (d k : ℕ) (r : Reads clients d k) (f : table.F
       let b = r .below in
       part-written clients (8 + d * 157 + 29) 128 (flat (take 32 (listFor s clients d k))) t (g ∙ rw (read-columns clients d k r cols e)) list-short (omega arith)
 
-  pub gather-count : (cols : List Column) (n : ℕ) → cols ≡ four (queryAt k (clientIn clients d)) → n ≡ gathered (listOf (take k cols) (recordsIn k s)) → n ≡ gathered (listFor s clients d k)
+  pub gather-count : (cols : List Column) (n : ℕ) → cols ≡ four (queryAt (shapeOf k) (clientIn narrow clients d)) → n ≡ gathered (listOf (take k cols) (recordsIn k s)) → n ≡ gathered (listFor s clients d k)
   gather-count cols n e g = g ∙ rw (read-columns clients d k r cols e)
 
   -- n, clients₁: what the gathering gives and leaves
   module _ (n : ℕ) (clients₁ : List ℕ) (e : n ≡ gathered (listFor s clients d k)) (g : clients₁ ≡ written clients (8 + d * 157 + 29) (flat (take 32 (listFor s clients d k)))) where
     gathered-in : Client
-    gathered-in = written (clientIn clients d) 29 (flat (take 32 (listFor s clients d k)))
+    gathered-in = written (clientIn narrow clients d) 29 (flat (take 32 (listFor s clients d k)))
 
     gathered-long : length gathered-in ≡ 157
     unfolding gathered-in
     gathered-long =
-        let l : length (clientIn clients d) ≡ 157 = length-client clients d (fit-clients clients d k r) in
+        let l : length (clientIn narrow clients d) ≡ 157 = length-client clients d (fit-clients clients d k r) in
         let h = list-short in
-        length-written (clientIn clients d) 29 (flat (take 32 (listFor s clients d k))) (omega arith) ∙ l
+        length-written (clientIn narrow clients d) 29 (flat (take 32 (listFor s clients d k))) (omega arith) ∙ l
 
-    gathered-is : clients₁ ≡ withClient clients d gathered-in
+    gathered-is : clients₁ ≡ withClient narrow clients d gathered-in
     unfolding gathered-in
     gathered-is =
         let v : List ℕ = flat (take 32 (listFor s clients d k)) in
         let h : length v ≤ 128 = list-short in
         g ∙ ap (λ (x : List ℕ). written x (8 + d * 157 + 29) v) (sym (with-self clients d (fit-clients clients d k r)))
-        ∙ with-words clients d (fit-clients clients d k r) (clientIn clients d) (length-client clients d (fit-clients clients d k r)) 29 v (omega arith)
+        ∙ with-words clients d (fit-clients clients d k r) (clientIn narrow clients d) (length-client clients d (fit-clients clients d k r)) 29 v (omega arith)
 
-    word-kept : (j : ℕ) → j < 29 → getD (clientIn clients₁ d) j 0 ≡ getD (clientIn clients d) j 0
+    word-kept : (j : ℕ) → j < 29 → getD (clientIn narrow clients₁ d) j 0 ≡ getD (clientIn narrow clients d) j 0
     unfolding gathered-in
     word-kept j h =
-        let l : length (clientIn clients d) ≡ 157 = length-client clients d (fit-clients clients d k r) in
-        ap (λ (x : List ℕ). getD (clientIn x d) j 0) gathered-is ∙ ap (λ (x : Client). getD x j 0) (client-same clients d (fit-clients clients d k r) gathered-in gathered-long)
-        ∙ getD-before (clientIn clients d) 29 (flat (take 32 (listFor s clients d k))) (omega arith) j 0 h
+        let l : length (clientIn narrow clients d) ≡ 157 = length-client clients d (fit-clients clients d k r) in
+        ap (λ (x : List ℕ). getD (clientIn narrow x d) j 0) gathered-is ∙ ap (λ (x : Client). getD x j 0) (client-same clients d (fit-clients clients d k r) gathered-in gathered-long)
+        ∙ getD-before (clientIn narrow clients d) 29 (flat (take 32 (listFor s clients d k))) (omega arith) j 0 h
 
     pub steps-kept : made clients₁ d ≡ made clients d
     unfolding steps
     steps-kept = word-kept 1 (omega arith)
 
-    pending-kept : sawPending (clientIn clients₁ d) ≡ sawPending (clientIn clients d)
+    pending-kept : sawPending (clientIn narrow clients₁ d) ≡ sawPending (clientIn narrow clients d)
     unfolding sawPending
     pending-kept = rw (word-kept 2 (omega arith))
 
-    idle-again : (clients₂ : List ℕ) → clients₂ ≡ withClient clients₁ d idle → clients₂ ≡ withClient clients d idle
-    idle-again clients₂ u = u ∙ rw gathered-is (with-twice clients d (fit-clients clients d k r) gathered-in gathered-long idle length-idle)
+    idle-again : (clients₂ : List ℕ) → clients₂ ≡ withClient narrow clients₁ d (idle narrow) → clients₂ ≡ withClient narrow clients d (idle narrow)
+    idle-again clients₂ u = u ∙ rw gathered-is (with-twice clients d (fit-clients clients d k r) gathered-in gathered-long (idle narrow) length-idle)
 
     -- ---- the step's ends
     module _ (h : made clients d ≡ looks clients d k + 1) (tray clients₂ : List ℕ) where
       table-at : (ns a : List ℕ)
-          → readResult (mem s ns a clients) tray d (queryAt k (clientIn clients d)) (made clients d) ≡ tableResult (mem s ns a clients) tray d (listFor s clients d k)
-      unfolding columns
+          → readResult (mem s ns a clients) tray d (queryAt (shapeOf k) (clientIn narrow clients d)) (made clients d) ≡ tableResult (mem s ns a clients) tray d (listFor s clients d k)
       table-at ns a =
-          table-is (mem s ns a clients) tray d (queryAt k (clientIn clients d)) (made clients d) h
-          ∙ ap (λ (x : ℕ). tableResult (mem s ns a clients) tray d (listOf (queryAt k (clientIn clients d)) (recordsIn x s))) (sym (r .columns))
+          table-is (mem s ns a clients) tray d (queryAt (shapeOf k) (clientIn narrow clients d)) (made clients d) h
+          ∙ ap (λ (x : ℕ). tableResult (mem s ns a clients) tray d (listOf (queryAt (shapeOf k) (clientIn narrow clients d)) (recordsIn x s))) (sym (r .columns))
 
-      pub table-long : 32 < n → clients₂ ≡ withClient clients₁ d idle → (ns a : List ℕ)
-          → resultWith Long (mem s ns a clients₂) tray ≡ readResult (mem s ns a clients) tray d (queryAt k (clientIn clients d)) (made clients d)
+      pub table-long : 32 < n → clients₂ ≡ withClient narrow clients₁ d (idle narrow) → (ns a : List ℕ)
+          → resultWith Long (mem s ns a clients₂) tray ≡ readResult (mem s ns a clients) tray d (queryAt (shapeOf k) (clientIn narrow clients d)) (made clients d)
       unfolding tableResult nowAt
       table-long o u ns a = rw (table-at ns a, lt-ltb 32 (length (listFor s clients d k)) (over (listFor s clients d k) n e o), idle-again clients₂ u)
 
@@ -159,17 +159,17 @@ module _ (s clients : List ℕ) (d k : ℕ) (r : Reads clients d k) (f : table.F
         not-long : ltb 32 (length (listFor s clients d k)) ≡ false
         not-long = let l = many in le-ltb 32 (length (listFor s clients d k)) (omega arith)
 
-        pub table-held : (b : Bool) → b ≡ sawPending (clientIn clients₁ d) → not b ≡ true → clients₂ ≡ withClient clients₁ d (listSet n k (clientIn clients₁ d)) → (ns a : List ℕ)
-            → resultWith Accepted (mem s ns a clients₂) tray ≡ readResult (mem s ns a clients) tray d (queryAt k (clientIn clients d)) (made clients d)
+        pub table-held : (b : Bool) → b ≡ sawPending (clientIn narrow clients₁ d) → not b ≡ true → clients₂ ≡ withClient narrow clients₁ d (listSet n k (clientIn narrow clients₁ d)) → (ns a : List ℕ)
+            → resultWith Accepted (mem s ns a clients₂) tray ≡ readResult (mem s ns a clients) tray d (queryAt (shapeOf k) (clientIn narrow clients d)) (made clients d)
         unfolding tableResult nowAt client
         table-held true q p u ns a = absurd (let z : _≡_ {A = ℕ} 0 1 = cc in omega arith)
         table-held false q p u ns a =
-            let w : clients₂ ≡ withClient clients d (holding (listFor s clients d k) (clientIn clients d)) = u ∙ list-written clients d (fit-clients clients d k r) clients₁ n k (listFor s clients d k) whole many long-flat room in
-            rw (table-at ns a, not-long, ← pending-kept, ← q, w)
+            let w : clients₂ ≡ withClient narrow clients d (holding narrow (shapeOf k) (listFor s clients d k) (clientIn narrow clients d)) = u ∙ list-written clients d (fit-clients clients d k r) clients₁ n k (listFor s clients d k) whole many long-flat room in
+            rw (table-at ns a, not-long, ← pending-kept, ← q, w, r .columns)
 
-        pub table-given : (b : Bool) (tray′ : List ℕ) → b ≡ sawPending (clientIn clients₁ d) → not b ≡ false
-            → tray′ ≡ written tray 0 (take (8 + d * 157 + 29 + n * k - (8 + d * 157 + 29)) (drop (8 + d * 157 + 29) clients₁)) → clients₂ ≡ withClient clients₁ d idle → (ns a : List ℕ)
-            → resultWith (Answered n false) (mem s ns a clients₂) tray′ ≡ readResult (mem s ns a clients) tray d (queryAt k (clientIn clients d)) (made clients d)
+        pub table-given : (b : Bool) (tray′ : List ℕ) → b ≡ sawPending (clientIn narrow clients₁ d) → not b ≡ false
+            → tray′ ≡ written tray 0 (take (8 + d * 157 + 29 + n * k - (8 + d * 157 + 29)) (drop (8 + d * 157 + 29) clients₁)) → clients₂ ≡ withClient narrow clients₁ d (idle narrow) → (ns a : List ℕ)
+            → resultWith (Answered n false) (mem s ns a clients₂) tray′ ≡ readResult (mem s ns a clients) tray d (queryAt (shapeOf k) (clientIn narrow clients d)) (made clients d)
         unfolding tableResult answered nowAt client
         table-given false tray′ q p v u ns a = absurd (let z : _≡_ {A = ℕ} 0 1 = cc in omega arith)
         table-given true tray′ q p v u ns a =

@@ -15,6 +15,7 @@ use Rattle.rules.specs.Client.{queryAt, noted}
 use Rattle.rules.specs.Memory.{mem, clientIn, withClient, storeIn, withStore}
 use Rattle.rules.specs.Outcome.{resultWith}
 use Rattle.rules.specs.Refusals.{client}
+use Rattle.query.specs.Shape.{narrow, shapeOf}
 use Rattle.rules.specs.Steps.{nowAt, storeBack, lookResult, readResult}
 use Rattle.nodes.specs.declared.Sight.{Sight}
 use Rattle.nodes.specs.declared.Sight.the-variants.{Seen, Stuck}
@@ -23,7 +24,7 @@ use Rattle.reading.specs.ReadContracts.{Reads, looks, made}
 use Rattle.reading.proofs.ReadClient.{read-columns, look-is}
 
 look-given : (t a y ns ns′ clients clients′ : List ℕ) (d j revised open′ : ℕ) (p : Words) (o : Option Store) → saw (Seen revised open′) ns′ ≡ looked p ns o
-    → clients′ ≡ withClient clients d (noted j revised open′ (clientIn clients d)) → resultWith Accepted (mem t ns′ a clients′) y ≡ lookResult (mem t ns a clients) y d j p o
+    → clients′ ≡ withClient narrow clients d (noted narrow j revised open′ (clientIn narrow clients d)) → resultWith Accepted (mem t ns′ a clients′) y ≡ lookResult (mem t ns a clients) y d j p o
 unfolding lookResult looked nowAt storeBack client
 look-given t a y ns ns′ clients clients′ d j revised open′ p none e g =
     let x : Seen revised open′ ≡ Stuck = ap (λ (l : Looked). l .sight) e in
@@ -47,23 +48,23 @@ look-not t a y ns ns′ clients d j p (some s) e =
 
 -- cols, look, p: the query's columns, the number of the look and the label, as the code has them
 module _ (clients : List ℕ) (d k : ℕ) (r : Reads clients d k) (h : made clients d < looks clients d k) (cols : List Column) (look : ℕ)
-    (e : cols ≡ four (queryAt k (clientIn clients d))) (l : look ≡ made clients d) where
+    (e : cols ≡ four (queryAt (shapeOf k) (clientIn narrow clients d))) (l : look ≡ made clients d) where
   pub look-below : look < readCount (take k cols)
   look-below = rw (l, read-columns clients d k r cols e) h
 
   module _ (ns : List ℕ) (p : Words) (f : p ≡ labelWords (readNode (take k cols) look)) (sight : Sight) (ns′ : List ℕ)
       (g : saw sight ns′ ≡ looked p ns (ensured p (storeIn ns))) where
-    label-is : p ≡ labelWords (readNode (queryAt k (clientIn clients d)) (made clients d))
+    label-is : p ≡ labelWords (readNode (queryAt (shapeOf k) (clientIn narrow clients d)) (made clients d))
     label-is = f ∙ rw (read-columns clients d k r cols e, l)
 
     pub look-stuck : sight ≡ Stuck → (t a y : List ℕ)
-        → resultWith (Refused 3) (mem t ns′ a clients) y ≡ readResult (mem t ns a clients) y d (queryAt k (clientIn clients d)) (made clients d)
+        → resultWith (Refused 3) (mem t ns′ a clients) y ≡ readResult (mem t ns a clients) y d (queryAt (shapeOf k) (clientIn narrow clients d)) (made clients d)
     look-stuck x t a y =
-        rw (look-is (mem t ns a clients) y d (queryAt k (clientIn clients d)) (made clients d) h, ← label-is)
+        rw (look-is (mem t ns a clients) y d (queryAt (shapeOf k) (clientIn narrow clients d)) (made clients d) h, ← label-is)
         (look-not t a y ns ns′ clients d (made clients d) p (ensured p (storeIn ns)) (ap (λ (s : Sight). saw s ns′) (sym x) ∙ g))
 
-    pub look-noted : (revised open′ : ℕ) → sight ≡ Seen revised open′ → (clients′ : List ℕ) → clients′ ≡ withClient clients d (noted look revised open′ (clientIn clients d)) → (t a y : List ℕ)
-        → resultWith Accepted (mem t ns′ a clients′) y ≡ readResult (mem t ns a clients) y d (queryAt k (clientIn clients d)) (made clients d)
+    pub look-noted : (revised open′ : ℕ) → sight ≡ Seen revised open′ → (clients′ : List ℕ) → clients′ ≡ withClient narrow clients d (noted narrow look revised open′ (clientIn narrow clients d)) → (t a y : List ℕ)
+        → resultWith Accepted (mem t ns′ a clients′) y ≡ readResult (mem t ns a clients) y d (queryAt (shapeOf k) (clientIn narrow clients d)) (made clients d)
     look-noted revised open′ x clients′ u t a y =
-        rw (look-is (mem t ns a clients) y d (queryAt k (clientIn clients d)) (made clients d) h, ← label-is)
+        rw (look-is (mem t ns a clients) y d (queryAt (shapeOf k) (clientIn narrow clients d)) (made clients d) h, ← label-is)
         (look-given t a y ns ns′ clients clients′ d (made clients d) revised open′ p (ensured p (storeIn ns)) (ap (λ (s : Sight). saw s ns′) (sym x) ∙ g) (u ∙ rw l))

@@ -4,17 +4,19 @@ use mathlib.Core.Path.{_≡_, refl}
 use mathlib.Core.List.{List}
 use Prim.Native.Nat.{ℕ}
 use borrow.Author.Tests.{eq-eqb}
-use Rattle.rules.specs.Client.{kind, steps, reads, queryAt}
-use Rattle.rules.specs.Memory.{Mem, columnsAt}
+use Rattle.rules.specs.Client.{kind, steps, queryAt}
+use Rattle.rules.specs.Layout.{reads}
+use Rattle.rules.specs.Memory.{Mem}
 use Rattle.rules.specs.Refusals.{columns, client, stepCode}
 use Rattle.rules.specs.Steps.{readResult, progress}
 use Rattle.rules.specs.Calls.{stepResult}
+use Rattle.rules.specs.Refusals.{shape}
 use Rattle.rules.proofs.PassedChecks.{step-passed}
 use Rattle.reading.specs.ReadContracts.{Steps}
 
 module _ (m : Mem) (tray : List ℕ) (d : ℕ) (e : stepCode m tray d ≡ 0) (x : kind (client m d) ≡ reads) where
-  pub reads-on : Steps (m .table) (m .nodes) (m .answers) (m .clients) tray d (columnsAt (m .clients))
-  unfolding columns client
+  pub reads-on : Steps (m .table) (m .nodes) (m .answers) (m .clients) tray d (columns m)
+  unfolding client
   reads-on =
       let t = step-passed m tray d e in
       let b = t .1 in
@@ -28,6 +30,6 @@ module _ (m : Mem) (tray : List ℕ) (d : ℕ) (e : stepCode m tray d ≡ 0) (x 
         room = t .0;
       }
 
-  pub read-due : stepResult m tray d ≡ readResult m tray d (queryAt (columns m) (client m d)) (steps (client m d))
+  pub read-due : stepResult m tray d ≡ readResult m tray d (queryAt (shape m) (client m d)) (steps (client m d))
   unfolding stepResult progress
   read-due = rw (eq-eqb (stepCode m tray d) 0 e, eq-eqb (kind (client m d)) reads x)

@@ -14,9 +14,11 @@ use Rattle.query.proofs.NodeLists.{read-count-most}
 use Rattle.rules.specs.Table.{listOf}
 use Rattle.rules.specs.Nodes.{ensured}
 use Rattle.rules.specs.Answers.{lengthIn, fetchPlace}
-use Rattle.rules.specs.Client.{kind, reads, entryOf, queryAt, stepsInAll}
+use Rattle.rules.specs.Client.{kind, entryOf, queryAt, stepsInAll}
+use Rattle.rules.specs.Layout.{reads}
 use Rattle.rules.specs.Memory.{Mem, clientIn, storeIn, answersIn, recordsIn}
 use Rattle.rules.specs.Refusals.{columns, client}
+use Rattle.query.specs.Shape.{narrow, shapeOf}
 use Rattle.rules.specs.Steps.{lookResult, fetchResult, tableResult, fileResult, readResult}
 use Rattle.clients.specs.ClientContracts as client-contracts
 use Rattle.clients.proofs.ClientMemory.{length-client, part-at}
@@ -28,38 +30,38 @@ module _ (clients : List ℕ) (d k : ℕ) (r : Reads clients d k) where
   pub fit-clients : client-contracts.Fit clients d
   fit-clients = record { long = r .long; below = r .below }
 
-  pub sound-read : Sound k (clientIn clients d)
-  sound-read = sound-client k (clientIn clients d) (r .most) (r .sound) (r .busy)
+  pub sound-read : Sound k (clientIn narrow clients d)
+  sound-read = sound-client k (clientIn narrow clients d) (r .most) (r .sound) (r .busy)
 
   pub few-looks : looks clients d k ≤ 16
-  few-looks = let l = length-query k (clientIn clients d) in let m = r .most in read-count-most (queryAt k (clientIn clients d)) (omega arith)
+  few-looks = let l = length-query k (clientIn narrow clients d) in let m = r .most in read-count-most (queryAt (shapeOf k) (clientIn narrow clients d)) (omega arith)
 
   pub few-steps : made clients d < looks clients d k + 3
   few-steps =
-      let e : stepsInAll (kind (clientIn clients d)) (queryAt k (clientIn clients d)) ≡ looks clients d k + 3 = (unfold stepsInAll in rw (eq-eqb (kind (clientIn clients d)) reads (r .kind))) in
+      let e : stepsInAll (kind (clientIn narrow clients d)) (queryAt (shapeOf k) (clientIn narrow clients d)) ≡ looks clients d k + 3 = (unfold stepsInAll in rw (eq-eqb (kind (clientIn narrow clients d)) reads (r .kind))) in
       let s = sound-read .step in
       omega arith
 
   pub made-small : made clients d < 33
   made-small = let s = sound-read .step in let l = sound-read .last in omega arith
 
-  pub short-list : lengthIn (entryOf (clientIn clients d)) ≤ 32
+  pub short-list : lengthIn (entryOf (clientIn narrow clients d)) ≤ 32
   short-list = sound-read .list
 
-  pub read-columns : (cols : List Column) → cols ≡ four (queryAt k (clientIn clients d)) → take k cols ≡ queryAt k (clientIn clients d)
-  read-columns cols e = columns-back k (clientIn clients d) cols e
+  pub read-columns : (cols : List Column) → cols ≡ four (queryAt (shapeOf k) (clientIn narrow clients d)) → take k cols ≡ queryAt (shapeOf k) (clientIn narrow clients d)
+  read-columns cols e = columns-back k (clientIn narrow clients d) cols e
 
   -- the count as the code reckons it
-  pub looks-are : (cols : List Column) (n r′ : ℕ) → cols ≡ four (queryAt k (clientIn clients d)) → n ≡ named (take k cols) → r′ ≡ 2 ^ n → r′ ≡ looks clients d k
+  pub looks-are : (cols : List Column) (n r′ : ℕ) → cols ≡ four (queryAt (shapeOf k) (clientIn narrow clients d)) → n ≡ named (take k cols) → r′ ≡ 2 ^ n → r′ ≡ looks clients d k
   unfolding readCount
   looks-are cols n r′ e f g = g ∙ rw (f, read-columns cols e)
 
 -- the client's own entry, as a part of the memory
-pub entry-part : (s : List ℕ) (d : ℕ) → client-contracts.Fit s d → take (8 + d * 157 + 5 + 152 - (8 + d * 157 + 5)) (drop (8 + d * 157 + 5) s) ≡ entryOf (clientIn s d)
+pub entry-part : (s : List ℕ) (d : ℕ) → client-contracts.Fit s d → take (8 + d * 157 + 5 + 152 - (8 + d * 157 + 5)) (drop (8 + d * 157 + 5) s) ≡ entryOf (clientIn narrow s d)
 unfolding entryOf
 entry-part s d f =
     let m : 8 + d * 157 + 5 + 152 - (8 + d * 157 + 5) ≡ 152 = omega arith in
-    rw m (sym (part-at s d 5 152 (omega arith)) ∙ take-all 152 (drop 5 (clientIn s d)) (rw (length-drop, length-client s d f) (omega arith)))
+    rw m (sym (part-at s d 5 152 (omega arith)) ∙ take-all 152 (drop 5 (clientIn narrow s d)) (rw (length-drop, length-client s d f) (omega arith)))
 
 -- ---- which step it is
 module _ (m : Mem) (y : List ℕ) (d : ℕ) (q : Query) (i : ℕ) where
@@ -67,7 +69,7 @@ module _ (m : Mem) (y : List ℕ) (d : ℕ) (q : Query) (i : ℕ) where
   unfolding readResult
   look-is h = rw (lt-ltb i (readCount q) h)
 
-  pub fetch-is : i ≡ readCount q → readResult m y d q i ≡ fetchResult m y d (fetchPlace (readCount q) (entryOf (client m d)) (answersIn (m .answers)))
+  pub fetch-is : i ≡ readCount q → readResult m y d q i ≡ fetchResult m y d (fetchPlace narrow (readCount q) (entryOf (client m d)) (answersIn narrow (m .answers)))
   unfolding readResult
   fetch-is h = rw (le-ltb i (readCount q) (omega arith), eq-eqb i (readCount q) h)
 

@@ -7,8 +7,10 @@ use Prim.Native.Nat.{ℕ, _+_, _≤_, _<_}
 use lib.ListN.{length, getD}
 use Rattle.query.specs.Query.{readCount}
 use Rattle.rules.specs.Answers.{fetchPlace, someLong}
-use Rattle.rules.specs.Client.{Client, kind, steps, sawPending, entryOf, isIdle, isBad, queryAt, reads}
-use Rattle.rules.specs.Memory.{columnsAt, clientIn, answersIn}
+use Rattle.rules.specs.Client.{Client, kind, steps, sawPending, entryOf, isIdle, isBad, queryAt}
+use Rattle.rules.specs.Layout.{reads}
+use Rattle.query.specs.Shape.{narrow, shapeOf}
+use Rattle.rules.specs.Memory.{shapeIn, clientIn, answersIn}
 use Rattle.nodes.specs.NodeContracts as nodes
 use Rattle.answers.specs.AnswerContracts as answers
 use Rattle.clients.specs.ClientContracts as client-contracts
@@ -16,21 +18,21 @@ use Rattle.table.specs.TableContracts as table
 
 -- a read of k columns is under way at client d
 pub record Reads (clients : List ℕ) (d k : ℕ) : Type 0 where
-  pub columns : k ≡ columnsAt clients
+  pub columns : k ≡ shapeIn clients .columns
   pub least : 1 ≤ k
   pub most : k ≤ 4
   pub below : d < 12
   pub long : 2000 ≤ length clients
-  pub sound : isBad k (clientIn clients d) ≡ false
-  pub busy : isIdle (clientIn clients d) ≡ false
-  pub kind : kind (clientIn clients d) ≡ reads
+  pub sound : isBad narrow (shapeOf k) (clientIn narrow clients d) ≡ false
+  pub busy : isIdle narrow (clientIn narrow clients d) ≡ false
+  pub kind : kind (clientIn narrow clients d) ≡ reads
 
 -- how many nodes the read has, and how many steps it has made
 abbrev pub looks : List ℕ → ℕ → ℕ → ℕ
-looks clients d k = readCount (queryAt k (clientIn clients d))
+looks clients d k = readCount (queryAt (shapeOf k) (clientIn narrow clients d))
 
 abbrev pub made : List ℕ → ℕ → ℕ
-made clients d = steps (clientIn clients d)
+made clients d = steps (clientIn narrow clients d)
 
 -- ---- each step
 pub record Looks (ns clients : List ℕ) (d k : ℕ) : Type 0 where
@@ -45,12 +47,12 @@ pub record Finds (filed clients : List ℕ) (d : ℕ) : Type 0 where
   pub few : made clients d ≤ 16
 
 unfoldable pub foundFor : List ℕ → Client → ℕ
-foundFor s c = cond (sawPending c) (getD s 0 0) (fetchPlace (steps c) (entryOf c) (answersIn s))
+foundFor s c = cond (sawPending c) (getD s 0 0) (fetchPlace narrow (steps c) (entryOf c) (answersIn narrow s))
 
 pub record Fetches (filed clients tray : List ℕ) (d k : ℕ) : Type 0 where
   pub read : Reads clients d k
   pub fit : answers.Fit filed
-  pub short : someLong (answersIn filed) ≡ false
+  pub short : someLong (answersIn narrow filed) ≡ false
   pub room : 128 ≤ length tray
   pub step : made clients d ≡ looks clients d k
 
@@ -76,5 +78,5 @@ pub record Steps (records ns filed clients tray : List ℕ) (d k : ℕ) : Type 0
   pub listed : table.Fit k records
   pub nodes : nodes.Fit ns
   pub fit : answers.Fit filed
-  pub short : someLong (answersIn filed) ≡ false
+  pub short : someLong (answersIn narrow filed) ≡ false
   pub room : 128 ≤ length tray

@@ -10,6 +10,7 @@ ghost use Rattle.rules.specs.Table.{listOf};
 ghost use Rattle.rules.specs.Client.{queryAt};
 ghost use Rattle.rules.specs.Memory.{mem, clientIn, recordsIn};
 ghost use Rattle.rules.specs.Outcome.{resultWith};
+ghost use Rattle.query.specs.Shape.{narrow, shapeOf};
 ghost use Rattle.rules.specs.Steps.{readResult};
 ghost use Rattle.table.specs.TableContracts.{gathered};
 ghost use Rattle.reading.specs.ReadContracts.{Reads, looks, made, Looks, Finds, foundFor, Fetches, Gathers, Lists, Files, Steps};
@@ -22,7 +23,7 @@ const LIST: usize = Hall::LIST as usize;
 // A look: the next node's revision is noted, and whether writes are pending there.
 pub fn look_step(nodes: &mut [u32], clients: &mut [u32], d: usize, k: usize) -> Outcome
     requires { ⌜ Looks (now nodes) (now clients) d k ⌝ }
-    ensures { λ r. ⌜ ((t a y : List ℕ) → resultWith r (mem t (now (nodes .exit)) a (now (clients .exit))) y ≡ readResult (mem t (now (nodes .entry)) a (now (clients .entry))) y d (queryAt k (clientIn (now (clients .entry)) d)) (made (now (clients .entry)) d)) ⌝ }
+    ensures { λ r. ⌜ ((t a y : List ℕ) → resultWith r (mem t (now (nodes .exit)) a (now (clients .exit))) y ≡ readResult (mem t (now (nodes .entry)) a (now (clients .entry))) y d (queryAt (shapeOf k) (clientIn narrow (now (clients .entry)) d)) (made (now (clients .entry)) d)) ⌝ }
 {
     let cols = clients::columns_at(clients, d, k);
     let look = clients::steps_of(clients, d) as usize;
@@ -38,7 +39,7 @@ pub fn look_step(nodes: &mut [u32], clients: &mut [u32], d: usize, k: usize) -> 
 // The place of the filed answer to answer with, or their count where there is none. Where a look saw a mark none may serve, and no search is made.
 fn find_filed(answers: &[u32], clients: &[u32], d: usize) -> usize
     requires { ⌜ Finds (now answers) (now clients) d ⌝ }
-    ensures { λ r. ⌜ r ≡ foundFor (now (answers .entry)) (clientIn (now (clients .entry)) d) ⌝ }
+    ensures { λ r. ⌜ r ≡ foundFor (now (answers .entry)) (clientIn narrow (now (clients .entry)) d) ⌝ }
 {
     if clients::saw_pending(clients, d) {
         return answers[0] as usize;
@@ -59,7 +60,7 @@ pub fn fetch_step(
     k: usize,
 ) -> Outcome
     requires { ⌜ Fetches (now answers) (now clients) (now tray) d k ⌝ }
-    ensures { λ r. ⌜ ((t n : List ℕ) → resultWith r (mem t n (now (answers .entry)) (now (clients .exit))) (now (tray .exit)) ≡ readResult (mem t n (now (answers .entry)) (now (clients .entry))) (now (tray .entry)) d (queryAt k (clientIn (now (clients .entry)) d)) (made (now (clients .entry)) d)) ⌝ }
+    ensures { λ r. ⌜ ((t n : List ℕ) → resultWith r (mem t n (now (answers .entry)) (now (clients .exit))) (now (tray .exit)) ≡ readResult (mem t n (now (answers .entry)) (now (clients .entry))) (now (tray .entry)) d (queryAt (shapeOf k) (clientIn narrow (now (clients .entry)) d)) (made (now (clients .entry)) d)) ⌝ }
 {
     let i = find_filed(answers, clients, d);
     if answers[0] as usize <= i {
@@ -77,8 +78,8 @@ pub fn fetch_step(
 // Writes the query's list, at most 32 records, into the client's place for it, and says how many there are, or 33 of more than 32.
 fn gather_list(table: &[u32], clients: &mut [u32], d: usize, k: usize) -> usize
     requires { ⌜ Gathers (now table) (now clients) d k ⌝ }
-    ensures { λ r. ⌜ r ≡ gathered (listOf (queryAt k (clientIn (now (clients .entry)) d)) (recordsIn k (now (table .entry)))) ⌝ }
-    ensures { λ _. ⌜ now (clients .exit) ≡ written (now (clients .entry)) (8 + d * 157 + 29) (flat (take 32 (listOf (queryAt k (clientIn (now (clients .entry)) d)) (recordsIn k (now (table .entry)))))) ⌝ }
+    ensures { λ r. ⌜ r ≡ gathered (listOf (queryAt (shapeOf k) (clientIn narrow (now (clients .entry)) d)) (recordsIn k (now (table .entry)))) ⌝ }
+    ensures { λ _. ⌜ now (clients .exit) ≡ written (now (clients .entry)) (8 + d * 157 + 29) (flat (take 32 (listOf (queryAt (shapeOf k) (clientIn narrow (now (clients .entry)) d)) (recordsIn k (now (table .entry)))))) ⌝ }
 {
     let cols = clients::columns_at(clients, d, k);
     let at = 8 + d * 157 + 29;
@@ -95,7 +96,7 @@ pub fn table_step(
     k: usize,
 ) -> Outcome
     requires { ⌜ Lists (now table) (now clients) (now tray) d k ⌝ }
-    ensures { λ r. ⌜ ((n a : List ℕ) → resultWith r (mem (now (table .entry)) n a (now (clients .exit))) (now (tray .exit)) ≡ readResult (mem (now (table .entry)) n a (now (clients .entry))) (now (tray .entry)) d (queryAt k (clientIn (now (clients .entry)) d)) (made (now (clients .entry)) d)) ⌝ }
+    ensures { λ r. ⌜ ((n a : List ℕ) → resultWith r (mem (now (table .entry)) n a (now (clients .exit))) (now (tray .exit)) ≡ readResult (mem (now (table .entry)) n a (now (clients .entry))) (now (tray .entry)) d (queryAt (shapeOf k) (clientIn narrow (now (clients .entry)) d)) (made (now (clients .entry)) d)) ⌝ }
 {
     let n = gather_list(table, clients, d, k);
     if LIST < n {
@@ -125,7 +126,7 @@ pub fn file_step(
     k: usize,
 ) -> Outcome
     requires { ⌜ Files (now answers) (now clients) (now tray) d k ⌝ }
-    ensures { λ r. ⌜ ((t n : List ℕ) → resultWith r (mem t n (now (answers .exit)) (now (clients .exit))) (now (tray .exit)) ≡ readResult (mem t n (now (answers .entry)) (now (clients .entry))) (now (tray .entry)) d (queryAt k (clientIn (now (clients .entry)) d)) (made (now (clients .entry)) d)) ⌝ }
+    ensures { λ r. ⌜ ((t n : List ℕ) → resultWith r (mem t n (now (answers .exit)) (now (clients .exit))) (now (tray .exit)) ≡ readResult (mem t n (now (answers .entry)) (now (clients .entry))) (now (tray .entry)) d (queryAt (shapeOf k) (clientIn narrow (now (clients .entry)) d)) (made (now (clients .entry)) d)) ⌝ }
 {
     let at = 8 + d * 157 + 5;
     let end = at + 152;
@@ -159,7 +160,7 @@ pub fn read_step(
     k: usize,
 ) -> Outcome
     requires { ⌜ Steps (now table) (now nodes) (now answers) (now clients) (now tray) d k ⌝ }
-    ensures { λ r. ⌜ resultWith r (mem (now (table .entry)) (now (nodes .exit)) (now (answers .exit)) (now (clients .exit))) (now (tray .exit)) ≡ readResult (mem (now (table .entry)) (now (nodes .entry)) (now (answers .entry)) (now (clients .entry))) (now (tray .entry)) d (queryAt k (clientIn (now (clients .entry)) d)) (made (now (clients .entry)) d) ⌝ }
+    ensures { λ r. ⌜ resultWith r (mem (now (table .entry)) (now (nodes .exit)) (now (answers .exit)) (now (clients .exit))) (now (tray .exit)) ≡ readResult (mem (now (table .entry)) (now (nodes .entry)) (now (answers .entry)) (now (clients .entry))) (now (tray .entry)) d (queryAt (shapeOf k) (clientIn narrow (now (clients .entry)) d)) (made (now (clients .entry)) d) ⌝ }
 {
     let count = looks_of(clients, d, k);
     let step = clients::steps_of(clients, d) as usize;

@@ -13,7 +13,7 @@ use Rattle.lists.specs.Lists.{same, before, keep}
 use Rattle.laws.proofs.ListLaws.{true-false, same-eq, eq-same, keep-le, and-left}
 use Rattle.laws.proofs.TestLaws.{byTest, or-left, or-right}
 use Rattle.query.specs.Query.{Query, Record, lies}
-use Rattle.rules.specs.Sizes.{maxRecords}
+use Rattle.rules.specs.Layout.{maxRecords}
 use Rattle.rules.specs.Table.{Table, listOf, has, putIn, Write, insert, delete, isFull, outside, effect, noRoom, changes}
 use Rattle.records.proofs.RecordWrites.{length-put, effect-there, effect-full, effect-put, effect-cases, effect-delete}
 

@@ -15,7 +15,7 @@ use Rattle.laws.proofs.SearchLaws.{place-le}
 use Rattle.laws.proofs.RowLaws.{Wide, wide-insert, wide-keep}
 use Rattle.query.specs.declared.Column.the-variants.{Is}
 use Rattle.query.specs.Query.{Query, Record, naming}
-use Rattle.rules.specs.Sizes.{maxRecords}
+use Rattle.rules.specs.Layout.{maxRecords}
 use Rattle.rules.specs.Table.{Table, has, putIn, Write, insert, delete, target, outside, effect}
 
 -- ---- a record put in

@@ -16,7 +16,8 @@ use Rattle.laws.proofs.ListLaws.{same-eq, same-refl, length-without}
 use Rattle.laws.proofs.RowLaws.{Wide, wide-without, wide-snoc}
 use Rattle.query.specs.Query.{readCount}
 use Rattle.query.specs.Encoding.{queryIn, isKey, keyWords}
-use Rattle.rules.specs.Sizes.{maxAnswers}
+use Rattle.query.specs.Shape.{Shape, narrow}
+use Rattle.rules.specs.Layout.{maxAnswers}
 use Rattle.rules.specs.Answers.{Entry, keyIn, revisionIn, hasKeyOf, atLeast, serves, keyPlace, filed}
 use Rattle.machine.proofs.Sums.{In, here, there, in-append}
 use Rattle.machine.proofs.Keys.{Key, sameKey, sameKey-eq, sameKey-refl, readLabels, length-readLabels}
@@ -57,26 +58,26 @@ map-in f (here e) = here (ap f e)
 map-in f (there i) = there (map-in f i)
 
 -- ---- Keys
-key-decoded : (k : ℕ) (key : List ℕ) → isKey k key ≡ true → key ≡ keyWords (queryIn k key)
+key-decoded : (sh : Shape) (key : List ℕ) → isKey sh key ≡ true → key ≡ keyWords (queryIn sh key)
 unfolding isKey
-key-decoded k key e = same-eq key (keyWords (queryIn k key)) e
+key-decoded sh key e = same-eq key (keyWords (queryIn sh key)) e
 
-asked-eq : (k : ℕ) (e x : Entry) → keyOf k e ≡ keyOf k x → queryIn k (keyIn e) ≡ queryIn k (keyIn x)
+asked-eq : (sh : Shape) (e x : Entry) → keyOf sh e ≡ keyOf sh x → queryIn sh (keyIn e) ≡ queryIn sh (keyIn x)
 unfolding keyOf
-asked-eq k e x h = ap (λ (q : Key). q .asked) h
+asked-eq sh e x h = ap (λ (q : Key). q .asked) h
 
 -- two keys are the same exactly if the queries are
-same-key : (k : ℕ) (e x : Entry) → isKey k (keyIn e) ≡ true → isKey k (keyIn x) ≡ true → sameKey (keyOf k e) (keyOf k x) ≡ same (keyIn e) (keyIn x)
+same-key : (sh : Shape) (e x : Entry) → isKey sh (keyIn e) ≡ true → isKey sh (keyIn x) ≡ true → sameKey (keyOf sh e) (keyOf sh x) ≡ same (keyIn e) (keyIn x)
 unfolding keyOf
-same-key k e x h g =
+same-key sh e x h g =
     byTest (same (keyIn e) (keyIn x))
-    (λ t. rw (t, same-eq (keyIn e) (keyIn x) t) (sameKey-refl (keyOf k x)))
-    (λ t. rw t (byTest (sameKey (keyOf k e) (keyOf k x)) (λ u. absurd (apart t u)) (λ u. u)))
+    (λ t. rw (t, same-eq (keyIn e) (keyIn x) t) (sameKey-refl (keyOf sh x)))
+    (λ t. rw t (byTest (sameKey (keyOf sh e) (keyOf sh x)) (λ u. absurd (apart t u)) (λ u. u)))
   where
-    apart : same (keyIn e) (keyIn x) ≡ false → sameKey (keyOf k e) (keyOf k x) ≡ true → ⊥
+    apart : same (keyIn e) (keyIn x) ≡ false → sameKey (keyOf sh e) (keyOf sh x) ≡ true → ⊥
     apart t u =
-        let q : queryIn k (keyIn e) ≡ queryIn k (keyIn x) = asked-eq k e x (sameKey-eq (keyOf k e) (keyOf k x) u) in
-        let z : keyIn e ≡ keyIn x = key-decoded k (keyIn e) h ∙ ap keyWords q ∙ sym (key-decoded k (keyIn x) g) in
+        let q : queryIn sh (keyIn e) ≡ queryIn sh (keyIn x) = asked-eq sh e x (sameKey-eq (keyOf sh e) (keyOf sh x) u) in
+        let z : keyIn e ≡ keyIn x = key-decoded sh (keyIn e) h ∙ ap keyWords q ∙ sym (key-decoded sh (keyIn x) g) in
         clash (rw z (same-refl (keyIn x))) t
 
 -- ---- Fetch
@@ -85,30 +86,30 @@ unfolding allBelow
 below-cong zero f g h = refl
 below-cong (suc n) f g h = rw (h n (omega arith), below-cong n f g (λ j l. h j (omega arith)))
 
-revision-at : (n : ℕ) (e : Entry) (j : ℕ) → j < n → getD (revisionsIn n e) j 0 ≡ revisionIn e j
+revision-at : (n : ℕ) (e : Entry) (j : ℕ) → j < n → getD (revisionsIn n e) j 0 ≡ revisionIn narrow e j
 unfolding revisionsIn revisionIn
 revision-at n e j h = getD-take n (drop 8 e) j 0 h ∙ getD-drop 8 e j 0
 
-at-least : (n : ℕ) (x e : Entry) (j : ℕ) → j < n → leb (getD (revisionsIn n x) j 0) (getD (revisionsIn n e) j 0) ≡ atLeast x e j
+at-least : (n : ℕ) (x e : Entry) (j : ℕ) → j < n → leb (getD (revisionsIn n x) j 0) (getD (revisionsIn n e) j 0) ≡ atLeast narrow x e j
 unfolding atLeast
 at-least n x e j h = rw (revision-at n x j h, revision-at n e j h)
 
-pub length-looks : (k : ℕ) (x : Entry) → length (readLabels (keyOf k x)) ≡ looksOf k x
+pub length-looks : (sh : Shape) (x : Entry) → length (readLabels (keyOf sh x)) ≡ looksOf sh x
 unfolding keyOf looksOf
-length-looks k x = length-readLabels (keyOf k x)
+length-looks sh x = length-readLabels (keyOf sh x)
 
-looks-same : (k : ℕ) (e x : Entry) → keyIn e ≡ keyIn x → looksOf k e ≡ looksOf k x
+looks-same : (sh : Shape) (e x : Entry) → keyIn e ≡ keyIn x → looksOf sh e ≡ looksOf sh x
 unfolding looksOf
-looks-same k e x h = ap (λ (t : List ℕ). readCount (queryIn k t)) h
+looks-same sh e x h = ap (λ (t : List ℕ). readCount (queryIn sh t)) h
 
-pub serves-holds : (k : ℕ) (x e : Entry) → isKey k (keyIn e) ≡ true → isKey k (keyIn x) ≡ true
-    → holds-for (keyOf k x) (revisionsIn (looksOf k x) x) (ansOf k e) ≡ serves (looksOf k x) x e
+pub serves-holds : (sh : Shape) (x e : Entry) → isKey sh (keyIn e) ≡ true → isKey sh (keyIn x) ≡ true
+    → holds-for (keyOf sh x) (revisionsIn (looksOf sh x) x) (ansOf sh e) ≡ serves narrow (looksOf sh x) x e
 unfolding holds-for ansOf serves hasKeyOf
-serves-holds k x e h g =
+serves-holds sh x e h g =
     byTest (same (keyIn e) (keyIn x))
-    (λ t. rw (same-key k e x h g, t, length-looks k x, looks-same k e x (same-eq (keyIn e) (keyIn x) t))
-    (below-cong (looksOf k x) _ (atLeast x e) (λ j l. at-least (looksOf k x) x e j l)))
-    (λ t. rw (same-key k e x h g, t))
+    (λ t. rw (same-key sh e x h g, t, length-looks sh x, looks-same sh e x (same-eq (keyIn e) (keyIn x) t))
+    (below-cong (looksOf sh x) _ (atLeast narrow x e) (λ j l. at-least (looksOf sh x) x e j l)))
+    (λ t. rw (same-key sh e x h g, t))
 
 -- ---- File
 -- where a file step makes room
@@ -119,22 +120,22 @@ filed-room : (x : Entry) (es : List Entry) → filed x es ≡ roomFor x es ++ (x
 unfolding filed roomFor
 filed-room x es = refl
 
-module _ (k : ℕ) (x : Entry) (es : List Entry) (g : isKey k (keyIn x) ≡ true) (h : (e : Entry) → In e es → isKey k (keyIn e) ≡ true) where
-  key-place : place (has-key (keyOf k x)) (map (ansOf k) es) ≡ keyPlace x es
+module _ (sh : Shape) (x : Entry) (es : List Entry) (g : isKey sh (keyIn x) ≡ true) (h : (e : Entry) → In e es → isKey sh (keyIn e) ≡ true) where
+  key-place : place (has-key (keyOf sh x)) (map (ansOf sh) es) ≡ keyPlace x es
   unfolding keyPlace has-key hasKeyOf ansOf
-  key-place = place-map (ansOf k) _ _ es (λ e i. same-key k e x (h e i) g)
+  key-place = place-map (ansOf sh) _ _ es (λ e i. same-key sh e x (h e i) g)
 
-  map-room : map (ansOf k) (roomFor x es) ≡ room (keyOf k x) (map (ansOf k) es)
+  map-room : map (ansOf sh) (roomFor x es) ≡ room (keyOf sh x) (map (ansOf sh) es)
   unfolding roomFor room cut
   map-room =
-      rw (key-place, length-map es (ansOf k)) (
+      rw (key-place, length-map es (ansOf sh)) (
       byTest (ltb (keyPlace x es) (length es))
-      (λ t. rw t (map-without (ansOf k) (keyPlace x es) es))
-      (λ t. rw t (byTest (ltb (length es) maxAnswers) (λ u. rw u) (λ u. rw u (map-without (ansOf k) 0 es)))))
+      (λ t. rw t (map-without (ansOf sh) (keyPlace x es) es))
+      (λ t. rw t (byTest (ltb (length es) maxAnswers) (λ u. rw u) (λ u. rw u (map-without (ansOf sh) 0 es)))))
 
-  pub map-filed : map (ansOf k) (filed x es) ≡ filed-in (keyOf k x) (revisionsIn (looksOf k x) x) (valueIn k x) (map (ansOf k) es)
+  pub map-filed : map (ansOf sh) (filed x es) ≡ filed-in (keyOf sh x) (revisionsIn (looksOf sh x) x) (valueIn sh x) (map (ansOf sh) es)
   unfolding filed-in ansOf
-  map-filed = rw (filed-room x es, map-snoc (ansOf k) (roomFor x es) x, map-room)
+  map-filed = rw (filed-room x es, map-snoc (ansOf sh) (roomFor x es) x, map-room)
 
 in-room : (x : Entry) (es : List Entry) (e : Entry) → In e (roomFor x es) → In e es
 unfolding roomFor

@@ -19,6 +19,7 @@ use Rattle.query.specs.Encoding.{keyWords}
 use Rattle.query.proofs.EncodingLaws.{key-words-length}
 use Rattle.rules.specs.Answers.{Entry, keyIn, lengthIn, listIn}
 use Rattle.rules.specs.Client.{Client, kind, steps, sawPending, didChange, foundFull, entryOf, begun, stepped, flag, noted, holding, wrote}
+use Rattle.query.specs.Shape.{Shape, maxColumns, narrow}
 use Rattle.rules.proofs.ClientLaws.{list-room}
 use Rattle.refinement.proofs.Abstraction.{valueIn, revisionsIn}
 
@@ -105,7 +106,7 @@ module _ (c : Client) (w : length c ≡ 157) where
     looked-at : 13 + j ≡ 5 + (8 + j)
     looked-at = omega arith
 
-    pub noted-entry : entryOf (noted j r p c) ≡ set (entryOf c) (8 + j) r
+    pub noted-entry : entryOf (noted narrow j r p c) ≡ set (entryOf c) (8 + j) r
     unfolding noted entryOf stepped
     noted-entry =
         drop-set-lt 5 (set (set c 1 (steps c + 1)) (13 + j) r) 2 (cond (eqb p 0) (getD c 2 0) 1) (omega arith)
@@ -113,7 +114,7 @@ module _ (c : Client) (w : length c ≡ 157) where
         ∙ drop-set-add 5 (set c 1 (steps c + 1)) (8 + j) r
         ∙ ap (λ (e : Entry). set e (8 + j) r) (drop-set-lt 5 c 1 _ (omega arith))
 
-    pub noted-next : Next c (noted j r p c)
+    pub noted-next : Next c (noted narrow j r p c)
     unfolding noted kind steps stepped keyIn
     noted-next =
         let x : ℕ = getD c 1 0 + 1 in
@@ -125,13 +126,13 @@ module _ (c : Client) (w : length c ≡ 157) where
           wide = three-length c 1 x (13 + j) r 2 z ∙ w;
         }
 
-    pub noted-revisions : revisionsIn (suc j) (entryOf (noted j r p c)) ≡ revisionsIn j (entryOf c) ++ (r ∷ [])
+    pub noted-revisions : revisionsIn (suc j) (entryOf (noted narrow j r p c)) ≡ revisionsIn j (entryOf c) ++ (r ∷ [])
     unfolding revisionsIn
     noted-revisions =
         let l : length (drop 8 (entryOf c)) ≡ 144 = length-drop 8 (entryOf c) ∙ (let z = length-entry in omega arith) in
         rw (noted-entry, drop-set-add 8 (entryOf c) j r) (take-suc-set (drop 8 (entryOf c)) j r (omega arith))
 
-    pub noted-length : lengthIn (entryOf (noted j r p c)) ≡ lengthIn (entryOf c)
+    pub noted-length : lengthIn (entryOf (noted narrow j r p c)) ≡ lengthIn (entryOf c)
     unfolding lengthIn
     noted-length = rw noted-entry (getD-set-other (entryOf c) (8 + j) 7 r 0 (λ e. omega arith))
 
@@ -141,7 +142,7 @@ module _ (c : Client) (w : length c ≡ 157) where
         (λ e. let z : p ≡ 0 = eqb-true p 0 e in rw (e, le-ltb 0 p (omega arith)) (sym (or-false (not (eqb x 0)))))
         (λ e. let z : p ≡ 0 → ⊥ = eqb-false p 0 e in rw (e, lt-ltb 0 p (omega arith)) (sym (or-true (not (eqb x 0)))))
 
-    pub noted-saw : sawPending (noted j r p c) ≡ (sawPending c || ltb 0 p)
+    pub noted-saw : sawPending (noted narrow j r p c) ≡ (sawPending c || ltb 0 p)
     unfolding noted sawPending stepped
     noted-saw =
         ap (λ (x : ℕ). not (eqb x 0)) (three-last c 1 (steps c + 1) (13 + j) r 2 (cond (eqb p 0) (getD c 2 0) 1) (omega arith)) ∙ saw-or (getD c 2 0)
@@ -184,22 +185,22 @@ padded-front n x a r h = rw append-assoc (take-at a (replicate (n - length a) 0 
 counted : Client → ℕ → Entry
 counted c n = set (entryOf c) 7 n
 
-module _ (c : Client) (w : length c ≡ 157) (k : ℕ) (l : List Record) (wl : Wide k l) (few : k ≤ 4) (short : length l ≤ 32) where
+module _ (c : Client) (w : length c ≡ 157) (sh : Shape) (l : List Record) (wl : Wide (sh .columns) l) (few : sh .columns ≤ maxColumns) (short : length l ≤ 32) where
   length-list : length (padded 128 (flat l)) ≡ 128
-  length-list = let a = length-flat k l wl in let b = list-room (length l) k short few in length-padded 128 (flat l) (omega arith)
+  length-list = let a = length-flat (sh .columns) l wl in let b = list-room (length l) (sh .columns) short few in length-padded 128 (flat l) (omega arith)
 
   length-counted : length (counted c (length l)) ≡ 152
   unfolding counted
   length-counted = length-set (entryOf c) 7 (length l) ∙ length-entry c w
 
-  holding-entry : entryOf (holding l c) ≡ written (counted c (length l)) 24 (padded 128 (flat l))
+  holding-entry : entryOf (holding narrow sh l c) ≡ written (counted c (length l)) 24 (padded 128 (flat l))
   unfolding holding entryOf stepped counted
   holding-entry =
       drop-written-add 5 24 (set (set c 1 (steps c + 1)) 12 (length l)) (padded 128 (flat l)) (rw (length-set, length-set, w) (omega arith))
       ∙ ap (λ (e : Entry). written e 24 (padded 128 (flat l)))
       (drop-set-add 5 (set c 1 (steps c + 1)) 7 (length l) ∙ ap (λ (e : Entry). set e 7 (length l)) (drop-set-lt 5 c 1 (steps c + 1) (omega arith)))
 
-  holding-front : (i : ℕ) → i < 5 → getD (holding l c) i 0 ≡ getD (stepped c) i 0
+  holding-front : (i : ℕ) → i < 5 → getD (holding narrow sh l c) i 0 ≡ getD (stepped c) i 0
   unfolding holding
   holding-front i h =
       getD-before (set (stepped c) 12 (length l)) 29 (padded 128 (flat l)) (rw (length-set, stepped-next c w .wide) (omega arith)) i 0 (omega arith)
@@ -208,14 +209,14 @@ module _ (c : Client) (w : length c ≡ 157) (k : ℕ) (l : List Record) (wl : W
   long-counted : 24 ≤ length (counted c (length l))
   long-counted = let a = length-counted in omega arith
 
-  holding-key : keyIn (entryOf (holding l c)) ≡ keyIn (entryOf c)
+  holding-key : keyIn (entryOf (holding narrow sh l c)) ≡ keyIn (entryOf c)
   unfolding keyIn counted
   holding-key =
       ap (take 7) holding-entry
       ∙ take-written (counted c (length l)) 24 (padded 128 (flat l)) long-counted 7 (omega arith)
       ∙ take-set-le 7 (entryOf c) 7 (length l) (omega arith)
 
-  holding-wide : length (holding l c) ≡ 157
+  holding-wide : length (holding narrow sh l c) ≡ 157
   unfolding holding
   holding-wide =
       let a = stepped-next c w .wide in
@@ -223,7 +224,7 @@ module _ (c : Client) (w : length c ≡ 157) (k : ℕ) (l : List Record) (wl : W
       let d = length-list in
       length-written (set (stepped c) 12 (length l)) 29 (padded 128 (flat l)) (omega arith) ∙ b ∙ a
 
-  pub holding-next : Next c (holding l c)
+  pub holding-next : Next c (holding narrow sh l c)
   unfolding kind steps
   holding-next = record {
     kinds = holding-front 0 (omega arith) ∙ stepped-next c w .kinds;
@@ -232,7 +233,7 @@ module _ (c : Client) (w : length c ≡ 157) (k : ℕ) (l : List Record) (wl : W
     wide = holding-wide;
   }
 
-  pub holding-revisions : (n : ℕ) → n ≤ 16 → revisionsIn n (entryOf (holding l c)) ≡ revisionsIn n (entryOf c)
+  pub holding-revisions : (n : ℕ) → n ≤ 16 → revisionsIn n (entryOf (holding narrow sh l c)) ≡ revisionsIn n (entryOf c)
   unfolding revisionsIn counted
   holding-revisions n h =
       let e : 8 + n - 8 ≡ n = omega arith in
@@ -246,52 +247,52 @@ module _ (c : Client) (w : length c ≡ 157) (k : ℕ) (l : List Record) (wl : W
       ∙ b
       ∙ ap (take n) (drop-set-lt 8 (entryOf c) 7 (length l) (omega arith))
 
-  pub holding-length : lengthIn (entryOf (holding l c)) ≡ length l
+  pub holding-length : lengthIn (entryOf (holding narrow sh l c)) ≡ length l
   unfolding lengthIn counted
   holding-length =
       ap (λ (x : Entry). getD x 7 0) holding-entry
       ∙ getD-before (counted c (length l)) 24 (padded 128 (flat l)) long-counted 7 0 (omega arith)
       ∙ getD-set-same (entryOf c) 7 (length l) 0 (let z = length-entry c w in omega arith)
 
-  holding-list : listIn k (entryOf (holding l c)) ≡ flat l
+  holding-list : listIn narrow sh (entryOf (holding narrow sh l c)) ≡ flat l
   unfolding listIn
   holding-list =
       rw holding-length (
-      ap (λ (x : Entry). take (length l * k) (drop 24 x)) holding-entry
-      ∙ ap (take (length l * k)) (drop-of-written (counted c (length l)) 24 (padded 128 (flat l)) long-counted)
-      ∙ padded-front 128 (length l * k) (flat l) (drop (24 + length (padded 128 (flat l))) (counted c (length l))) (length-flat k l wl))
+      ap (λ (x : Entry). take (length l * sh .columns) (drop 24 x)) holding-entry
+      ∙ ap (take (length l * sh .columns)) (drop-of-written (counted c (length l)) 24 (padded 128 (flat l)) long-counted)
+      ∙ padded-front 128 (length l * sh .columns) (flat l) (drop (24 + length (padded 128 (flat l))) (counted c (length l))) (length-flat (sh .columns) l wl))
 
-  pub holding-value : valueIn k (entryOf (holding l c)) ≡ record { count = length l; numbers = flat l }
+  pub holding-value : valueIn sh (entryOf (holding narrow sh l c)) ≡ record { count = length l; numbers = flat l }
   unfolding valueIn
   holding-value = λ i. record { count = holding-length i; numbers = holding-list i }
 
 -- ---- As a begin leaves it
 module _ (x : ℕ) (q : Query) (h : length q ≤ 4) where
-  begun-word : (j : ℕ) → getD (begun x q) j 0 ≡ getD (x ∷ 0 ∷ 0 ∷ 0 ∷ 0 ∷ keyWords q) j 0
+  begun-word : (j : ℕ) → getD (begun narrow x q) j 0 ≡ getD (x ∷ 0 ∷ 0 ∷ 0 ∷ 0 ∷ keyWords q) j 0
   unfolding begun
   begun-word j = getD-padded 157 (x ∷ 0 ∷ 0 ∷ 0 ∷ 0 ∷ keyWords q) j
 
-  pub begun-kind : kind (begun x q) ≡ x
+  pub begun-kind : kind (begun narrow x q) ≡ x
   unfolding kind
   begun-kind = begun-word 0
 
-  pub begun-steps : steps (begun x q) ≡ 0
+  pub begun-steps : steps (begun narrow x q) ≡ 0
   unfolding steps
   begun-steps = begun-word 1
 
-  pub begun-saw : sawPending (begun x q) ≡ false
+  pub begun-saw : sawPending (begun narrow x q) ≡ false
   unfolding sawPending
   begun-saw = rw (begun-word 2)
 
-  pub begun-wide : length (begun x q) ≡ 157
+  pub begun-wide : length (begun narrow x q) ≡ 157
   unfolding begun
   begun-wide = let a = key-words-length q (omega arith) in length-padded 157 (x ∷ 0 ∷ 0 ∷ 0 ∷ 0 ∷ keyWords q) (omega arith)
 
-  pub begun-key : keyIn (entryOf (begun x q)) ≡ keyWords q
+  pub begun-key : keyIn (entryOf (begun narrow x q)) ≡ keyWords q
   unfolding keyIn entryOf begun padded
   begun-key = take-at (keyWords q) _ 7 (key-words-length q (omega arith))
 
-  pub begun-length : lengthIn (entryOf (begun x q)) ≡ 0
+  pub begun-length : lengthIn (entryOf (begun narrow x q)) ≡ 0
   unfolding lengthIn entryOf
   begun-length =
-      getD-drop 5 (begun x q) 7 0 ∙ begun-word 12 ∙ List·getD-eq-default (keyWords q) 0 {n = 7} (let a = key-words-length q (omega arith) in omega arith)
+      getD-drop 5 (begun narrow x q) 7 0 ∙ begun-word 12 ∙ List·getD-eq-default (keyWords q) 0 {n = 7} (let a = key-words-length q (omega arith) in omega arith)

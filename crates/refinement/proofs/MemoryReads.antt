@@ -13,6 +13,7 @@ use Rattle.laws.proofs.EntryLaws.{length-entries, wide-entries, entries-header,
 use Rattle.rules.specs.Table.{Table}
 use Rattle.rules.specs.Nodes.{Node, Store}
 use Rattle.rules.specs.Answers.{Entry}
+use Rattle.query.specs.Shape.{narrow}
 use Rattle.rules.specs.Memory.{recordsIn, withRecords, storeIn, withStore, answersIn, withAnswers}
 use Rattle.revisions.proofs.NodeRows.{Each, AllRows}
 use Rattle.machine.proofs.Sums.{In, here, there}
@@ -99,24 +100,24 @@ module _ (s : List ℕ) (long : 8200 ≤ length s) (count : getD s 1 0 ≤ 1024)
 
 -- ---- Filed answers
 module _ (s : List ℕ) (long : 10000 ≤ length s) (count : getD s 0 0 ≤ 64) where
-  pub wide-answers : Wide 152 (answersIn s)
+  pub wide-answers : Wide 152 (answersIn narrow s)
   unfolding answersIn
   wide-answers = wide-entries 0 152 s (omega arith)
 
-  pub length-answers : length (answersIn s) ≡ getD s 0 0
+  pub length-answers : length (answersIn narrow s) ≡ getD s 0 0
   unfolding answersIn
   length-answers = length-entries 0 152 s
 
   module _ (es : List Entry) (we : Wide 152 es) (most : length es ≤ 64) where
-    pub answers-with : answersIn (withAnswers s es) ≡ es
+    pub answers-with : answersIn narrow (withAnswers narrow s es) ≡ es
     unfolding answersIn withAnswers
     answers-with = entries-with 0 152 s es we (omega arith) (omega arith) (omega arith)
 
-    pub length-with-answers : length (withAnswers s es) ≡ length s
+    pub length-with-answers : length (withAnswers narrow s es) ≡ length s
     unfolding withAnswers
     length-with-answers = length-with 0 152 s es we (omega arith) (omega arith)
 
-    pub count-answers : getD (withAnswers s es) 0 0 ≡ length es
+    pub count-answers : getD (withAnswers narrow s es) 0 0 ≡ length es
     unfolding withAnswers
     count-answers = count-with 0 152 s es we (omega arith) (omega arith) (omega arith)
 

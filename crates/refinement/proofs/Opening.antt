@@ -9,11 +9,12 @@ use lib.ListN.{length, getD, take, drop, replicate, length-append, length-drop, 
 use lib.Seq.{take-at, drop-at, getD-set-same, getD-set-other, drop-set-lt}
 use Rattle.laws.proofs.TestLaws.{byTest}
 use Rattle.lists.specs.Lists.{rows, entriesIn}
-use Rattle.rules.specs.Sizes.{maxClients, tableLeast, nodesLeast, answersLeast, clientsLeast}
+use Rattle.query.specs.Shape.{Shape, shapeOf, maxColumns, narrow}
+use Rattle.rules.specs.Layout.{maxClients, tableLeast, nodesLeast, answersLeast, clientsLeast}
 use Rattle.rules.specs.Nodes.{store}
 use Rattle.rules.specs.Client as rules
-use Rattle.rules.specs.Memory.{Mem, recordsIn, storeIn, answersIn, columnsAt, clientIn, cleared, opened}
-use Rattle.rules.specs.Refusals.{columns, client, openCode}
+use Rattle.rules.specs.Memory.{Mem, recordsIn, storeIn, answersIn, clientIn, cleared, opened}
+use Rattle.rules.specs.Refusals.{shape, columns, client, openCode}
 use Rattle.rules.proofs.ClientLaws.{idle-sound}
 use Rattle.rules.proofs.PassedChecks.{Long, open-passed}
 use Rattle.machine.proofs.Sums.{in-none}
@@ -54,52 +55,52 @@ unfolding entriesIn rows
 no-entries c w s e = rw e
 
 -- ---- What it leaves
-module _ (m : Mem) (k : ℕ) (l : Long m) where
-  opened-columns : columns (opened k m) ≡ k
-  unfolding columns columnsAt opened
+module _ (m : Mem) (sh : Shape) (l : Long m) where
+  opened-columns : columns (opened narrow sh m) ≡ sh .columns
+  unfolding opened
   opened-columns =
-      let a = length-cleared clientsLeast (m .clients) (l .clients) in
+      let a = length-cleared (clientsLeast narrow sh) (m .clients) (l .clients) in
       let b = l .clients in
-      getD-set-same (cleared clientsLeast (m .clients)) 0 k 0 (omega arith)
+      getD-set-same (cleared (clientsLeast narrow sh) (m .clients)) 0 (sh .columns) 0 (omega arith)
 
-  opened-client : (d : ℕ) → d < 12 → client (opened k m) d ≡ rules.idle
+  opened-client : (d : ℕ) → d < 12 → client (opened narrow sh m) d ≡ rules.idle narrow
   unfolding client clientIn opened rules.idle
   opened-client d h =
-      rw (drop-set-lt (8 + d * 157) (cleared clientsLeast (m .clients)) 0 k (omega arith)) (cleared-part clientsLeast (m .clients) (8 + d * 157) 157 (omega arith))
+      rw (drop-set-lt (8 + d * 157) (cleared (clientsLeast narrow sh) (m .clients)) 0 (sh .columns) (omega arith)) (cleared-part (clientsLeast narrow sh) (m .clients) (8 + d * 157) 157 (omega arith))
 
-  no-records : getD (opened k m .table) 0 0 ≡ 0
+  no-records : getD (opened narrow sh m .table) 0 0 ≡ 0
   unfolding opened
   no-records = cleared-at tableLeast (m .table) 0 (omega arith)
 
-  no-nodes : getD (opened k m .nodes) 1 0 ≡ 0
+  no-nodes : getD (opened narrow sh m .nodes) 1 0 ≡ 0
   unfolding opened
-  no-nodes = getD-set-other (cleared nodesLeast (m .nodes)) 0 1 1 0 (λ e. omega arith) ∙ cleared-at nodesLeast (m .nodes) 1 (omega arith)
+  no-nodes = getD-set-other (cleared (nodesLeast narrow) (m .nodes)) 0 1 1 0 (λ e. omega arith) ∙ cleared-at (nodesLeast narrow) (m .nodes) 1 (omega arith)
 
-  the-floor : getD (opened k m .nodes) 0 0 ≡ 1
+  the-floor : getD (opened narrow sh m .nodes) 0 0 ≡ 1
   unfolding opened
   the-floor =
-      let a = length-cleared nodesLeast (m .nodes) (l .nodes) in
+      let a = length-cleared (nodesLeast narrow) (m .nodes) (l .nodes) in
       let b = l .nodes in
-      getD-set-same (cleared nodesLeast (m .nodes)) 0 1 0 (omega arith)
+      getD-set-same (cleared (nodesLeast narrow) (m .nodes)) 0 1 0 (omega arith)
 
-  no-answers : getD (opened k m .answers) 0 0 ≡ 0
+  no-answers : getD (opened narrow sh m .answers) 0 0 ≡ 0
   unfolding opened
-  no-answers = cleared-at answersLeast (m .answers) 0 (omega arith)
+  no-answers = cleared-at (answersLeast narrow sh) (m .answers) 0 (omega arith)
 
-  none-filed : answersIn (opened k m .answers) ≡ []
+  none-filed : answersIn narrow (opened narrow sh m .answers) ≡ []
   unfolding answersIn
-  none-filed = no-entries 0 152 (opened k m .answers) no-answers
+  none-filed = no-entries 0 152 (opened narrow sh m .answers) no-answers
 
-  opened-lengths : Long (opened k m)
+  opened-lengths : Long (opened narrow sh m)
   unfolding opened
   opened-lengths = record {
     table = let a = length-cleared tableLeast (m .table) (l .table) in let b = l .table in omega arith;
-    nodes = let a = length-cleared nodesLeast (m .nodes) (l .nodes) in let c = length-set (cleared nodesLeast (m .nodes)) 0 1 in let b = l .nodes in omega arith;
-    answers = let a = length-cleared answersLeast (m .answers) (l .answers) in let b = l .answers in omega arith;
-    clients = let a = length-cleared clientsLeast (m .clients) (l .clients) in let c = length-set (cleared clientsLeast (m .clients)) 0 k in let b = l .clients in omega arith;
+    nodes = let a = length-cleared (nodesLeast narrow) (m .nodes) (l .nodes) in let c = length-set (cleared (nodesLeast narrow) (m .nodes)) 0 1 in let b = l .nodes in omega arith;
+    answers = let a = length-cleared (answersLeast narrow sh) (m .answers) (l .answers) in let b = l .answers in omega arith;
+    clients = let a = length-cleared (clientsLeast narrow sh) (m .clients) (l .clients) in let c = length-set (cleared (clientsLeast narrow sh) (m .clients)) 0 (sh .columns) in let b = l .clients in omega arith;
   }
 
-  fits-opened : 1 ≤ k → k ≤ 4 → Fits (opened k m)
+  fits-opened : 1 ≤ sh .columns → sh .columns ≤ maxColumns → Fits (opened narrow sh m)
   fits-opened lo hi = record {
     table-long = opened-lengths .table;
     nodes-long = opened-lengths .nodes;
@@ -111,25 +112,25 @@ module _ (m : Mem) (k : ℕ) (l : Long m) where
     nodes = let z = no-nodes in omega arith;
     answers = let z = no-answers in omega arith;
     kept = λ e i. in-none (rw none-filed at i);
-    sound = λ d h. rw (opened-client d h) (idle-sound (columns (opened k m)) rules.idle idle-is);
+    sound = λ d h. rw (opened-client d h) (idle-sound (shape (opened narrow sh m)) (rules.idle narrow) idle-is);
   }
 
-  clients-opened : (d : ℕ) → phasesOf (opened k m) d ≡ idle
+  clients-opened : (d : ℕ) → phasesOf (opened narrow sh m) d ≡ idle
   unfolding phasesOf
   clients-opened d =
-      byTest (ltb d maxClients) (λ t. rw (t, opened-client d (ltb-true d maxClients t)) (idle-phase (columns (opened k m)))) (λ t. rw t)
+      byTest (ltb d maxClients) (λ t. rw (t, opened-client d (ltb-true d maxClients t)) (idle-phase (shape (opened narrow sh m)))) (λ t. rw t)
 
-  state-opened : stateOf (opened k m) ≡ machine.opened k
+  state-opened : stateOf (opened narrow sh m) ≡ machine.opened sh
   unfolding stateOf filedOf machine.opened recordsIn storeIn
   state-opened = λ i. record {
-    cols = opened-columns i;
-    tab = no-entries 0 (columns (opened k m)) (opened k m .table) no-records i;
-    store = store (the-floor i) (no-entries 1 8 (opened k m .nodes) no-nodes i);
-    filed = map (ansOf (columns (opened k m))) (none-filed i);
+    shape = shapeOf (opened-columns i);
+    tab = no-entries 0 (columns (opened narrow sh m)) (opened narrow sh m .table) no-records i;
+    store = store (the-floor i) (no-entries 1 8 (opened narrow sh m .nodes) no-nodes i);
+    filed = map (ansOf (shape (opened narrow sh m))) (none-filed i);
     clients = fun-ext clients-opened i;
   }
 
-pub opened-fits : (m : Mem) (k : ℕ) → openCode m k ≡ 0 → Fits (opened k m) × (stateOf (opened k m) ≡ machine.opened k)
+pub opened-fits : (m : Mem) (k : ℕ) → openCode m k ≡ 0 → Fits (opened narrow (shapeOf k) m) × (stateOf (opened narrow (shapeOf k) m) ≡ machine.opened (shapeOf k))
 opened-fits m k e =
     let t = open-passed m k e in
-    (fits-opened m k (t .0) (t .1 .0) (t .1 .1), state-opened m k (t .0))
+    (fits-opened m (shapeOf k) (t .0) (t .1 .0) (t .1 .1), state-opened m (shapeOf k) (t .0))

@@ -15,12 +15,13 @@ use Rattle.laws.proofs.RowLaws.{wide-without, wide-nil}
 use Rattle.query.specs.Query.{Query, writeNode, writeNodes, writeCount}
 use Rattle.query.specs.Encoding.{queryOf, recordOf, labelWords}
 use Rattle.query.proofs.EncodingLaws.{is-query-length}
-use Rattle.rules.specs.Sizes.{maxClients}
+use Rattle.query.specs.Shape.{Shape, narrow}
+use Rattle.rules.specs.Layout.{maxClients, reads, inserts, deletes}
 use Rattle.rules.specs.declared.Outcome.the-variants.{Accepted}
 use Rattle.rules.specs.Table.{Write, insert, delete, target}
 use Rattle.rules.specs.Nodes.{Words, Store, store, evictNode, releasedAll}
 use Rattle.rules.specs.Answers.{Entry}
-use Rattle.rules.specs.Client.{Client, kind, sawPending, isIdle, writeAt, begun, reads, inserts, deletes}
+use Rattle.rules.specs.Client.{Client, kind, sawPending, isIdle, writeAt, begun}
 use Rattle.rules.specs.Client as rules
 use Rattle.rules.specs.Memory.{Mem, withFiled, storeIn, answersIn, withAnswers, renewed}
 use Rattle.rules.specs.Refusals.{columns, client, beginCode, abandonCode, evictAnswerCode, evictNodeCode, renewCode}
@@ -29,6 +30,7 @@ use Rattle.rules.proofs.PassedChecks.{Begins, begin-passed, abandon-passed, ste
 use Rattle.rules.specs.Outcome.{result}
 use Rattle.rules.specs.Steps.{nowAt, storeBack}
 use Rattle.rules.specs.Calls.{beginResult, announcedLabels, takenBack, abandoned, abandonResult, evictAnswerResult, evictNodeResult, renewResult}
+use Rattle.rules.specs.Refusals.{shape}
 use Rattle.rules.specs.History.{untrayed}
 use Rattle.revisions.proofs.EffectiveRevision.{NoDup}
 use Rattle.revisions.proofs.NodeRows.{Each}
@@ -47,47 +49,47 @@ use Rattle.refinement.proofs.AnswersRefined.{map-without, in-without}
 use Rattle.refinement.proofs.StepFrame.{wroteAt, writeLabelsAt, askedAt, stepsAt, entryAt, Going, going, client-at}
 
 -- an idle client's desk
-idle-at : (k : ℕ) (c : Client) → isIdle c ≡ true → phaseOf k c ≡ idle
+idle-at : (sh : Shape) (c : Client) → isIdle narrow c ≡ true → phaseOf sh c ≡ idle
 unfolding phaseOf
-idle-at k c e = rw e
+idle-at sh c e = rw e
 
 -- ---- Begins
 module _ (m : Mem) (f : Fits m) (d : ℕ) (a : List ℕ) where
   -- the client that a begin of kind x leaves
   module _ (x : ℕ) (b : Begins m x d a) where
     columns-of : length (queryOf a) ≡ columns m
-    columns-of = is-query-length (columns m) a (b .query)
+    columns-of = is-query-length (shape m) a (b .query)
 
-    busy-begun : 1 ≤ x → x ≤ 3 → Busy (columns m) (begun x (queryOf a))
-    busy-begun lo hi = begun-busy (columns m) x (queryOf a) columns-of (f .few) lo hi (b .names)
+    busy-begun : 1 ≤ x → x ≤ 3 → Busy (shape m) (begun narrow x (queryOf a))
+    busy-begun lo hi = begun-busy (shape m) x (queryOf a) columns-of (f .few) lo hi (b .names)
 
-    left-begun : (y : Phase) → 1 ≤ x → x ≤ 3 → phaseOf (columns m) (begun x (queryOf a)) ≡ y → Left (columns m) (begun x (queryOf a)) y
+    left-begun : (y : Phase) → 1 ≤ x → x ≤ 3 → phaseOf (shape m) (begun narrow x (queryOf a)) ≡ y → Left (shape m) (begun narrow x (queryOf a)) y
     left-begun y lo hi e = record {
-      sound = busy-sound (columns m) (begun x (queryOf a)) (busy-begun lo hi);
+      sound = busy-sound (shape m) (begun narrow x (queryOf a)) (busy-begun lo hi);
       wide = begun-wide x (queryOf a) (let z = columns-of in let h = f .few in omega arith);
       phase = e;
     }
 
     rests : stateOf m .clients d ≡ idle
-    rests = client-at m d (b .below) ∙ idle-at (columns m) (client m d) (b .rests)
+    rests = client-at m d (b .below) ∙ idle-at (shape m) (client m d) (b .rests)
 
-  begun-read : Begins m reads d a → Simulated m (begin-read d (record { asked = queryOf a })) (untrayed (result Accepted (nowAt m d (begun reads (queryOf a)))))
+  begun-read : Begins m reads d a → Simulated m (begin-read d (record { asked = queryOf a })) (untrayed (result Accepted (nowAt m d (begun narrow reads (queryOf a)))))
   unfolding untrayed responseIn width stateOf
   begun-read b =
       let busy = busy-begun reads b (omega arith) (omega arith) in
       simulated Accepted []
       (then-now (as-it-was m f) d (b .below) _ _
-      (left-begun reads b _ (omega arith) (omega arith) (begun-reads (columns m) (queryOf a) (columns-of reads b) (f .few) busy)))
+      (left-begun reads b _ (omega arith) (omega arith) (begun-reads (shape m) (queryOf a) (columns-of reads b) (f .few) busy)))
       (steps-of.began (b .below) (rests reads b) (columns-of reads b))
 
-  begun-write : (x : ℕ) (w : Write) → Begins m x d a → (x ≡ reads → ⊥) → 1 ≤ x → x ≤ 3 → writeAt (columns m) (begun x (queryOf a)) ≡ w → target w ≡ queryOf a
-      → Simulated m (begin-write d w) (untrayed (result Accepted (nowAt m d (begun x (queryOf a)))))
+  begun-write : (x : ℕ) (w : Write) → Begins m x d a → (x ≡ reads → ⊥) → 1 ≤ x → x ≤ 3 → writeAt (shape m) (begun narrow x (queryOf a)) ≡ w → target w ≡ queryOf a
+      → Simulated m (begin-write d w) (untrayed (result Accepted (nowAt m d (begun narrow x (queryOf a)))))
   unfolding untrayed responseIn widthOf stateOf
   begun-write x w b ne lo hi e t =
       let busy = busy-begun x b lo hi in
       simulated Accepted []
       (then-now (as-it-was m f) d (b .below) _ _
-      (left-begun x b _ lo hi (begun-writes (columns m) x (queryOf a) w (columns-of x b) (f .few) ne busy e)))
+      (left-begun x b _ lo hi (begun-writes (shape m) x (queryOf a) w (columns-of x b) (f .few) ne busy e)))
       (steps-of.began-write (b .below) (rests x b) (ap length t ∙ columns-of x b) (b .fresh ne))
 
   pub begin-read-simulated : Simulated m (begin-read d (record { asked = queryOf a })) (untrayed (beginResult m reads d a))
@@ -99,14 +101,14 @@ module _ (m : Mem) (f : Fits m) (d : ℕ) (a : List ℕ) where
   begin-insert-simulated = unless-simulated m _ (beginCode m inserts d a) _ f (begin-low m inserts d a) (λ e.
       let b = begin-passed m inserts d a e in
       begun-write inserts (insert (recordOf (queryOf a))) b (λ z. omega arith) (omega arith) (omega arith)
-      (begun-insert (columns m) (queryOf a) (columns-of inserts b) (f .few)) (target-insert (queryOf a) (b .names refl)))
+      (begun-insert (shape m) (queryOf a) (columns-of inserts b) (f .few)) (target-insert (queryOf a) (b .names refl)))
 
   pub begin-delete-simulated : Simulated m (begin-write d (delete (queryOf a))) (untrayed (beginResult m deletes d a))
   unfolding beginResult
   begin-delete-simulated = unless-simulated m _ (beginCode m deletes d a) _ f (begin-low m deletes d a) (λ e.
       let b = begin-passed m deletes d a e in
       begun-write deletes (delete (queryOf a)) b (λ z. omega arith) (omega arith) (omega arith)
-      (begun-delete (columns m) (queryOf a) (columns-of deletes b) (f .few)) (target-delete (queryOf a)))
+      (begun-delete (shape m) (queryOf a) (columns-of deletes b) (f .few)) (target-delete (queryOf a)))
 
 -- ---- Abandonings
 map-listed : {A B : Type 0} (f : A → B) (g : ℕ → A) (i n : ℕ) → map f (listed g i n) ≡ listed (λ j. f (g j)) i n
@@ -125,17 +127,17 @@ unfolding announcedLabels writeLabels writeNodes
 announced-labels w q i e h =
     rw (e, map-listed labelWords (writeNode q) 0 (writeCount q)) (sym (take-listed (λ j. labelWords (writeNode q j)) 0 (writeCount q) i h))
 
-reader-is : (k : ℕ) (e : Entry) (i : ℕ) (saw : Bool) → steps-of.isReader (readerOf k e i saw) ≡ true
+reader-is : (sh : Shape) (e : Entry) (i : ℕ) (saw : Bool) → steps-of.isReader (readerOf sh e i saw) ≡ true
 unfolding readerOf
-reader-is k e i saw =
-    byTest (leb i (looksOf k e)) (λ t. rw t) (λ t. rw t (byTest (eqb i (looksOf k e + 1)) (λ u. rw u) (λ u. rw u)))
+reader-is sh e i saw =
+    byTest (leb i (looksOf sh e)) (λ t. rw t) (λ t. rw t (byTest (eqb i (looksOf sh e + 1)) (λ u. rw u) (λ u. rw u)))
 
 module _ (m : Mem) (d : ℕ) (g : Going m d) where
   reader-at : kind (client m d) ≡ reads → steps-of.isReader (stateOf m .clients d) ≡ true
   unfolding busyPhase
   reader-at r =
-      rw (client-at m d (g .below), busy-phase (columns m) (client m d) (g .busy), eq-eqb (kind (client m d)) reads r)
-      (reader-is (columns m) (entryAt m d) (stepsAt m d) (sawPending (client m d)))
+      rw (client-at m d (g .below), busy-phase (shape m) (client m d) (g .busy), eq-eqb (kind (client m d)) reads r)
+      (reader-is (shape m) (entryAt m d) (stepsAt m d) (sawPending (client m d)))
 
   taken-back-simulated : (ps : List Words) (o : Option Store) → (kind (client m d) ≡ reads → ⊥)
       → stepsAt m d ≤ writeLabelsAt m d
@@ -149,13 +151,13 @@ module _ (m : Mem) (d : ℕ) (g : Going m d) where
       let y = f .nodes in
       let z = k .2 in
       simulated Accepted []
-      (then-now (at-store m f t (k .1) (omega arith)) d (g .below) rules.idle idle (idle-left (columns m)))
-      (steps-of.abandoned-write (g .below) (client-at m d (g .below) ∙ announcing-phase (columns m) (client m d) (g .busy) r h) (rw e at (k .0)))
+      (then-now (at-store m f t (k .1) (omega arith)) d (g .below) (rules.idle narrow) idle (idle-left (shape m)))
+      (steps-of.abandoned-write (g .below) (client-at m d (g .below) ∙ announcing-phase (shape m) (client m d) (g .busy) r h) (rw e at (k .0)))
 
-  gave-up-simulated : kind (client m d) ≡ reads → Simulated m (abandon d) (untrayed (result Accepted (nowAt m d rules.idle)))
+  gave-up-simulated : kind (client m d) ≡ reads → Simulated m (abandon d) (untrayed (result Accepted (nowAt m d (rules.idle narrow))))
   unfolding untrayed responseIn
   gave-up-simulated r =
-      simulated Accepted [] (then-now (as-it-was m (g .fits)) d (g .below) rules.idle idle (idle-left (columns m))) (steps-of.abandoned-read (g .below) (reader-at r))
+      simulated Accepted [] (then-now (as-it-was m (g .fits)) d (g .below) (rules.idle narrow) idle (idle-left (shape m))) (steps-of.abandoned-read (g .below) (reader-at r))
 
   abandoned-simulated : ((kind (client m d) ≡ reads → ⊥) → stepsAt m d ≤ writeCount (askedAt m d))
       → Simulated m (abandon d) (untrayed (abandoned m d))
@@ -169,7 +171,7 @@ module _ (m : Mem) (d : ℕ) (g : Going m d) where
           → Simulated m (abandon d) (untrayed (takenBack m d (releasedAll (announcedLabels (askedAt m d) (stepsAt m d)) (storeIn (m .nodes)))))
       back r =
           let f = g .fits in
-          let t = write-target (columns m) (client m d) (g .busy) in
+          let t = write-target (shape m) (client m d) (g .busy) in
           taken-back-simulated _ _ r (rw t (h r)) (announced-labels (wroteAt m d) (askedAt m d) (stepsAt m d) t (h r))
           (releasedAll-ok _ (storeIn (m .nodes)) (g .once) (rows-nodes (m .nodes) (f .nodes-long) (f .nodes)))
 
@@ -180,17 +182,17 @@ abandon-simulated m d f once = unless-simulated m _ (abandonCode m d) _ f (aband
 
 -- ---- Puttings out
 evicted-simulated : (m : Mem) (i : ℕ) → Fits m → i < getD (m .answers) 0 0
-    → Simulated m (evict-answer i) (untrayed (result Accepted (withFiled m (withAnswers (m .answers) (without i (answersIn (m .answers)))))))
+    → Simulated m (evict-answer i) (untrayed (result Accepted (withFiled m (withAnswers narrow (m .answers) (without i (answersIn narrow (m .answers)))))))
 unfolding untrayed responseIn stateOf filedOf cut
 evicted-simulated m i f h =
-    let es : List Entry = answersIn (m .answers) in
+    let es : List Entry = answersIn narrow (m .answers) in
     let n = length-answers (m .answers) (f .answers-long) (f .answers) in
     let y = f .answers in
     let l = length-without i es (omega arith) in
-    let z = length-map es (ansOf (columns m)) in
+    let z = length-map es (ansOf (shape m)) in
     simulated Accepted []
     (at-filed m f (without i es) (wide-without 152 i es (wide-answers (m .answers) (f .answers-long) (f .answers))) (omega arith) (λ e j. f .kept e (in-without i es j)))
-    (rw (map-without (ansOf (columns m)) i es) (steps-of.evicted-answer {i = i} (omega arith)))
+    (rw (map-without (ansOf (shape m)) i es) (steps-of.evicted-answer {i = i} (omega arith)))
 
 pub evict-answer-simulated : (m : Mem) (i : ℕ) → Fits m → Simulated m (evict-answer i) (untrayed (evictAnswerResult m i))
 unfolding evictAnswerResult
@@ -208,9 +210,9 @@ evict-node-simulated m i f once = unless-simulated m _ (evictNodeCode m i) _ f (
     simulated Accepted [] (at-store m f (evictNode i (storeIn (m .nodes))) (k .1) (omega arith)) (steps-of.evicted-node (omega arith) (k .0)))
 
 -- ---- Renewals
-all-idle : (m : Mem) → ((d : ℕ) → d < 12 → isIdle (client m d) ≡ true) → (d : ℕ) → stateOf m .clients d ≡ idle
+all-idle : (m : Mem) → ((d : ℕ) → d < 12 → isIdle narrow (client m d) ≡ true) → (d : ℕ) → stateOf m .clients d ≡ idle
 unfolding stateOf phasesOf
-all-idle m h d = byTest (ltb d maxClients) (λ t. rw t (idle-at (columns m) (client m d) (h d (ltb-true d maxClients t)))) (λ t. rw t)
+all-idle m h d = byTest (ltb d maxClients) (λ t. rw t (idle-at (shape m) (client m d) (h d (ltb-true d maxClients t)))) (λ t. rw t)
 
 renewed-after : (m : Mem) → Fits m → After m (renewed m) (with-filed (with-store (stateOf m) (store 1 [])) [])
 unfolding renewed storeBack Each

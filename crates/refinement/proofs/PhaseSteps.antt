@@ -12,10 +12,11 @@ use Rattle.laws.proofs.RowLaws.{Wide}
 use Rattle.query.specs.Query.{Record, writeCount}
 use Rattle.query.proofs.NodeLists.{read-count-most}
 use Rattle.query.proofs.EncodingLaws.{query-in-length}
-use Rattle.rules.specs.Sizes.{maxList}
+use Rattle.query.specs.Shape.{Shape, maxColumns, narrow}
+use Rattle.rules.specs.Layout.{maxList, reads}
 use Rattle.rules.specs.Table.{Write, target}
 use Rattle.rules.specs.Answers.{Entry, keyIn}
-use Rattle.rules.specs.Client.{Client, kind, steps, sawPending, didChange, foundFull, entryOf, queryAt, writeAt, stepsInAll, stepped, noted, holding, wrote, reads}
+use Rattle.rules.specs.Client.{Client, kind, steps, sawPending, didChange, foundFull, entryOf, queryAt, writeAt, stepsInAll, stepped, noted, holding, wrote}
 use Rattle.machine.proofs.Keys.{Key, Val}
 use Rattle.machine.proofs.Machine.{looking, tabling, filing, announcing, raising}
 use Rattle.rules.proofs.ClientLaws.{Busy, busy-sound}
@@ -26,9 +27,9 @@ use Rattle.refinement.proofs.ClientParts.{holding-next, holding-revisio
 use Rattle.refinement.proofs.ClientPhases.{Left, looking-eq, looking-phase, tabling-phase, filing-phase, announcing-phase, raising-phase, write-target}
 use Rattle.refinement.proofs.ClientPhases.{next-key, next-looks, next-write, next-busy, last-read, last-write}
 
-pub looks-most : (k : ℕ) (e : Entry) → k ≤ 4 → looksOf k e ≤ 16
+pub looks-most : (sh : Shape) (e : Entry) → sh .columns ≤ maxColumns → looksOf sh e ≤ 16
 unfolding looksOf
-looks-most k e h = read-count-most _ (let z = query-in-length k (keyIn e) in omega arith)
+looks-most sh e h = read-count-most _ (let z = query-in-length sh (keyIn e) in omega arith)
 
 tabling-eq : {q r : Key} {ns ms : List ℕ} {a b : Bool} → q ≡ r → ns ≡ ms → a ≡ b → tabling q ns a ≡ tabling r ms b
 tabling-eq e f g = λ i. tabling (e i) (f i) (g i)
@@ -40,134 +41,134 @@ raising-eq : {w v : Write} {i j : ℕ} {a b c d : Bool} → w ≡ v → i ≡ j 
 raising-eq e f g h = λ i. raising (e i) (f i) (g i) (h i)
 
 -- ---- A read
-module _ (k : ℕ) (c : Client) (w : length c ≡ 157) (few : k ≤ 4) (b : Busy k c) (r : kind c ≡ reads) where
+module _ (sh : Shape) (c : Client) (w : length c ≡ 157) (few : sh .columns ≤ maxColumns) (b : Busy sh c) (r : kind c ≡ reads) where
   -- a look
-  pub noted-left : (x p : ℕ) → steps c < looksOf k (entryOf c)
-      → Left k (noted (steps c) x p c) (looking (keyOf k (entryOf c)) (revisionsIn (steps c) (entryOf c) ++ (x ∷ [])) (sawPending c || ltb 0 p))
+  pub noted-left : (x p : ℕ) → steps c < looksOf sh (entryOf c)
+      → Left sh (noted narrow (steps c) x p c) (looking (keyOf sh (entryOf c)) (revisionsIn (steps c) (entryOf c) ++ (x ∷ [])) (sawPending c || ltb 0 p))
   noted-left x p h =
-      let m = looks-most k (entryOf c) few in
+      let m = looks-most sh (entryOf c) few in
       let g : steps c < 16 = omega arith in
-      let t : Client = noted (steps c) x p c in
+      let t : Client = noted narrow (steps c) x p c in
       let n = noted-next c w (steps c) x p g in
-      let l = last-read k c r in
+      let l = last-read sh c r in
       let o = noted-length c w (steps c) x p g in
       let s = b .short in
-      let busy = next-busy k c t n b (omega arith) (omega arith) in
+      let busy = next-busy sh c t n b (omega arith) (omega arith) in
       let e : steps t ≡ suc (steps c) = n .one ∙ omega arith in
-      let f = next-looks k c t n in
+      let f = next-looks sh c t n in
       record {
-        sound = busy-sound k t busy;
+        sound = busy-sound sh t busy;
         wide = n .wide;
         phase =
-            looking-phase k t busy (n .kinds ∙ r) (omega arith)
-            ∙ looking-eq (next-key k c t n) (ap (λ (i : ℕ). revisionsIn i (entryOf t)) e ∙ noted-revisions c w (steps c) x p g) (noted-saw c w (steps c) x p g);
+            looking-phase sh t busy (n .kinds ∙ r) (omega arith)
+            ∙ looking-eq (next-key sh c t n) (ap (λ (i : ℕ). revisionsIn i (entryOf t)) e ∙ noted-revisions c w (steps c) x p g) (noted-saw c w (steps c) x p g);
       }
 
   -- a fetch that finds nothing
-  pub missed-left : steps c ≡ looksOf k (entryOf c)
-      → Left k (stepped c) (tabling (keyOf k (entryOf c)) (revisionsIn (looksOf k (entryOf c)) (entryOf c)) (sawPending c))
+  pub missed-left : steps c ≡ looksOf sh (entryOf c)
+      → Left sh (stepped c) (tabling (keyOf sh (entryOf c)) (revisionsIn (looksOf sh (entryOf c)) (entryOf c)) (sawPending c))
   missed-left h =
       let t : Client = stepped c in
       let n = stepped-next c w in
-      let l = last-read k c r in
+      let l = last-read sh c r in
       let a = stepped-entry c w in
-      let busy = next-busy k c t n b (omega arith) (rw a (b .short)) in
-      let f = next-looks k c t n in
+      let busy = next-busy sh c t n b (omega arith) (rw a (b .short)) in
+      let f = next-looks sh c t n in
       let o = n .one in
       record {
-        sound = busy-sound k t busy;
+        sound = busy-sound sh t busy;
         wide = n .wide;
         phase =
-            tabling-phase k t busy (n .kinds ∙ r) (omega arith)
-            ∙ tabling-eq (next-key k c t n) (ap₂ revisionsIn f a) (stepped-saw c w);
+            tabling-phase sh t busy (n .kinds ∙ r) (omega arith)
+            ∙ tabling-eq (next-key sh c t n) (ap₂ revisionsIn f a) (stepped-saw c w);
       }
 
   -- a list taken, to be filed
-  pub holding-left : (l : List Record) → Wide k l → length l ≤ maxList → steps c ≡ looksOf k (entryOf c) + 1
-      → Left k (holding l c)
-      (filing (keyOf k (entryOf c)) (revisionsIn (looksOf k (entryOf c)) (entryOf c)) (record { count = length l; numbers = flat l }))
+  pub holding-left : (l : List Record) → Wide (sh .columns) l → length l ≤ maxList → steps c ≡ looksOf sh (entryOf c) + 1
+      → Left sh (holding narrow sh l c)
+      (filing (keyOf sh (entryOf c)) (revisionsIn (looksOf sh (entryOf c)) (entryOf c)) (record { count = length l; numbers = flat l }))
   holding-left l wl sl h =
-      let t : Client = holding l c in
-      let n = holding-next c w k l wl few sl in
-      let m = looks-most k (entryOf c) few in
-      let x = last-read k c r in
-      let z = holding-length c w k l wl few sl in
-      let busy = next-busy k c t n b (omega arith) (omega arith) in
-      let f = next-looks k c t n in
+      let t : Client = holding narrow sh l c in
+      let n = holding-next c w sh l wl few sl in
+      let m = looks-most sh (entryOf c) few in
+      let x = last-read sh c r in
+      let z = holding-length c w sh l wl few sl in
+      let busy = next-busy sh c t n b (omega arith) (omega arith) in
+      let f = next-looks sh c t n in
       let o = n .one in
       record {
-        sound = busy-sound k t busy;
+        sound = busy-sound sh t busy;
         wide = n .wide;
         phase =
-            filing-phase k t busy (n .kinds ∙ r) (omega arith)
-            ∙ filing-eq (next-key k c t n)
-            (ap (λ (i : ℕ). revisionsIn i (entryOf t)) f ∙ holding-revisions c w k l wl few sl (looksOf k (entryOf c)) m)
-            (holding-value c w k l wl few sl);
+            filing-phase sh t busy (n .kinds ∙ r) (omega arith)
+            ∙ filing-eq (next-key sh c t n)
+            (ap (λ (i : ℕ). revisionsIn i (entryOf t)) f ∙ holding-revisions c w sh l wl few sl (looksOf sh (entryOf c)) m)
+            (holding-value c w sh l wl few sl);
       }
 
 -- ---- A write
-module _ (k : ℕ) (c : Client) (w : length c ≡ 157) (b : Busy k c) (r : kind c ≡ reads → ⊥) where
-  write-nodes : writeCount (target (writeAt k c)) ≡ writeCount (queryAt k c)
-  write-nodes = ap writeCount (write-target k c b)
+module _ (sh : Shape) (c : Client) (w : length c ≡ 157) (b : Busy sh c) (r : kind c ≡ reads → ⊥) where
+  write-nodes : writeCount (target (writeAt sh c)) ≡ writeCount (queryAt sh c)
+  write-nodes = ap writeCount (write-target sh c b)
 
-  next-target : (t : Client) → Next c t → writeCount (target (writeAt k t)) ≡ writeCount (target (writeAt k c))
-  next-target t n = ap (λ (v : Write). writeCount (target v)) (next-write k c t n)
+  next-target : (t : Client) → Next c t → writeCount (target (writeAt sh t)) ≡ writeCount (target (writeAt sh c))
+  next-target t n = ap (λ (v : Write). writeCount (target v)) (next-write sh c t n)
 
-  stepped-busy : steps c + 1 < stepsInAll (kind c) (queryAt k c) → Busy k (stepped c)
-  stepped-busy h = next-busy k c (stepped c) (stepped-next c w) b h (rw (stepped-entry c w) (b .short))
+  stepped-busy : steps c + 1 < stepsInAll (kind c) (queryAt sh c) → Busy sh (stepped c)
+  stepped-busy h = next-busy sh c (stepped c) (stepped-next c w) b h (rw (stepped-entry c w) (b .short))
 
   -- a mark
-  pub announced-left : steps c < writeCount (target (writeAt k c)) → Left k (stepped c) (announcing (writeAt k c) (suc (steps c)))
+  pub announced-left : steps c < writeCount (target (writeAt sh c)) → Left sh (stepped c) (announcing (writeAt sh c) (suc (steps c)))
   announced-left h =
       let t : Client = stepped c in
       let n = stepped-next c w in
-      let x = last-write k c r in
+      let x = last-write sh c r in
       let y = write-nodes in
       let f = next-target t n in
       let e : steps t ≡ suc (steps c) = n .one ∙ omega arith in
       let busy = stepped-busy (omega arith) in
       record {
-        sound = busy-sound k t busy;
+        sound = busy-sound sh t busy;
         wide = n .wide;
-        phase = announcing-phase k t busy (λ q. r (sym (n .kinds) ∙ q)) (omega arith) ∙ ap₂ announcing (next-write k c t n) e;
+        phase = announcing-phase sh t busy (λ q. r (sym (n .kinds) ∙ q)) (omega arith) ∙ ap₂ announcing (next-write sh c t n) e;
       }
 
   -- the table step
-  pub wrote-left : (changed full : Bool) → steps c ≡ writeCount (target (writeAt k c)) → 0 < writeCount (target (writeAt k c))
-      → Left k (wrote changed full c) (raising (writeAt k c) 0 changed full)
+  pub wrote-left : (changed full : Bool) → steps c ≡ writeCount (target (writeAt sh c)) → 0 < writeCount (target (writeAt sh c))
+      → Left sh (wrote changed full c) (raising (writeAt sh c) 0 changed full)
   wrote-left changed full h some =
       let t : Client = wrote changed full c in
       let n = wrote-next c w changed full in
-      let x = last-write k c r in
+      let x = last-write sh c r in
       let y = write-nodes in
       let f = next-target t n in
       let o = n .one in
-      let e : steps t - (writeCount (target (writeAt k t)) + 1) ≡ 0 = omega arith in
-      let busy = next-busy k c t n b (omega arith) (rw (wrote-entry c w changed full) (b .short)) in
+      let e : steps t - (writeCount (target (writeAt sh t)) + 1) ≡ 0 = omega arith in
+      let busy = next-busy sh c t n b (omega arith) (rw (wrote-entry c w changed full) (b .short)) in
       record {
-        sound = busy-sound k t busy;
+        sound = busy-sound sh t busy;
         wide = n .wide;
         phase =
-            raising-phase k t busy (λ q. r (sym (n .kinds) ∙ q)) (omega arith)
-            ∙ raising-eq (next-write k c t n) e (wrote-change c w changed full) (wrote-full c w changed full);
+            raising-phase sh t busy (λ q. r (sym (n .kinds) ∙ q)) (omega arith)
+            ∙ raising-eq (next-write sh c t n) e (wrote-change c w changed full) (wrote-full c w changed full);
       }
 
   -- a raise that is not the last
-  pub raised-left : writeCount (target (writeAt k c)) < steps c → suc (steps c - (writeCount (target (writeAt k c)) + 1)) < writeCount (target (writeAt k c))
-      → Left k (stepped c) (raising (writeAt k c) (suc (steps c - (writeCount (target (writeAt k c)) + 1))) (didChange c) (foundFull c))
+  pub raised-left : writeCount (target (writeAt sh c)) < steps c → suc (steps c - (writeCount (target (writeAt sh c)) + 1)) < writeCount (target (writeAt sh c))
+      → Left sh (stepped c) (raising (writeAt sh c) (suc (steps c - (writeCount (target (writeAt sh c)) + 1))) (didChange c) (foundFull c))
   raised-left h g =
       let t : Client = stepped c in
       let n = stepped-next c w in
-      let x = last-write k c r in
+      let x = last-write sh c r in
       let y = write-nodes in
       let f = next-target t n in
       let o = n .one in
-      let e : steps t - (writeCount (target (writeAt k t)) + 1) ≡ suc (steps c - (writeCount (target (writeAt k c)) + 1)) = omega arith in
+      let e : steps t - (writeCount (target (writeAt sh t)) + 1) ≡ suc (steps c - (writeCount (target (writeAt sh c)) + 1)) = omega arith in
       let busy = stepped-busy (omega arith) in
       record {
-        sound = busy-sound k t busy;
+        sound = busy-sound sh t busy;
         wide = n .wide;
         phase =
-            raising-phase k t busy (λ q. r (sym (n .kinds) ∙ q)) (omega arith)
-            ∙ raising-eq (next-write k c t n) e (stepped-change c w) (stepped-full c w);
+            raising-phase sh t busy (λ q. r (sym (n .kinds) ∙ q)) (omega arith)
+            ∙ raising-eq (next-write sh c t n) e (stepped-change c w) (stepped-full c w);
       }

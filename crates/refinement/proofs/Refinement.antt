@@ -1,4 +1,4 @@
--- Every call on memories that fit is a step of the machine, and leaves memories that fit, with the same columns. Leans on ReadRefined, WriteRefined and
+-- Every call on memories that fit is a step of the machine, and leaves memories that fit, with the same shape. Leans on ReadRefined, WriteRefined and
 -- OthersRefined. Assumes nothing.
 use mathlib.Core.Path.{_≡_, refl}
 use mathlib.Core.List.{List}
@@ -8,10 +8,12 @@ use borrow.Author.Tests.{eqb-true, eqb-false}
 use Rattle.laws.proofs.TestLaws.{byTest}
 use Rattle.rules.specs.declared.Outcome.{Outcome}
 use Rattle.rules.specs.declared.Outcome.the-variants.{Refused, Accepted, Answered, Long, Ended, Full}
-use Rattle.rules.specs.Client.{kind, reads}
+use Rattle.rules.specs.Client.{kind}
+use Rattle.query.specs.Shape.{Shape}
+use Rattle.rules.specs.Layout.{reads}
 use Rattle.rules.specs.Memory.{Mem, storeIn}
 use Rattle.rules.specs.Outcome.{StepResult, number}
-use Rattle.rules.specs.Refusals.{columns, client, stepCode}
+use Rattle.rules.specs.Refusals.{shape, columns, client, stepCode}
 use Rattle.rules.proofs.PassedChecks.{step-passed}
 use Rattle.rules.specs.Steps.{progress}
 use Rattle.rules.specs.Calls.{stepResult}
@@ -55,23 +57,23 @@ call-simulated m (evictNode i) f once = evict-node-simulated m i f once
 call-simulated m renew f once = renew-simulated m f
 
 pub refines : (m : Mem) (c : Call) → Fits m → NoDup (storeIn (m .nodes) .nodes)
-    → Transition (stateOf m) (callOf c) (responseOf (columns m) (callResult m c)) (stateOf (callResult m c .mem)) × Fits (callResult m c .mem)
+    → Transition (stateOf m) (callOf c) (responseOf (shape m) (callResult m c)) (stateOf (callResult m c .mem)) × Fits (callResult m c .mem)
 refines m c f once = let l = call-simulated m c f once in (l .transition, l .fits)
 
--- the number of columns stays
-pub columns-stay : (m : Mem) (c : Call) → Fits m → NoDup (storeIn (m .nodes) .nodes) → columns (callResult m c .mem) ≡ columns m
-columns-stay m c f once = call-simulated m c f once .same
+-- the shape stays
+pub shape-stays : (m : Mem) (c : Call) → Fits m → NoDup (storeIn (m .nodes) .nodes) → shape (callResult m c .mem) ≡ shape m
+shape-stays m c f once = call-simulated m c f once .same
 
 -- ---- The number that a call returns is the machine's
-out-number : (k : ℕ) (tray : List ℕ) (o : Outcome) → machine.number (responseIn k tray o) ≡ number o
+out-number : (sh : Shape) (tray : List ℕ) (o : Outcome) → machine.number (responseIn sh tray o) ≡ number o
 unfolding machine.number responseIn number
-out-number k tray (Refused n) = refl
-out-number k tray Accepted = refl
-out-number k tray (Answered n b) = refl
-out-number k tray Long = refl
-out-number k tray (Ended b) = refl
-out-number k tray Full = refl
+out-number sh tray (Refused n) = refl
+out-number sh tray Accepted = refl
+out-number sh tray (Answered n b) = refl
+out-number sh tray Long = refl
+out-number sh tray (Ended b) = refl
+out-number sh tray Full = refl
 
-pub number-is : (k : ℕ) (x : StepResult) → machine.number (responseOf k x) ≡ number (x .out)
+pub number-is : (sh : Shape) (x : StepResult) → machine.number (responseOf sh x) ≡ number (x .out)
 unfolding responseOf
-number-is k x = out-number k (x .tray) (x .out)
+number-is sh x = out-number sh (x .tray) (x .out)

@@ -9,14 +9,17 @@ use lib.Dec.{eqb, ltb, leb}
 use borrow.Author.Tests.{eqb-true, eqb-false, ne-eqb}
 use lib.ListN.{length, getD}
 use Rattle.laws.proofs.TestLaws.{byTest}
-use Rattle.rules.specs.Sizes.{trayLeast}
+use Rattle.rules.specs.Layout.{trayLeast}
 use Rattle.rules.specs.declared.Outcome.the-variants.{Refused}
 use Rattle.rules.specs.Nodes.{isWorn, pending}
-use Rattle.rules.specs.Client.{isIdle, isBad, reads}
+use Rattle.rules.specs.Client.{isIdle, isBad}
+use Rattle.rules.specs.Layout.{reads}
 use Rattle.rules.specs.Memory.{Mem, storeIn}
 use Rattle.rules.specs.Outcome.{Result, result, resultWith}
 use Rattle.rules.specs.Refusals.{columns, client, isShort, badQuery, isUnsound, noClient, isCommitted, allIdle, atClient, beginCode, stepCode, abandonCode, evictAnswerCode, evictNodeCode, renewCode}
 use Rattle.rules.specs.Calls.{unless}
+use Rattle.query.specs.Shape.{narrow}
+use Rattle.rules.specs.Refusals.{shape}
 use Rattle.rules.specs.History.{isAccepted, untrayed}
 use Rattle.machine.proofs.Machine.{Call}
 use Rattle.machine.proofs.Transition.{nothing}
@@ -51,40 +54,40 @@ low false n rest h k = k
 pub begin-low : (m : Mem) (x d : ℕ) (a : List ℕ) → beginCode m x d a ≤ 11
 unfolding beginCode
 begin-low m x d a =
-    low (isShort m) 1 _ (omega arith) (low (badQuery (columns m) x a) 2 _ (omega arith) (low (isUnsound m) 3 _ (omega arith) (low (noClient d) 4 _ (omega arith)
-    (low (isBad (columns m) (client m d)) 3 _ (omega arith) (low (not (isIdle (client m d))) 5 _ (omega arith)
-    (low (not (eqb x reads) && isWorn (storeIn (m .nodes))) 10 0 (omega arith) (omega arith)))))))
+    low (isShort narrow (shape m) m) 1 _ (omega arith) (low (badQuery (shape m) x a) 2 _ (omega arith) (low (isUnsound m) 3 _ (omega arith) (low (noClient d) 4 _ (omega arith)
+    (low (isBad narrow (shape m) (client m d)) 3 _ (omega arith) (low (not (isIdle narrow (client m d))) 5 _ (omega arith)
+    (low (not (eqb x reads) && isWorn narrow (shape m) (storeIn (m .nodes))) 10 0 (omega arith) (omega arith)))))))
 
 -- ---- Steps and abandonings
 atClient-low : (m : Mem) (d : ℕ) → atClient m d ≤ 11
 unfolding atClient
 atClient-low m d =
-    low (isUnsound m) 3 _ (omega arith) (low (noClient d) 4 _ (omega arith) (low (isBad (columns m) (client m d)) 3 _ (omega arith)
-    (low (isIdle (client m d)) 6 0 (omega arith) (omega arith))))
+    low (isUnsound m) 3 _ (omega arith) (low (noClient d) 4 _ (omega arith) (low (isBad narrow (shape m) (client m d)) 3 _ (omega arith)
+    (low (isIdle narrow (client m d)) 6 0 (omega arith) (omega arith))))
 
 pub step-low : (m : Mem) (tray : List ℕ) (d : ℕ) → stepCode m tray d ≤ 11
 unfolding stepCode
-step-low m tray d = low (isShort m || ltb (length tray) trayLeast) 1 _ (omega arith) (atClient-low m d)
+step-low m tray d = low (isShort narrow (shape m) m || ltb (length tray) trayLeast) 1 _ (omega arith) (atClient-low m d)
 
 pub abandon-low : (m : Mem) (d : ℕ) → abandonCode m d ≤ 11
 unfolding abandonCode
 abandon-low m d =
-    low (isShort m) 1 _ (omega arith) (low (not (eqb (atClient m d) 0)) (atClient m d) _ (atClient-low m d)
-    (low (isCommitted (columns m) (client m d)) 7 0 (omega arith) (omega arith)))
+    low (isShort narrow (shape m) m) 1 _ (omega arith) (low (not (eqb (atClient m d) 0)) (atClient m d) _ (atClient-low m d)
+    (low (isCommitted (shape m) (client m d)) 7 0 (omega arith) (omega arith)))
 
 -- ---- Puttings out, renewals
 pub evict-answer-low : (m : Mem) (i : ℕ) → evictAnswerCode m i ≤ 11
 unfolding evictAnswerCode
 evict-answer-low m i =
-    low (isShort m) 1 _ (omega arith) (low (isUnsound m) 3 _ (omega arith) (low (leb (getD (m .answers) 0 0) i) 8 0 (omega arith) (omega arith)))
+    low (isShort narrow (shape m) m) 1 _ (omega arith) (low (isUnsound m) 3 _ (omega arith) (low (leb (getD (m .answers) 0 0) i) 8 0 (omega arith) (omega arith)))
 
 pub evict-node-low : (m : Mem) (i : ℕ) → evictNodeCode m i ≤ 11
 unfolding evictNodeCode
 evict-node-low m i =
-    low (isShort m) 1 _ (omega arith) (low (isUnsound m) 3 _ (omega arith) (low (leb (getD (m .nodes) 1 0) i) 8 _ (omega arith)
+    low (isShort narrow (shape m) m) 1 _ (omega arith) (low (isUnsound m) 3 _ (omega arith) (low (leb (getD (m .nodes) 1 0) i) 8 _ (omega arith)
     (low (ltb 0 (pending (getD (storeIn (m .nodes) .nodes) i []))) 9 0 (omega arith) (omega arith))))
 
 pub renew-low : (m : Mem) → renewCode m ≤ 11
 unfolding renewCode
 renew-low m =
-    low (isShort m) 1 _ (omega arith) (low (isUnsound m) 3 _ (omega arith) (low (not (allIdle m)) 11 0 (omega arith) (omega arith)))
+    low (isShort narrow (shape m) m) 1 _ (omega arith) (low (isUnsound m) 3 _ (omega arith) (low (not (allIdle m)) 11 0 (omega arith) (omega arith)))

@@ -10,7 +10,8 @@ use borrow.Author.Tests.{eqb-true, eqb-false, lt-ltb}
 use lib.ListN.{length}
 use Rattle.laws.proofs.TestLaws.{byTest}
 use Rattle.laws.proofs.RowLaws.{Wide}
-use Rattle.rules.specs.Sizes.{maxRecords, maxNodes, maxAnswers, maxClients}
+use Rattle.query.specs.Shape.{Shape, shapeOf, narrow}
+use Rattle.rules.specs.Layout.{maxRecords, maxNodes, maxAnswers, maxClients}
 use Rattle.rules.specs.declared.Outcome.{Outcome}
 use Rattle.rules.specs.Table.{Table}
 use Rattle.rules.specs.Nodes.{Store}
@@ -20,6 +21,7 @@ use Rattle.rules.specs.Memory.{Mem, withTable, withFiled, recordsIn, withRecord
 use Rattle.rules.specs.Outcome.{StepResult, resultWith}
 use Rattle.rules.specs.Refusals.{columns, client}
 use Rattle.rules.proofs.ClientLaws.{client-same, client-other, columns-with, length-with}
+use Rattle.rules.specs.Refusals.{shape}
 use Rattle.rules.specs.Steps.{nowAt, storeBack}
 use Rattle.revisions.proofs.NodeRows.{AllRows}
 use Rattle.machine.proofs.Sums.{In, upd, upd-same, upd-other}
@@ -30,19 +32,19 @@ use Rattle.refinement.proofs.ClientPhases.{Left}
 use Rattle.refinement.proofs.MemoryReads.{records-with, length-with-records, count-records}
 use Rattle.refinement.proofs.MemoryReads.{store-with, length-with-store, count-nodes, answers-with, length-with-answers, count-answers}
 
--- the memories n stand for s; they fit, and have the columns of m
+-- the memories n stand for s; they fit, and have the shape of m
 pub record After (m n : Mem) (s : State) : Type 0 where
   pub state : stateOf n ≡ s
   pub fits : Fits n
-  pub same : columns n ≡ columns m
+  pub same : shape n ≡ shape m
 
 -- what a call left: a step of the machine
 pub record Simulated (m : Mem) (c : Call) (x : StepResult) : Type 0 where
-  pub transition : Transition (stateOf m) c (responseOf (columns m) x) (stateOf (x .mem))
+  pub transition : Transition (stateOf m) c (responseOf (shape m) x) (stateOf (x .mem))
   pub fits : Fits (x .mem)
-  pub same : columns (x .mem) ≡ columns m
+  pub same : shape (x .mem) ≡ shape m
 
-pub simulated : {m n : Mem} {s : State} {c : Call} (o : Outcome) (tray : List ℕ) → After m n s → Transition (stateOf m) c (responseIn (columns m) tray o) s
+pub simulated : {m n : Mem} {s : State} {c : Call} (o : Outcome) (tray : List ℕ) → After m n s → Transition (stateOf m) c (responseIn (shape m) tray o) s
     → Simulated m c (resultWith o n tray)
 unfolding responseOf
 simulated o tray a x = record { transition = rw (a .state) x; fits = a .fits; same = a .same }
@@ -50,17 +52,20 @@ simulated o tray a x = record { transition = rw (a .state) x; fits = a .fits; sa
 pub as-it-was : (m : Mem) → Fits m → After m m (stateOf m)
 as-it-was m f = record { state = refl; fits = f; same = refl }
 
-state-eq : {s t : State} → s .cols ≡ t .cols → s .tab ≡ t .tab → s .store ≡ t .store → s .filed ≡ t .filed → s .clients ≡ t .clients → s ≡ t
-state-eq a b c d e = λ i. record { cols = a i; tab = b i; store = c i; filed = d i; clients = e i }
+state-eq : {s t : State} → s .shape ≡ t .shape → s .tab ≡ t .tab → s .store ≡ t .store → s .filed ≡ t .filed → s .clients ≡ t .clients → s ≡ t
+state-eq a b c d e = λ i. record { shape = a i; tab = b i; store = c i; filed = d i; clients = e i }
 
 -- ---- A client
-module _ (m : Mem) (f : Fits m) (d : ℕ) (h : d < 12) (c : Client) (x : Phase) (l : Left (columns m) c x) where
+module _ (m : Mem) (f : Fits m) (d : ℕ) (h : d < 12) (c : Client) (x : Phase) (l : Left (shape m) c x) where
   room : 8 + d * 157 + 157 ≤ length (m .clients)
   room = let z = f .clients-long in omega arith
 
   now-columns : columns (nowAt m d c) ≡ columns m
-  unfolding columns nowAt
+  unfolding nowAt
   now-columns = columns-with (m .clients) d c (l .wide) room
+
+  now-shape : shape (nowAt m d c) ≡ shape m
+  now-shape = ap shapeOf now-columns
 
   now-same : client (nowAt m d c) d ≡ c
   unfolding client nowAt
@@ -77,7 +82,7 @@ module _ (m : Mem) (f : Fits m) (d : ℕ) (h : d < 12) (c : Client) (x : Phase) 
       (λ q. let z : e ≡ d = eqb-true e d q in rw (z, lt-ltb d maxClients h, now-columns, now-same, l .phase) (sym (upd-same _ d x)))
       (λ q. let z : e ≡ d → ⊥ = eqb-false e d q in rw (now-columns, now-other e z) (sym (upd-other _ d x e z)))
 
-  now-sound : (e : ℕ) → e < maxClients → isBad (columns (nowAt m d c)) (client (nowAt m d c) e) ≡ false
+  now-sound : (e : ℕ) → e < maxClients → isBad narrow (shape (nowAt m d c)) (client (nowAt m d c) e) ≡ false
   now-sound e g =
       byTest (eqb e d)
       (λ q. let z : e ≡ d = eqb-true e d q in rw (z, now-columns, now-same) (l .sound))
@@ -102,15 +107,15 @@ module _ (m : Mem) (f : Fits m) (d : ℕ) (h : d < 12) (c : Client) (x : Phase) 
   pub at-now : After m (nowAt m d c) (at-client (stateOf m) d x)
   unfolding stateOf at-client filedOf nowAt
   at-now = record {
-    state = state-eq now-columns (ap (λ (k : ℕ). recordsIn k (m .table)) now-columns) refl (ap (λ (k : ℕ). map (ansOf k) (answersIn (m .answers))) now-columns) (fun-ext now-client);
+    state = state-eq now-shape (ap (λ (k : ℕ). recordsIn k (m .table)) now-columns) refl (ap (λ (sh : Shape). map (ansOf sh) (answersIn narrow (m .answers))) now-shape) (fun-ext now-client);
     fits = now-fits;
-    same = now-columns;
+    same = now-shape;
   }
 
 -- ---- The nodes
 module _ (m : Mem) (f : Fits m) (t : Store) (r : AllRows (t .nodes)) (most : length (t .nodes) ≤ maxNodes) where
   pub at-store : After m (storeBack m t) (with-store (stateOf m) t)
-  unfolding stateOf with-store filedOf storeBack columns phasesOf client
+  unfolding stateOf with-store filedOf storeBack phasesOf client
   at-store = record {
     state = state-eq refl refl (store-with (m .nodes) (f .nodes-long) (f .nodes) t r most) refl refl;
     fits = record {
@@ -132,7 +137,7 @@ module _ (m : Mem) (f : Fits m) (t : Store) (r : AllRows (t .nodes)) (most : len
 -- ---- The table
 module _ (m : Mem) (f : Fits m) (t : Table) (w : Wide (columns m) t) (most : length t ≤ maxRecords) where
   pub at-table : After m (withTable m (withRecords (columns m) (m .table) t)) (with-tab (stateOf m) t)
-  unfolding stateOf with-tab filedOf columns phasesOf client
+  unfolding stateOf with-tab filedOf phasesOf client
   at-table = record {
     state = state-eq refl (records-with (columns m) (m .table) (f .few) (f .table-long) (f .records) t w most) refl refl refl;
     fits = record {
@@ -152,14 +157,14 @@ module _ (m : Mem) (f : Fits m) (t : Table) (w : Wide (columns m) t) (most : len
   }
 
 -- ---- The filed answers
-module _ (m : Mem) (f : Fits m) (es : List Entry) (w : Wide 152 es) (most : length es ≤ maxAnswers) (all : (e : Entry) → In e es → Kept (columns m) e) where
-  answers-back : answersIn (withAnswers (m .answers) es) ≡ es
+module _ (m : Mem) (f : Fits m) (es : List Entry) (w : Wide 152 es) (most : length es ≤ maxAnswers) (all : (e : Entry) → In e es → Kept (shape m) e) where
+  answers-back : answersIn narrow (withAnswers narrow (m .answers) es) ≡ es
   answers-back = answers-with (m .answers) (f .answers-long) (f .answers) es w most
 
-  pub at-filed : After m (withFiled m (withAnswers (m .answers) es)) (with-filed (stateOf m) (map (ansOf (columns m)) es))
-  unfolding stateOf with-filed filedOf columns phasesOf client
+  pub at-filed : After m (withFiled m (withAnswers narrow (m .answers) es)) (with-filed (stateOf m) (map (ansOf (shape m)) es))
+  unfolding stateOf with-filed filedOf phasesOf client
   at-filed = record {
-    state = state-eq refl refl refl (ap (map (ansOf (columns m))) answers-back) refl;
+    state = state-eq refl refl refl (ap (map (ansOf (shape m))) answers-back) refl;
     fits = record {
       table-long = f .table-long;
       nodes-long = f .nodes-long;
@@ -177,7 +182,7 @@ module _ (m : Mem) (f : Fits m) (es : List Entry) (w : Wide 152 es) (most : leng
   }
 
 -- ---- A client after another change
-pub then-now : {m n : Mem} {s : State} → After m n s → (d : ℕ) → d < 12 → (c : Client) (x : Phase) → Left (columns m) c x → After m (nowAt n d c) (at-client s d x)
+pub then-now : {m n : Mem} {s : State} → After m n s → (d : ℕ) → d < 12 → (c : Client) (x : Phase) → Left (shape m) c x → After m (nowAt n d c) (at-client s d x)
 then-now {m} {n} a d h c x l =
     let b = at-now n (a .fits) d h c x (rw (a .same) l) in
     record { state = b .state ∙ ap (λ (t : State). at-client t d x) (a .state); fits = b .fits; same = b .same ∙ a .same }

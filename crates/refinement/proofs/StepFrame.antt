@@ -13,7 +13,8 @@ use Rattle.laws.proofs.WrittenLaws.{written-read}
 use Rattle.query.specs.Query.{Query, readNode, writeNode, readNodes, writeNodes, readCount, writeCount}
 use Rattle.query.specs.Encoding.{labelWords, queryIn}
 use Rattle.query.proofs.NodeLists.{read-nodes-count, write-nodes-count, read-nodes-at, write-nodes-at}
-use Rattle.rules.specs.Sizes.{maxClients}
+use Rattle.query.specs.Shape.{Shape, narrow}
+use Rattle.rules.specs.Layout.{maxClients}
 use Rattle.rules.specs.declared.Outcome.the-variants.{Answered}
 use Rattle.rules.specs.Table.{Write, target}
 use Rattle.rules.specs.Answers.{Entry, keyIn, lengthIn, listIn}
@@ -22,6 +23,7 @@ use Rattle.rules.specs.Client as rules
 use Rattle.rules.specs.Memory.{Mem, storeIn}
 use Rattle.rules.specs.Refusals.{columns, client}
 use Rattle.rules.specs.Steps as rules-steps
+use Rattle.rules.specs.Refusals.{shape}
 use Rattle.rules.proofs.ClientLaws.{Busy, busy-of, client-wide}
 use Rattle.revisions.proofs.EffectiveRevision.{NoDup}
 use Rattle.machine.proofs.Keys.{Key, readLabels, writeLabels}
@@ -40,57 +42,57 @@ abbrev pub entryAt : Mem → ℕ → Entry
 entryAt m d = entryOf (client m d)
 
 abbrev pub keyAt : Mem → ℕ → Key
-keyAt m d = keyOf (columns m) (entryAt m d)
+keyAt m d = keyOf (shape m) (entryAt m d)
 
 abbrev pub looksAt : Mem → ℕ → ℕ
-looksAt m d = looksOf (columns m) (entryAt m d)
+looksAt m d = looksOf (shape m) (entryAt m d)
 
 abbrev pub notedAt : Mem → ℕ → List ℕ
 notedAt m d = revisionsIn (looksAt m d) (entryAt m d)
 
 -- a write and its number of nodes; the query of either
 abbrev pub wroteAt : Mem → ℕ → Write
-wroteAt m d = writeAt (columns m) (client m d)
+wroteAt m d = writeAt (shape m) (client m d)
 
 abbrev pub writeLabelsAt : Mem → ℕ → ℕ
 writeLabelsAt m d = writeCount (target (wroteAt m d))
 
 abbrev pub askedAt : Mem → ℕ → Query
-askedAt m d = queryAt (columns m) (client m d)
+askedAt m d = queryAt (shape m) (client m d)
 
 -- ---- A desk that is busy
 pub record Going (m : Mem) (d : ℕ) : Type 0 where
   pub fits : Fits m
   pub once : NoDup (storeIn (m .nodes) .nodes)
   pub below : d < 12
-  pub busy : Busy (columns m) (client m d)
+  pub busy : Busy (shape m) (client m d)
   pub wide : length (client m d) ≡ 157
 
 wide-at-client : (m : Mem) → Fits m → (d : ℕ) → d < 12 → length (client m d) ≡ 157
 unfolding client
 wide-at-client m f d h = client-wide (m .clients) d (let z = f .clients-long in omega arith)
 
-pub going : (m : Mem) → Fits m → NoDup (storeIn (m .nodes) .nodes) → (d : ℕ) → d < 12 → isIdle (client m d) ≡ false → Going m d
+pub going : (m : Mem) → Fits m → NoDup (storeIn (m .nodes) .nodes) → (d : ℕ) → d < 12 → isIdle narrow (client m d) ≡ false → Going m d
 going m f once d h e = record {
   fits = f;
   once = once;
   below = h;
-  busy = busy-of (columns m) (client m d) (f .sound d h) e;
+  busy = busy-of (shape m) (client m d) (f .sound d h) e;
   wide = wide-at-client m f d h;
 }
 
-pub client-at : (m : Mem) (d : ℕ) → d < 12 → stateOf m .clients d ≡ phaseOf (columns m) (client m d)
+pub client-at : (m : Mem) (d : ℕ) → d < 12 → stateOf m .clients d ≡ phaseOf (shape m) (client m d)
 unfolding stateOf phasesOf
 client-at m d h = rw (lt-ltb d maxClients h)
 
-pub left-to : {k : ℕ} {t : Client} {x y : Phase} → Left k t x → x ≡ y → Left k t y
+pub left-to : {sh : Shape} {t : Client} {x y : Phase} → Left sh t x → x ≡ y → Left sh t y
 left-to l e = record { sound = l .sound; wide = l .wide; phase = l .phase ∙ e }
 
 -- ---- The nodes of a query
-pub read-node : (k : ℕ) (e : Entry) (i : ℕ) → i < looksOf k e → node (keyOf k e) i ≡ labelWords (readNode (queryIn k (keyIn e)) i)
+pub read-node : (sh : Shape) (e : Entry) (i : ℕ) → i < looksOf sh e → node (keyOf sh e) i ≡ labelWords (readNode (queryIn sh (keyIn e)) i)
 unfolding node readLabels keyOf looksOf readCount
-read-node k e i h =
-    let q : Query = queryIn k (keyIn e) in
+read-node sh e i h =
+    let q : Query = queryIn sh (keyIn e) in
     let n = read-nodes-count q in
     getD-map labelWords (readNodes q) i [] [] (omega arith) ∙ ap labelWords (read-nodes-at q i h)
 
@@ -105,9 +107,9 @@ pub answered-simulated : {m n : Mem} {s : State} {c : Call} (tray l : List ℕ) 
     → Transition (stateOf m) c (answered (record { count = x; numbers = l }) cached) (at-client s d idle) → Simulated m c (rules-steps.answered n tray d x l cached)
 unfolding rules-steps.answered responseIn
 answered-simulated {m} tray l d x cached a h e y =
-    simulated (Answered x cached) (written tray 0 l) (then-now a d h rules.idle idle (idle-left (columns m))) (rw (written-read tray l (x * columns m) e) y)
+    simulated (Answered x cached) (written tray 0 l) (then-now a d h (rules.idle narrow) idle (idle-left (shape m))) (rw (written-read tray l (x * columns m) e) y)
 
 -- an entry's list
-pub length-list : (k : ℕ) (e : Entry) → length e ≡ 152 → lengthIn e * k ≤ 128 → length (listIn k e) ≡ lengthIn e * k
+pub length-list : (sh : Shape) (e : Entry) → length e ≡ 152 → lengthIn e * sh .columns ≤ 128 → length (listIn narrow sh e) ≡ lengthIn e * sh .columns
 unfolding listIn
-length-list k e w h = length-take-le (lengthIn e * k) (drop 24 e) (rw length-drop (omega arith))
+length-list sh e w h = length-take-le (lengthIn e * sh .columns) (drop 24 e) (rw length-drop (omega arith))

@@ -17,10 +17,12 @@ use Rattle.rules.specs.declared.Outcome.the-variants.{Accepted}
 use Rattle.rules.specs.Table.{Table, Write, target, effect, changes, noRoom}
 use Rattle.rules.specs.Nodes.{Words, Store, announced, raised}
 use Rattle.rules.specs.Answers.{keyIn}
-use Rattle.rules.specs.Client.{kind, didChange, foundFull, queryAt, wrote, reads}
+use Rattle.rules.specs.Client.{kind, didChange, foundFull, queryAt, wrote}
+use Rattle.rules.specs.Layout.{reads}
 use Rattle.rules.specs.Client as rules
 use Rattle.rules.specs.Memory.{Mem, recordsIn, storeIn}
-use Rattle.rules.specs.Refusals.{columns, client}
+use Rattle.rules.specs.Refusals.{shape, columns, client}
+use Rattle.query.specs.Shape.{narrow}
 use Rattle.rules.specs.Steps.{storeBack, announceResult, writeTableResult, endOf, raiseResult, writeResult}
 use Rattle.records.proofs.RecordWrites.{of-width, effect-wide, effect-few}
 use Rattle.revisions.proofs.NodeOperations.{AnnouncedOk, announced-ok, RaisedTo, RaisedOk, raised-ok}
@@ -38,11 +40,11 @@ use Rattle.refinement.proofs.StepFrame.{wroteAt, writeLabelsAt, askedAt
 module _ (m : Mem) (tray : List ℕ) (d : ℕ) (g : Going m d) (r : kind (client m d) ≡ reads → ⊥) where
   -- ---- The nodes of the write
   target-is : target (wroteAt m d) ≡ askedAt m d
-  target-is = write-target (columns m) (client m d) (g .busy)
+  target-is = write-target (shape m) (client m d) (g .busy)
 
   length-query : length (askedAt m d) ≡ columns m
   unfolding queryAt
-  length-query = query-in-length (columns m) (keyIn (entryAt m d))
+  length-query = query-in-length (shape m) (keyIn (entryAt m d))
 
   length-target : length (target (wroteAt m d)) ≡ columns m
   length-target = rw target-is length-query
@@ -69,8 +71,8 @@ module _ (m : Mem) (tray : List ℕ) (d : ℕ) (g : Going m d) (r : kind (client
       let y = f .nodes in
       let z = length-writeLabels (wroteAt m d) in
       simulated Accepted tray
-      (then-now (at-store m f t (k .1) (k .2 (omega arith))) d (g .below) _ _ (announced-left (columns m) (client m d) (g .wide) (g .busy) r h))
-      (transition.announced (g .below) (client-at m d (g .below) ∙ announcing-phase (columns m) (client m d) (g .busy) r (omega arith)) (omega arith) (rw e at (k .0)))
+      (then-now (at-store m f t (k .1) (k .2 (omega arith))) d (g .below) _ _ (announced-left (shape m) (client m d) (g .wide) (g .busy) r h))
+      (transition.announced (g .below) (client-at m d (g .below) ∙ announcing-phase (shape m) (client m d) (g .busy) r (omega arith)) (omega arith) (rw e at (k .0)))
 
   -- ---- The table step
   write-table-simulated : stepsAt m d ≡ writeLabelsAt m d
@@ -85,12 +87,12 @@ module _ (m : Mem) (tray : List ℕ) (d : ℕ) (g : Going m d) (r : kind (client
       let z = length-writeLabels w in
       let a = at-table m f (effect w t) (effect-wide (columns m) w t (of-width (columns m) w length-target) (wide-records (columns m) (m .table) (f .few) (f .table-long) (f .records))) (effect-few w t (omega arith)) in
       simulated Accepted tray
-      (then-now a d (g .below) _ _ (wrote-left (columns m) (client m d) (g .wide) (g .busy) r (changes w t) (noRoom w t) e (write-count-least (target w))))
-      (transition.wrote (g .below) (client-at m d (g .below) ∙ announcing-phase (columns m) (client m d) (g .busy) r (omega arith)) (omega arith))
+      (then-now a d (g .below) _ _ (wrote-left (shape m) (client m d) (g .wide) (g .busy) r (changes w t) (noRoom w t) e (write-count-least (target w))))
+      (transition.wrote (g .below) (client-at m d (g .below) ∙ announcing-phase (shape m) (client m d) (g .busy) r (omega arith)) (omega arith))
 
   -- ---- A raise
   -- what the last one returns
-  end-is : responseIn (columns m) tray (endOf (client m d)) ≡ write-end (didChange (client m d)) (foundFull (client m d))
+  end-is : responseIn (shape m) tray (endOf (client m d)) ≡ write-end (didChange (client m d)) (foundFull (client m d))
   unfolding responseIn endOf write-end
   end-is = byTest (foundFull (client m d)) (λ e. rw e) (λ e. rw e)
 
@@ -109,7 +111,7 @@ module _ (m : Mem) (tray : List ℕ) (d : ℕ) (g : Going m d) (r : kind (client
   raised-label h =
       let e = ap writeCount target-is in
       let b = g .busy .going in
-      let o = last-write (columns m) (client m d) r in
+      let o = last-write (shape m) (client m d) r in
       rw (← e) (label-is (stepsAt m d - (writeLabelsAt m d + 1)) (omega arith))
 
   raised-last : {b : Bool} → eqb (stepsAt m d) (writeCount (askedAt m d) + writeCount (askedAt m d)) ≡ b
@@ -128,19 +130,19 @@ module _ (m : Mem) (tray : List ℕ) (d : ℕ) (g : Going m d) (r : kind (client
       let x = eqb-true (stepsAt m d) (writeCount (target w) + writeCount (target w)) l in
       let z = length-writeLabels w in
       let y : transition.Transition (stateOf m) (step d) (write-end (didChange (client m d)) (foundFull (client m d))) (at-client (with-store (stateOf m) t) d idle) =
-      transition.last (g .below) (client-at m d (g .below) ∙ raising-phase (columns m) (client m d) (g .busy) r h) (omega arith) (rw e at (k .0)) in
-      simulated (endOf (client m d)) tray (then-now (raised-after p t k) d (g .below) rules.idle idle (idle-left (columns m))) (rw end-is y)
+      transition.last (g .below) (client-at m d (g .below) ∙ raising-phase (shape m) (client m d) (g .busy) r h) (omega arith) (rw e at (k .0)) in
+      simulated (endOf (client m d)) tray (then-now (raised-after p t k) d (g .below) (rules.idle narrow) idle (idle-left (shape m))) (rw end-is y)
   raise-simulated p (some t) false e h l k =
       let w : Write = wroteAt m d in
       let x = eqb-false (stepsAt m d) (writeCount (target w) + writeCount (target w)) l in
       let z = length-writeLabels w in
       let b = g .busy .going in
-      let o = last-write (columns m) (client m d) r in
+      let o = last-write (shape m) (client m d) r in
       let n = ap writeCount target-is in
       let j : suc (stepsAt m d - (writeCount (target w) + 1)) < writeCount (target w) = omega arith in
       simulated Accepted tray
-      (then-now (raised-after p t k) d (g .below) _ _ (raised-left (columns m) (client m d) (g .wide) (g .busy) r h j))
-      (transition.raised (g .below) (client-at m d (g .below) ∙ raising-phase (columns m) (client m d) (g .busy) r h) (omega arith) (rw e at (k .0)))
+      (then-now (raised-after p t k) d (g .below) _ _ (raised-left (shape m) (client m d) (g .wide) (g .busy) r h j))
+      (transition.raised (g .below) (client-at m d (g .below) ∙ raising-phase (shape m) (client m d) (g .busy) r h) (omega arith) (rw e at (k .0)))
 
   -- ---- A step of a write
   pub write-simulated : Simulated m (step d) (writeResult m tray d (wroteAt m d) (askedAt m d) (stepsAt m d))
@@ -153,7 +155,7 @@ module _ (m : Mem) (tray : List ℕ) (d : ℕ) (g : Going m d) (r : kind (client
       let i : ℕ = stepsAt m d in
       let e = ap writeCount target-is in
       let b = g .busy .going in
-      let o = last-write (columns m) (client m d) r in
+      let o = last-write (shape m) (client m d) r in
       byTest (ltb i n)
       (λ t. let z = ltb-true i n t in rw t (announce-simulated _ _ (label-is i (omega arith)) (omega arith) (announced-ok _ (storeIn (m .nodes)) (five i) (g .once) rows)))
       (λ t. let z = ltb-false i n t in rw t (byTest (eqb i n)

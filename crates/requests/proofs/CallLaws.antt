@@ -23,6 +23,7 @@ use Rattle.rules.specs.Refusals.{columns, beginCode, evictAnswerCode, evictNode
 use Rattle.rules.specs.Steps.{nowAt, storeBack}
 use Rattle.rules.specs.Calls.{unless, beginResult, evictAnswerResult, evictNodeResult, renewResult}
 use Rattle.clients.specs.ClientContracts.{begunWith}
+use Rattle.query.specs.Shape.{narrow}
 use Rattle.rules.proofs.PassedChecks.{Begins}
 
 -- ---- The key of a query as it arrives
@@ -55,12 +56,12 @@ module _ (m : Mem) (code n : ℕ) (e : n ≡ code) (x : Result) where
   done h = let z : eqb code 0 ≡ true = eq-eqb _ _ (sym e ∙ h) in rw z
 
 module _ (m : Mem) (n : ℕ) where
-  pub begins : (x d : ℕ) (a s key : List ℕ) → n ≡ beginCode m x d a → n ≡ 0 → s ≡ withClient (m .clients) d (begunWith x key) → key ≡ keyWords (queryOf a)
+  pub begins : (x d : ℕ) (a s key : List ℕ) → n ≡ beginCode m x d a → n ≡ 0 → s ≡ withClient narrow (m .clients) d (begunWith x key) → key ≡ keyWords (queryOf a)
       → result Accepted (mem (m .table) (m .nodes) (m .answers) s) ≡ beginResult m x d a
   unfolding beginResult nowAt begun begunWith
   begins x d a s key e h f g = rw (f, g) (done m (beginCode m x d a) n e _ h)
 
-  pub answer-goes : (i : ℕ) (s : List ℕ) → n ≡ evictAnswerCode m i → n ≡ 0 → s ≡ withAnswers (m .answers) (without i (answersIn (m .answers)))
+  pub answer-goes : (i : ℕ) (s : List ℕ) → n ≡ evictAnswerCode m i → n ≡ 0 → s ≡ withAnswers narrow (m .answers) (without i (answersIn narrow (m .answers)))
       → result Accepted (mem (m .table) (m .nodes) s (m .clients)) ≡ evictAnswerResult m i
   unfolding evictAnswerResult
   answer-goes i s e h f = rw f (done m (evictAnswerCode m i) n e _ h)
@@ -70,7 +71,7 @@ module _ (m : Mem) (n : ℕ) where
   unfolding evictNodeResult storeBack
   node-goes i s e h f = rw f (done m (evictNodeCode m i) n e _ h)
 
-  pub renews : (s t : List ℕ) → n ≡ renewCode m → n ≡ 0 → s ≡ withStore (m .nodes) (store 1 []) → t ≡ withAnswers (m .answers) []
+  pub renews : (s t : List ℕ) → n ≡ renewCode m → n ≡ 0 → s ≡ withStore (m .nodes) (store 1 []) → t ≡ withAnswers narrow (m .answers) []
       → result Accepted (mem (m .table) s t (m .clients)) ≡ renewResult m
   unfolding renewResult renewed
   renews s t e h f g = rw (f, g) (done m (renewCode m) n e _ h)

@@ -12,8 +12,9 @@ use borrow.Author.Tests.{ltb-true, ltb-false}
 use Rattle.laws.proofs.ListLaws.{same-refl}
 use Rattle.laws.proofs.TestLaws.{byTest, cond-same}
 use Rattle.lists.specs.Lists.{same}
-use Rattle.rules.specs.Sizes.{maxNodes, maxPending, maxRevision}
+use Rattle.rules.specs.Layout.{maxNodes, maxPending, maxRevision}
 use Rattle.rules.specs.Nodes.{Words, Node, Store, labelIn, pending, revision, withPending, withRevision, nodePlace, oldestFree}
+use Rattle.query.specs.Shape.{narrow}
 use Rattle.rules.specs.Nodes.{isPresent, nodeOf, withNode, evictNode, added, makeRoom, addedIn, ensured, announcedIn, announced, isPending, released, raised, releasedAll}
 use Rattle.revisions.proofs.LabelTests.{by-same}
 use Rattle.revisions.proofs.EffectiveRevision.{has, effectiveIn, NoDup, effective, pendingOf, one, tally, lifts, Grew, Announced, Raised}
@@ -305,7 +306,7 @@ released-ok p s d r l =
 
 -- *raise*; none: the node is missing, or has no pending write, or its revision is at its largest
 abbrev pub RaisedOk : Words → Store → Option Store → Type 0
-RaisedOk p s none = (has (s .nodes) p ≡ false) ⊎ ((pendingOf s p ≡ 0) ⊎ (maxRevision ≤ effective s p))
+RaisedOk p s none = (has (s .nodes) p ≡ false) ⊎ ((pendingOf s p ≡ 0) ⊎ (maxRevision narrow ≤ effective s p))
 RaisedOk p s (some t) = RaisedTo true (p ∷ []) s t
 
 lifted-ok : (p : Words) (s : Store) → NoDup (s .nodes) → AllRows (s .nodes) → has (s .nodes) p ≡ true → 0 < pendingOf s p
@@ -327,15 +328,15 @@ lifted-ok p s d r h l =
     )
 
 raised-here : (p : Words) (s : Store) → NoDup (s .nodes) → AllRows (s .nodes) → has (s .nodes) p ≡ true → RaisedOk p s
-    (cond (ltb 0 (pendingOf s p) && ltb (effective s p) maxRevision) (some (released p (withNode p (withRevision (nodeOf p s) (effective s p + 1)) s))) none)
+    (cond (ltb 0 (pendingOf s p) && ltb (effective s p) (maxRevision narrow)) (some (released p (withNode p (withRevision (nodeOf p s) (effective s p + 1)) s))) none)
 raised-here p s d r h =
     byTest (ltb 0 (pendingOf s p))
-    (λ a. byTest (ltb (effective s p) maxRevision)
+    (λ a. byTest (ltb (effective s p) (maxRevision narrow))
     (λ b. rw (a, b) (lifted-ok p s d r h (ltb-true 0 (pendingOf s p) a)))
     (λ b. rw (a, b) (inr (inr (ltb-false _ _ b)))))
     (λ a. rw a (inr (inl (let z = ltb-false 0 (pendingOf s p) a in omega arith))))
 
-pub raised-ok : (p : Words) (s : Store) → NoDup (s .nodes) → AllRows (s .nodes) → RaisedOk p s (raised p s)
+pub raised-ok : (p : Words) (s : Store) → NoDup (s .nodes) → AllRows (s .nodes) → RaisedOk p s (raised narrow p s)
 unfolding raised
 raised-ok p s d r =
     byTest (has (s .nodes) p)

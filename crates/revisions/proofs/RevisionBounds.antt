@@ -11,8 +11,9 @@ use lib.ListN.{length, getD, set}
 use borrow.Author.Tests.{ltb-false}
 use Rattle.laws.proofs.TestLaws.{or-false-l, or-false-r, byTest}
 use Rattle.lists.specs.Lists.{same, without}
-use Rattle.rules.specs.Sizes.{maxNodes, maxPending, maxRevision, wornAbove}
+use Rattle.rules.specs.Layout.{maxNodes, maxPending, maxRevision, wornAbove}
 use Rattle.rules.specs.Nodes.{Words, Node, Store, labelIn, pending, revision, withPending, withRevision, nodePlace, oldestFree, isHigh, isWorn}
+use Rattle.query.specs.Shape.{narrow, Shape}
 use Rattle.rules.specs.Nodes.{isPresent, nodeOf, withNode, evictNode, added, makeRoom, addedIn, ensured, announcedIn, announced, isPending, released, raised, releasedAll}
 use Rattle.revisions.proofs.EffectiveRevision.{effectiveIn, effective}
 use Rattle.revisions.proofs.NodeRows.{Each, each-set, each-added, each-map, place-none, fresh-revision, pending-revision}
@@ -43,12 +44,12 @@ unfolding Below effective
 below-effective b s p h = effective-in-low b (s .nodes) (s .floor) p (h .0) (h .1)
 
 -- nodes that are not worn
-pub worn-below : (s : Store) → isWorn s ≡ false → Below wornAbove s
+pub worn-below : (sh : Shape) (s : Store) → isWorn narrow sh s ≡ false → Below (wornAbove narrow sh) s
 unfolding isWorn isHigh Below
-worn-below s h = (
-  ltb-false wornAbove (s .floor) (or-false-l (ltb wornAbove (s .floor)) _ h),
-  each-map (λ n e. ltb-false wornAbove (revision n) e) (s .nodes)
-      (place-none isHigh (s .nodes) (ltb-false _ _ (or-false-r (ltb wornAbove (s .floor)) _ h))),
+worn-below sh s h = (
+  ltb-false (wornAbove narrow sh) (s .floor) (or-false-l (ltb (wornAbove narrow sh) (s .floor)) _ h),
+  each-map (λ n e. ltb-false (wornAbove narrow sh) (revision n) e) (s .nodes)
+      (place-none (isHigh narrow sh) (s .nodes) (ltb-false _ _ (or-false-r (ltb (wornAbove narrow sh) (s .floor)) _ h))),
 )
 
 -- the node at a place, past the end too
@@ -132,9 +133,9 @@ lifted-low : (b : ℕ) (n : Node) → Low b n → Low (b + 1) (withRevision n (r
 unfolding withRevision revision
 lifted-low b n h = set-most (b + 1) n 6 _ (omega arith) (omega arith)
 
-pub raised-bound : (b : ℕ) (p : Words) (s : Store) → Below b s → BelowIn (b + 1) (raised p s)
+pub raised-bound : (b : ℕ) (p : Words) (s : Store) → Below b s → BelowIn (b + 1) (raised narrow p s)
 unfolding raised
 raised-bound b p s h =
-    byTest (isPending p s && ltb (revision (nodeOf p s)) maxRevision)
+    byTest (isPending p s && ltb (revision (nodeOf p s)) (maxRevision narrow))
     (λ e. rw e (released-bound (b + 1) p _ (stored-below (b + 1) p _ s (lifted-low b (nodeOf p s) (node-below b p s h)) (below-more s (omega arith) h))))
     (λ e. rw e tt)

@@ -17,10 +17,11 @@ use Rattle.rules.specs.Table.{listOf, has, putIn, target, isFull, outsid
 use Rattle.rules.specs.Nodes.{labelIn, pending, revision, withPending, withRevision, hasLabel, nodePlace, isPresent, nodeOf, withNode, evictNode, added, isFree, oldestFree, makeRoom, addedIn, ensured, announcedIn, announced, isPending, released, raised, releasedAll, isHigh, isWorn}
 use Rattle.rules.specs.Answers.{keyIn, lengthIn, revisionIn, listIn, hasKeyOf, atLeast, serves, fetchPlace, keyPlace, filed, isLong, someLong}
 use Rattle.rules.specs.Client.{kind, steps, sawPending, didChange, foundFull, entryOf, idle, isIdle, begun, queryAt, writeAt, stepsInAll, isBad, stepped, flag, noted, holding, wrote}
-use Rattle.rules.specs.Memory.{Mem, mem, withTable, withNodes, recordsIn, withRecords, storeIn, withStore, answersIn, withAnswers, columnsAt, clientIn, withClient, cleared, opened, renewed}
+use Rattle.rules.specs.Memory.{Mem, mem, withTable, withNodes, recordsIn, withRecords, storeIn, withStore, answersIn, withAnswers, clientIn, withClient, cleared, opened, renewed}
 use Rattle.rules.specs.Refusals.{columns, client, isShort, badColumns, badQuery, isUnsound, noClient, isCommitted, allIdle, openCode, beginCode, atClient, stepCode, abandonCode, evictAnswerCode, evictNodeCode, renewCode}
 use Rattle.rules.specs.Steps.{nowAt, storeBack, answered, lookResult, fetchResult, tableResult, fileResult, readResult, announceResult, writeTableResult, endOf, raiseResult, writeResult, progress}
 use Rattle.rules.specs.Calls.{unless, openResult, beginResult, stepResult, takenBack, announcedLabels, abandoned, abandonResult, evictAnswerResult, evictNodeResult, renewResult}
+use Rattle.query.specs.Shape.{narrow}
 use Rattle.rules.specs.History.{Call, beginRead, beginInsert, step, evictNode as dropNode, untrayed, callResult}
 
 -- memories that held other numbers, as an opening with k columns leaves them
@@ -107,9 +108,9 @@ pub data Line : Type 0 where
 abbrev plays : Mem → List Line → Bool
 plays m [] = true
 plays m (does c x ∷ ls) = let r = callResult m c in meets x (r .out) (r .tray) && plays (r .mem) ls
-plays m (noted-at d l ∷ ls) = same (take (length l) (drop 13 (clientIn (m .clients) d))) l && plays m ls
-plays m (filed-under i l ∷ ls) = same (take (length l) (drop 8 (getD (answersIn (m .answers)) i []))) l && plays m ls
-plays m (filed-count n ∷ ls) = eqb (length (answersIn (m .answers))) n && plays m ls
+plays m (noted-at d l ∷ ls) = same (take (length l) (drop 13 (clientIn narrow (m .clients) d))) l && plays m ls
+plays m (filed-under i l ∷ ls) = same (take (length l) (drop 8 (getD (answersIn narrow (m .answers)) i []))) l && plays m ls
+plays m (filed-count n ∷ ls) = eqb (length (answersIn narrow (m .answers))) n && plays m ls
 plays m (table-count n ∷ ls) = eqb (length (recordsIn 1 (m .table))) n && plays m ls
 plays m (node-is i p x ∷ ls) =
     let n = getD (storeIn (m .nodes) .nodes) i [] in
@@ -214,5 +215,5 @@ cases =
     ++ (case-6 ∷ case-7 ∷ case-8 ∷ case-9 ∷ case-10-at ∷ case-10-above ∷ case-11 ∷ case-12-at ∷ case-12-above ∷ case-12-floor)
 
 pub cases-1-to-12 : T (all cases)
-unfolding readNodes writeNodes sheetEntry turned looks starsOf starsIn same keep place without allBelow listed padded written rows flat entriesIn withEntries admits lies naming pick readNode writeNode named readCount writeCount columnOf queryOf wellMarked isQuery namesAll recordOf termValue columnValue tag tags labelWords marks keyWords columnsIn queryIn isKey listOf before has putIn target isFull outside effect noRoom changes labelIn pending revision withPending withRevision hasLabel nodePlace isPresent nodeOf withNode evictNode added isFree oldestFree makeRoom addedIn ensured announcedIn announced isPending released raised releasedAll isHigh isWorn keyIn lengthIn revisionIn listIn hasKeyOf atLeast serves fetchPlace keyPlace filed isLong someLong kind steps sawPending didChange foundFull entryOf idle isIdle begun queryAt writeAt stepsInAll isBad stepped flag noted holding wrote recordsIn withRecords storeIn withStore answersIn withAnswers columnsAt clientIn withClient cleared opened renewed columns client isShort badColumns badQuery isUnsound noClient isCommitted allIdle openCode beginCode atClient stepCode abandonCode evictAnswerCode evictNodeCode renewCode nowAt storeBack answered lookResult fetchResult tableResult fileResult readResult announceResult writeTableResult endOf raiseResult writeResult progress unless openResult beginResult stepResult takenBack announcedLabels abandoned abandonResult evictAnswerResult evictNodeResult renewResult untrayed callResult
+unfolding readNodes writeNodes sheetEntry turned looks starsOf starsIn same keep place without allBelow listed padded written rows flat entriesIn withEntries admits lies naming pick readNode writeNode named readCount writeCount columnOf queryOf wellMarked isQuery namesAll recordOf termValue columnValue tag tags labelWords marks keyWords columnsIn queryIn isKey listOf before has putIn target isFull outside effect noRoom changes labelIn pending revision withPending withRevision hasLabel nodePlace isPresent nodeOf withNode evictNode added isFree oldestFree makeRoom addedIn ensured announcedIn announced isPending released raised releasedAll isHigh isWorn keyIn lengthIn revisionIn listIn hasKeyOf atLeast serves fetchPlace keyPlace filed isLong someLong kind steps sawPending didChange foundFull entryOf idle isIdle begun queryAt writeAt stepsInAll isBad stepped flag noted holding wrote recordsIn withRecords storeIn withStore answersIn withAnswers clientIn withClient cleared opened renewed columns client isShort badColumns badQuery isUnsound noClient isCommitted allIdle openCode beginCode atClient stepCode abandonCode evictAnswerCode evictNodeCode renewCode nowAt storeBack answered lookResult fetchResult tableResult fileResult readResult announceResult writeTableResult endOf raiseResult writeResult progress unless openResult beginResult stepResult takenBack announcedLabels abandoned abandonResult evictAnswerResult evictNodeResult renewResult untrayed callResult
 cases-1-to-12 = tt

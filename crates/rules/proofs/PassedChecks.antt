@@ -12,52 +12,55 @@ use Rattle.laws.proofs.ListLaws.{below-at}
 use Rattle.laws.proofs.TestLaws.{or-false, passed}
 use Rattle.query.specs.Query.{writeCount}
 use Rattle.query.specs.Encoding.{queryOf, isQuery, namesAll}
-use Rattle.rules.specs.Sizes.{maxRecords, maxNodes, maxAnswers, maxClients, tableLeast, nodesLeast, answersLeast, clientsLeast, trayLeast}
+use Rattle.rules.specs.Layout.{recordCountOffset, nodeCountOffset, answerCountOffset, maxRecords, maxNodes, maxAnswers, maxClients, tableLeast, nodesLeast, answersLeast, clientsLeast, trayLeast}
 use Rattle.rules.specs.Nodes.{isWorn, pending}
 use Rattle.rules.specs.Answers.{someLong}
-use Rattle.rules.specs.Client.{kind, steps, isIdle, isBad, queryAt, reads, inserts}
+use Rattle.rules.specs.Client.{kind, steps, isIdle, isBad, queryAt}
+use Rattle.rules.specs.Layout.{reads, inserts}
 use Rattle.rules.specs.Memory.{Mem, storeIn, answersIn}
+use Rattle.query.specs.Shape.{Shape, narrow, shapeOf, maxColumns}
+use Rattle.rules.specs.Refusals.{shape}
 use Rattle.rules.specs.Refusals.{columns, client, isShort, badColumns, badQuery, isUnsound, noClient, isCommitted, allIdle, openCode, atClient, beginCode, stepCode, abandonCode, evictAnswerCode, evictNodeCode, renewCode}
 
 -- ---- Memories that are long
 pub record Long (m : Mem) : Type 0 where
   pub table : tableLeast ≤ length (m .table)
-  pub nodes : nodesLeast ≤ length (m .nodes)
-  pub answers : answersLeast ≤ length (m .answers)
-  pub clients : clientsLeast ≤ length (m .clients)
+  pub nodes : nodesLeast narrow ≤ length (m .nodes)
+  pub answers : answersLeast narrow (shape m) ≤ length (m .answers)
+  pub clients : clientsLeast narrow (shape m) ≤ length (m .clients)
 
-pub long : (m : Mem) → isShort m ≡ false → Long m
+pub long : (sh : Shape) (m : Mem) → isShort narrow sh m ≡ false → Long m
 unfolding isShort
-long m e =
+long sh m e =
     let a = or-false _ _ e in
     let b = or-false _ _ (a .1) in
     let c = or-false _ _ (b .1) in
     record { table = ltb-false _ _ (a .0); nodes = ltb-false _ _ (b .0); answers = ltb-false _ _ (c .0); clients = ltb-false _ _ (c .1) }
 
-columns-passed : (k : ℕ) → badColumns k ≡ false → (1 ≤ k) × (k ≤ 4)
+columns-passed : (k : ℕ) → badColumns k ≡ false → (1 ≤ k) × (k ≤ maxColumns)
 unfolding badColumns
 columns-passed k e =
     let a = or-false _ _ e in
     let n = eqb-false k 0 (a .0) in
-    (omega arith, ltb-false 4 k (a .1))
+    (omega arith, ltb-false maxColumns k (a .1))
 
-pub open-passed : (m : Mem) (k : ℕ) → openCode m k ≡ 0 → Long m × ((1 ≤ k) × (k ≤ 4))
+pub open-passed : (m : Mem) (k : ℕ) → openCode m k ≡ 0 → Long m × ((1 ≤ k) × (k ≤ maxColumns))
 unfolding openCode
 open-passed m k e =
-    let p = passed (isShort m) 0 _ e in
-    (long m (p .0), columns-passed k (passed (badColumns k) 1 0 (p .1) .0))
+    let p = passed (isShort narrow (shapeOf k) m) 0 _ e in
+    (long (shapeOf k) m (p .0), columns-passed k (passed (badColumns k) 1 0 (p .1) .0))
 
 -- ---- And sound
 pub record Sound (m : Mem) : Type 0 where
   pub long : Long m
   pub least : 1 ≤ columns m
-  pub most : columns m ≤ 4
-  pub records : getD (m .table) 0 0 ≤ maxRecords
-  pub nodes : getD (m .nodes) 1 0 ≤ maxNodes
-  pub answers : getD (m .answers) 0 0 ≤ maxAnswers
-  pub lists : someLong (answersIn (m .answers)) ≡ false
+  pub most : columns m ≤ maxColumns
+  pub records : getD (m .table) recordCountOffset 0 ≤ maxRecords
+  pub nodes : getD (m .nodes) nodeCountOffset 0 ≤ maxNodes
+  pub answers : getD (m .answers) answerCountOffset 0 ≤ maxAnswers
+  pub lists : someLong (answersIn narrow (m .answers)) ≡ false
 
-pub sound : (m : Mem) → isShort m ≡ false → isUnsound m ≡ false → Sound m
+pub sound : (m : Mem) → isShort narrow (shape m) m ≡ false → isUnsound m ≡ false → Sound m
 unfolding isUnsound
 sound m s e =
     let a = or-false _ _ e in
@@ -66,7 +69,7 @@ sound m s e =
     let d = or-false _ _ (c .1) in
     let k = columns-passed (columns m) (a .0) in
     record {
-      long = long m s;
+      long = long (shape m) m s;
       least = k .0;
       most = k .1;
       records = ltb-false _ _ (b .0);
@@ -79,24 +82,24 @@ sound m s e =
 pub record Busy (m : Mem) (d : ℕ) : Type 0 where
   pub memories : Sound m
   pub below : d < 12
-  pub fine : isBad (columns m) (client m d) ≡ false
-  pub busy : isIdle (client m d) ≡ false
+  pub fine : isBad narrow (shape m) (client m d) ≡ false
+  pub busy : isIdle narrow (client m d) ≡ false
 
 client-passed : (d : ℕ) → noClient d ≡ false → d < 12
 unfolding noClient
 client-passed d e = leb-false _ _ e
 
-pub busy-passed : (m : Mem) (d : ℕ) → isShort m ≡ false → atClient m d ≡ 0 → Busy m d
+pub busy-passed : (m : Mem) (d : ℕ) → isShort narrow (shape m) m ≡ false → atClient m d ≡ 0 → Busy m d
 unfolding atClient
 busy-passed m d s e =
     let p3 = passed (isUnsound m) 2 _ e in
     let p4 = passed (noClient d) 3 _ (p3 .1) in
-    let p5 = passed (isBad (columns m) (client m d)) 2 _ (p4 .1) in
-    let p6 = passed (isIdle (client m d)) 5 0 (p5 .1) in
+    let p5 = passed (isBad narrow (shape m) (client m d)) 2 _ (p4 .1) in
+    let p6 = passed (isIdle narrow (client m d)) 5 0 (p5 .1) in
     record { memories = sound m s (p3 .0); below = client-passed d (p4 .0); fine = p5 .0; busy = p6 .0 }
 
 -- an idle client is found in sound memories alone
-pub idle-passed : (m : Mem) (d : ℕ) → isShort m ≡ false → atClient m d ≡ 6 → Sound m
+pub idle-passed : (m : Mem) (d : ℕ) → isShort narrow (shape m) m ≡ false → atClient m d ≡ 6 → Sound m
 unfolding atClient
 idle-passed m d s e = sound m s (go (isUnsound m) _ e)
   where
@@ -108,7 +111,7 @@ idle-passed m d s e = sound m s (go (isUnsound m) _ e)
 pub step-passed : (m : Mem) (tray : List ℕ) (d : ℕ) → stepCode m tray d ≡ 0 → (trayLeast ≤ length tray) × Busy m d
 unfolding stepCode
 step-passed m tray d e =
-    let p = passed (isShort m || ltb (length tray) trayLeast) 0 _ e in
+    let p = passed (isShort narrow (shape m) m || ltb (length tray) trayLeast) 0 _ e in
     let q = or-false _ _ (p .0) in
     (ltb-false _ _ (q .1), busy-passed m d (q .0) (p .1))
 
@@ -120,33 +123,33 @@ code-passed n rest e = go (eqb n 0) refl e
     go true q f = (eqb-true n 0 q, f)
     go false q f = absurd (eqb-false n 0 q f)
 
-pub abandon-passed : (m : Mem) (d : ℕ) → abandonCode m d ≡ 0 → Busy m d × (isCommitted (columns m) (client m d) ≡ false)
+pub abandon-passed : (m : Mem) (d : ℕ) → abandonCode m d ≡ 0 → Busy m d × (isCommitted (shape m) (client m d) ≡ false)
 unfolding abandonCode
 abandon-passed m d e =
-    let p = passed (isShort m) 0 _ e in
+    let p = passed (isShort narrow (shape m) m) 0 _ e in
     let q = code-passed (atClient m d) _ (p .1) in
-    (busy-passed m d (p .0) (q .0), passed (isCommitted (columns m) (client m d)) 6 0 (q .1) .0)
+    (busy-passed m d (p .0) (q .0), passed (isCommitted (shape m) (client m d)) 6 0 (q .1) .0)
 
 -- a write that is not committed has made no more steps than it has nodes to mark
-pub steps-before : (m : Mem) (d : ℕ) → isCommitted (columns m) (client m d) ≡ false → (kind (client m d) ≡ reads → ⊥)
-    → steps (client m d) ≤ writeCount (queryAt (columns m) (client m d))
+pub steps-before : (m : Mem) (d : ℕ) → isCommitted (shape m) (client m d) ≡ false → (kind (client m d) ≡ reads → ⊥)
+    → steps (client m d) ≤ writeCount (queryAt (shape m) (client m d))
 unfolding isCommitted
 steps-before m d e ne = ltb-false _ _ (rw (ne-eqb (kind (client m d)) reads ne) at e)
 
 -- ---- Begins
 pub record Begins (m : Mem) (x d : ℕ) (a : List ℕ) : Type 0 where
   pub memories : Sound m
-  pub query : isQuery (columns m) a ≡ true
+  pub query : isQuery (shape m) a ≡ true
   pub names : x ≡ inserts → namesAll (queryOf a) ≡ true
   pub below : d < 12
-  pub rests : isIdle (client m d) ≡ true
-  pub fresh : (x ≡ reads → ⊥) → isWorn (storeIn (m .nodes)) ≡ false
+  pub rests : isIdle narrow (client m d) ≡ true
+  pub fresh : (x ≡ reads → ⊥) → isWorn narrow (shape m) (storeIn (m .nodes)) ≡ false
 
 -- of two tests that do not both pass, where the first does
 and-rest : (a b : Bool) → a && b ≡ false → a ≡ true → b ≡ false
 and-rest a b e h = rw h at e
 
-query-passed : (k x : ℕ) (a : List ℕ) → badQuery k x a ≡ false → (isQuery k a ≡ true) × (x ≡ inserts → namesAll (queryOf a) ≡ true)
+query-passed : (k x : ℕ) (a : List ℕ) → badQuery (shapeOf k) x a ≡ false → (isQuery (shapeOf k) a ≡ true) × (x ≡ inserts → namesAll (queryOf a) ≡ true)
 unfolding badQuery
 query-passed k x a e =
     let p = or-false _ _ e in
@@ -155,13 +158,13 @@ query-passed k x a e =
 pub begin-passed : (m : Mem) (x d : ℕ) (a : List ℕ) → beginCode m x d a ≡ 0 → Begins m x d a
 unfolding beginCode
 begin-passed m x d a e =
-    let p1 = passed (isShort m) 0 _ e in
-    let p2 = passed (badQuery (columns m) x a) 1 _ (p1 .1) in
+    let p1 = passed (isShort narrow (shape m) m) 0 _ e in
+    let p2 = passed (badQuery (shape m) x a) 1 _ (p1 .1) in
     let p3 = passed (isUnsound m) 2 _ (p2 .1) in
     let p4 = passed (noClient d) 3 _ (p3 .1) in
-    let p5 = passed (isBad (columns m) (client m d)) 2 _ (p4 .1) in
-    let p6 = passed (not (isIdle (client m d))) 4 _ (p5 .1) in
-    let p7 = passed (not (eqb x reads) && isWorn (storeIn (m .nodes))) 9 0 (p6 .1) in
+    let p5 = passed (isBad narrow (shape m) (client m d)) 2 _ (p4 .1) in
+    let p6 = passed (not (isIdle narrow (client m d))) 4 _ (p5 .1) in
+    let p7 = passed (not (eqb x reads) && isWorn narrow (shape m) (storeIn (m .nodes))) 9 0 (p6 .1) in
     let q = query-passed (columns m) x a (p2 .0) in
     record {
       memories = sound m (p1 .0) (p3 .0);
@@ -173,29 +176,29 @@ begin-passed m x d a e =
     }
 
 -- ---- Evictions and renewals
-sound-passed : (m : Mem) (rest : ℕ) → cond (isShort m) 1 (cond (isUnsound m) 3 rest) ≡ 0 → Sound m × (rest ≡ 0)
+sound-passed : (m : Mem) (rest : ℕ) → cond (isShort narrow (shape m) m) 1 (cond (isUnsound m) 3 rest) ≡ 0 → Sound m × (rest ≡ 0)
 sound-passed m rest e =
-    let p = passed (isShort m) 0 _ e in
+    let p = passed (isShort narrow (shape m) m) 0 _ e in
     let q = passed (isUnsound m) 2 _ (p .1) in
     (sound m (p .0) (q .0), q .1)
 
-pub evict-answer-passed : (m : Mem) (i : ℕ) → evictAnswerCode m i ≡ 0 → Sound m × (i < getD (m .answers) 0 0)
+pub evict-answer-passed : (m : Mem) (i : ℕ) → evictAnswerCode m i ≡ 0 → Sound m × (i < getD (m .answers) answerCountOffset 0)
 unfolding evictAnswerCode
 evict-answer-passed m i e =
     let p = sound-passed m _ e in
-    (p .0, leb-false _ _ (passed (leb (getD (m .answers) 0 0) i) 7 0 (p .1) .0))
+    (p .0, leb-false _ _ (passed (leb (getD (m .answers) answerCountOffset 0) i) 7 0 (p .1) .0))
 
 pub evict-node-passed : (m : Mem) (i : ℕ) → evictNodeCode m i ≡ 0
-    → Sound m × (i < getD (m .nodes) 1 0) × (pending (getD (storeIn (m .nodes) .nodes) i []) ≡ 0)
+    → Sound m × (i < getD (m .nodes) nodeCountOffset 0) × (pending (getD (storeIn (m .nodes) .nodes) i []) ≡ 0)
 unfolding evictNodeCode
 evict-node-passed m i e =
     let p = sound-passed m _ e in
-    let r = passed (leb (getD (m .nodes) 1 0) i) 7 _ (p .1) in
+    let r = passed (leb (getD (m .nodes) nodeCountOffset 0) i) 7 _ (p .1) in
     let s = ltb-false 0 (pending (getD (storeIn (m .nodes) .nodes) i [])) (passed (ltb 0 (pending (getD (storeIn (m .nodes) .nodes) i []))) 8 0 (r .1) .0) in
     (p .0, leb-false _ _ (r .0), omega arith)
 
-pub renew-passed : (m : Mem) → renewCode m ≡ 0 → Sound m × ((d : ℕ) → d < 12 → isIdle (client m d) ≡ true)
+pub renew-passed : (m : Mem) → renewCode m ≡ 0 → Sound m × ((d : ℕ) → d < 12 → isIdle narrow (client m d) ≡ true)
 unfolding renewCode allIdle
 renew-passed m e =
     let p = sound-passed m _ e in
-    (p .0, λ d h. below-at maxClients (λ d. isIdle (client m d)) d (not-false _ (passed (not (allIdle m)) 10 0 (p .1) .0)) h)
+    (p .0, λ d h. below-at maxClients (λ d. isIdle narrow (client m d)) d (not-false _ (passed (not (allIdle m)) 10 0 (p .1) .0)) h)

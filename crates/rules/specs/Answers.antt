@@ -1,43 +1,46 @@
 -- Document 01, "One desk, step by step": the filed answers, fetch and file. A filed answer is a cache entry: it is kept as its
--- 152 numbers (docs/LAYOUT.md). Leans on lists. Definitions only. Assumes nothing.
+-- numbers (docs/LAYOUT.md). Leans on lists and Layout. Definitions only. Assumes nothing.
 use mathlib.Core.Bool.{Bool, cond, _&&_}
 use mathlib.Core.List.{List, [], _∷_, _++_}
 use Prim.Native.Nat.{ℕ, _+_, _*_}
 use lib.Dec.{ltb, leb}
 use lib.ListN.{length, getD, take, drop}
 use Rattle.lists.specs.Lists.{same, place, without, allBelow}
-use Rattle.rules.specs.Sizes.{maxAnswers, maxList}
+use Rattle.query.specs.Shape.{Form, Shape}
+use Rattle.query.specs.Encoding.{keyWidth}
+use Rattle.rules.specs.Layout.{maxAnswers, maxList, lengthOffset, revisionsOffset, listOffset}
 
--- "query, revisions, list": the query as its key of 7 numbers, the list's length, 16 revisions, and up to 32 records
+-- "query, revisions, list": the query as its key, the list's length, the revisions noted, and up to 32 records
 abbrev pub Entry : Type 0
 Entry = List ℕ
 
 unfoldable pub keyIn : Entry → List ℕ
-keyIn e = take 7 e
+keyIn e = take keyWidth e
 
 unfoldable pub lengthIn : Entry → ℕ
-lengthIn e = getD e 7 0
+lengthIn e = getD e lengthOffset 0
 
-unfoldable pub revisionIn : Entry → ℕ → ℕ
-revisionIn e j = getD e (8 + j) 0
+-- the revision noted by look j
+unfoldable pub revisionIn : Form → Entry → ℕ → ℕ
+revisionIn f e j = getD e (revisionsOffset + j) 0
 
--- the numbers of the list, k for each record
-unfoldable pub listIn : ℕ → Entry → List ℕ
-listIn k e = take (lengthIn e * k) (drop 24 e)
+-- the numbers of the list, as many for each record as there are columns
+unfoldable pub listIn : Form → Shape → Entry → List ℕ
+listIn f sh e = take (lengthIn e * sh .columns) (drop (listOffset f sh) e)
 
 -- "an answer is filed for this query whose revision at every node is at least the one noted"; x: the reading client's own entry
 unfoldable pub hasKeyOf : Entry → Entry → Bool
 hasKeyOf x e = same (keyIn e) (keyIn x)
 
-unfoldable pub atLeast : Entry → Entry → ℕ → Bool
-atLeast x e j = leb (revisionIn x j) (revisionIn e j)
+unfoldable pub atLeast : Form → Entry → Entry → ℕ → Bool
+atLeast f x e j = leb (revisionIn f x j) (revisionIn f e j)
 
-unfoldable pub serves : ℕ → Entry → Entry → Bool
-serves nodes x e = hasKeyOf x e && allBelow nodes (atLeast x e)
+unfoldable pub serves : Form → ℕ → Entry → Entry → Bool
+serves f nodes x e = hasKeyOf x e && allBelow nodes (atLeast f x e)
 
 -- *fetch*: "of several entries that fit, the one nearest the start is used"
-unfoldable pub fetchPlace : ℕ → Entry → List Entry → ℕ
-fetchPlace nodes x es = place (serves nodes x) es
+unfoldable pub fetchPlace : Form → ℕ → Entry → List Entry → ℕ
+fetchPlace f nodes x es = place (serves f nodes x) es
 
 -- the entry of the same query, if there is one
 unfoldable pub keyPlace : Entry → List Entry → ℕ

@@ -3,10 +3,11 @@ use mathlib.Core.Bool.{Bool, cond, _||_}
 use mathlib.Core.List.{List, [], _∷_}
 use Prim.Native.Nat.{ℕ, _+_}
 use lib.Dec.{eqb}
+use Rattle.query.specs.Shape.{Shape}
 use Rattle.query.specs.Query.{Query, writeCount}
 use Rattle.query.specs.Encoding.{queryOf, recordOf}
 use Rattle.rules.specs.Table.{Table, Write, insert, delete, target, effect}
-use Rattle.rules.specs.Client.{reads, inserts, deletes}
+use Rattle.rules.specs.Layout.{reads, inserts, deletes, endedLong, endedFull}
 use Rattle.rules.specs.Memory.{Mem}
 use Rattle.rules.specs.Outcome.{Result, StepResult, resultWith, number}
 use Rattle.rules.specs.Calls.{beginResult, stepResult, abandonResult, evictAnswerResult, evictNodeResult, renewResult}
@@ -39,7 +40,7 @@ callResult m renew = untrayed (renewResult m)
 
 -- "A call is accepted if it returns 0, 12 or 13."
 unfoldable pub isAccepted : ℕ → Bool
-isAccepted n = eqb n 0 || (eqb n 12 || eqb n 13)
+isAccepted n = eqb n 0 || (eqb n endedLong || eqb n endedFull)
 
 -- what the plain table notes at a desk: "the kind, the query and 0 steps"
 pub data Note : Type 0 where
@@ -47,27 +48,37 @@ pub data Note : Type 0 where
   reading : Query → ℕ → Note
   writing : Write → ℕ → Note
 
--- "The plain table is fed the calls' arguments and the number each returned, and nothing from the memories."
+-- "The plain table is fed the calls' arguments and the number each returned, and nothing from the memories.": the hall's shape is that
+-- which the opening's arguments make
 pub record Plain : Type 0 where
+  pub shape : Shape
   pub table : Table
   pub notes : ℕ → Note
 
 -- "At the opening it has no records, and no desk has anything noted."
-unfoldable pub plainAtOpening : Plain
-plainAtOpening = record { table = []; notes = λ d. nothing }
+unfoldable pub plainAtOpening : Shape → Plain
+plainAtOpening sh = record { shape = sh; table = []; notes = λ d. nothing }
 
 unfoldable pub noteAt : Plain → ℕ → Note → Plain
-noteAt p d x = record { table = p .table; notes = λ e. cond (eqb e d) x (p .notes e) }
+noteAt p d x = record { shape = p .shape; table = p .table; notes = λ e. cond (eqb e d) x (p .notes e) }
 
--- "An accepted step adds one to its client's steps. If a write is noted there and its steps are now one more than it has nodes,
+-- how many nodes a write has in a hall of this shape
+abbrev pub nodesOfWrite : Shape → Write → ℕ
+nodesOfWrite sh w = writeCount (target w)
+
+-- "An accepted step adds one to its desk's steps. If a write is noted there and its steps are now one more than it has nodes,
 -- it takes effect"
 unfoldable pub oneStep : Plain → ℕ → Note → Plain
 oneStep p d nothing = p
 oneStep p d (reading q n) = noteAt p d (reading q (n + 1))
 oneStep p d (writing w n) =
-    noteAt (record { table = cond (eqb (n + 1) (writeCount (target w) + 1)) (effect w (p .table)) (p .table); notes = p .notes }) d (writing w (n + 1))
+    noteAt (record {
+      shape = p .shape;
+      table = cond (eqb (n + 1) (nodesOfWrite (p .shape) w + 1)) (effect w (p .table)) (p .table);
+      notes = p .notes;
+    }) d (writing w (n + 1))
 
--- "An accepted abandoning takes away its client's note." "Puttings out, renewals and refused calls change nothing."
+-- "An accepted abandoning takes away its desk's note." "Puttings out, renewals and refused calls change nothing."
 unfoldable pub fedAccepted : Plain → Call → Plain
 fedAccepted p (beginRead d a) = noteAt p d (reading (queryOf a) 0)
 fedAccepted p (beginInsert d a) = noteAt p d (writing (insert (recordOf (queryOf a))) 0)

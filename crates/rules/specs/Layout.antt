@@ -1,7 +1,14 @@
--- Document 01, "The hall's stock": the fixed sizes and the least lengths. Definitions only. Assumes nothing.
-use Prim.Native.Nat.{ℕ}
+-- Document 01, "The hall's stock": the sizes, the least lengths, and the place of every number in a memory, a node, an entry and a
+-- client (docs/LAYOUT.md has the pictures), each named once. What a hall of another form or shape would have otherwise is
+-- a function of them.
+-- Leans on lists' header and on query's Shape and Encoding. Definitions only. Assumes nothing.
+use Prim.Native.Nat.{ℕ, _+_, _*_}
+use Rattle.lists.specs.Lists.{header}
+use Rattle.query.specs.Shape.{Form, Shape, maxColumns}
+use Rattle.query.specs.Encoding.{labelWidth, keyWidth}
 
--- "These sizes are fixed for every hall: 2,048 records, 1,024 nodes, 64 answers, 12 desks."
+-- ---- Sizes
+-- "These sizes are fixed for every hall: 2,048 records, 1,024 nodes, 64 answers, 12 desks." (The paper's desk is a client.)
 abbrev pub maxRecords : ℕ
 maxRecords = 2048
 
@@ -18,30 +25,184 @@ maxClients = 12
 abbrev pub maxList : ℕ
 maxList = 32
 
--- the table "memory | least length"; "Lengths count 32-bit numbers."
-abbrev pub tableLeast : ℕ
-tableLeast = 8200
-
-abbrev pub nodesLeast : ℕ
-nodesLeast = 8200
-
-abbrev pub answersLeast : ℕ
-answersLeast = 10000
-
-abbrev pub clientsLeast : ℕ
-clientsLeast = 2000
-
-abbrev pub trayLeast : ℕ
-trayLeast = 128
-
 -- "marks at 12 or more to add to"
 abbrev pub maxPending : ℕ
 maxPending = 12
 
 -- "a counter at its largest to raise": a counter is one 32-bit number
-abbrev pub maxRevision : ℕ
-maxRevision = 4294967295
+abbrev pub maxRevision : Form → ℕ
+maxRevision f = 4294967295
 
 -- "a write begins while the floor or a counter is above 4,294,967,103"
-abbrev pub wornAbove : ℕ
-wornAbove = 4294967103
+abbrev pub wornAbove : Form → Shape → ℕ
+wornAbove f sh = 4294967103
+
+-- the floor that an opening and a renewal set: "sets the floor to 1"
+abbrev pub firstFloor : ℕ
+firstFloor = 1
+
+-- ---- The table "memory | least length"; "Lengths count 32-bit numbers."
+abbrev pub tableLeast : ℕ
+tableLeast = 8200
+
+abbrev pub nodesLeast : Form → ℕ
+nodesLeast f = 8200
+
+abbrev pub answersLeast : Form → Shape → ℕ
+answersLeast f sh = 10000
+
+abbrev pub clientsLeast : Form → Shape → ℕ
+clientsLeast f sh = 2000
+
+abbrev pub trayLeast : ℕ
+trayLeast = 128
+
+-- ---- Headers: what stands in the first numbers of each memory
+abbrev pub recordCountOffset : ℕ
+recordCountOffset = 0
+
+abbrev pub floorOffset : ℕ
+floorOffset = 0
+
+abbrev pub nodeCountOffset : ℕ
+nodeCountOffset = 1
+
+abbrev pub answerCountOffset : ℕ
+answerCountOffset = 0
+
+abbrev pub columnsOffset : ℕ
+columnsOffset = 0
+
+-- ---- A node: its label, its marks (pending writes), its counter (revision), and a number kept for the counter's upper half
+abbrev pub pendingOffset : ℕ
+pendingOffset = labelWidth
+
+abbrev pub revisionOffset : ℕ
+revisionOffset = pendingOffset + 1
+
+abbrev pub nodeWidth : ℕ
+nodeWidth = revisionOffset + 2
+
+-- ---- An entry (a filed answer): its query's key, the list's length, the revisions noted, the list
+abbrev pub lengthOffset : ℕ
+lengthOffset = keyWidth
+
+abbrev pub revisionsOffset : ℕ
+revisionsOffset = lengthOffset + 1
+
+-- the most looks of a read, and how many numbers a noted revision takes
+abbrev pub maxLooks : ℕ
+maxLooks = 16
+
+abbrev pub revisionWidth : Form → ℕ
+revisionWidth f = 1
+
+abbrev pub listOffset : Form → Shape → ℕ
+listOffset f sh = revisionsOffset + maxLooks * revisionWidth f
+
+abbrev pub listWidth : ℕ
+listWidth = maxList * maxColumns
+
+abbrev pub entryWidth : Form → ℕ
+entryWidth f = revisionsOffset + maxLooks * revisionWidth f + listWidth
+
+-- ---- A client (the paper's desk): its kind, how many steps it has made, three flags, then an entry
+abbrev pub kindOffset : ℕ
+kindOffset = 0
+
+abbrev pub stepsOffset : ℕ
+stepsOffset = 1
+
+-- not 0: a look saw a mark
+abbrev pub sawOffset : ℕ
+sawOffset = 2
+
+-- not 0: the write changed the table
+abbrev pub changedOffset : ℕ
+changedOffset = 3
+
+-- not 0: the insert found the table full
+abbrev pub fullOffset : ℕ
+fullOffset = 4
+
+abbrev pub entryOffset : ℕ
+entryOffset = 5
+
+abbrev pub clientWidth : Form → ℕ
+clientWidth f = entryOffset + entryWidth f
+
+-- where client d stands
+abbrev pub clientOffset : Form → ℕ → ℕ
+clientOffset f d = header + d * clientWidth f
+
+-- the parts of a client's own entry: the list's length, the revision noted by look j, the list
+abbrev pub heldLengthOffset : ℕ
+heldLengthOffset = entryOffset + lengthOffset
+
+abbrev pub notedOffset : Form → ℕ → ℕ
+notedOffset f j = entryOffset + revisionsOffset + j
+
+abbrev pub heldListOffset : Form → Shape → ℕ
+heldListOffset f sh = entryOffset + listOffset f sh
+
+-- ---- Kinds of a client's work: 0 stands at an idle one
+abbrev pub reads : ℕ
+reads = 1
+
+abbrev pub inserts : ℕ
+inserts = 2
+
+abbrev pub deletes : ℕ
+deletes = 3
+
+-- ---- "What the controller turns down": the numbers, with the paper's words
+-- 1 short
+abbrev pub refusedShort : ℕ
+refusedShort = 1
+
+-- 2 columns
+abbrev pub refusedColumns : ℕ
+refusedColumns = 2
+
+-- 3 unsound
+abbrev pub refusedUnsound : ℕ
+refusedUnsound = 3
+
+-- 4 no desk
+abbrev pub refusedNoClient : ℕ
+refusedNoClient = 4
+
+-- 5 taken
+abbrev pub refusedTaken : ℕ
+refusedTaken = 5
+
+-- 6 idle
+abbrev pub refusedIdle : ℕ
+refusedIdle = 6
+
+-- 7 committed
+abbrev pub refusedCommitted : ℕ
+refusedCommitted = 7
+
+-- 8 no entry
+abbrev pub refusedNoEntry : ℕ
+refusedNoEntry = 8
+
+-- 9 marked
+abbrev pub refusedPending : ℕ
+refusedPending = 9
+
+-- 10 worn
+abbrev pub refusedWorn : ℕ
+refusedWorn = 10
+
+-- 11 occupied
+abbrev pub refusedOccupied : ℕ
+refusedOccupied = 11
+
+-- 12 long and 13 full end the work they name
+abbrev pub endedLong : ℕ
+endedLong = 12
+
+abbrev pub endedFull : ℕ
+endedFull = 13

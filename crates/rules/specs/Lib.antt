@@ -1,4 +1,4 @@
-pub mod Sizes
+pub mod Layout
 pub mod Table
 pub mod Nodes
 pub mod Answers

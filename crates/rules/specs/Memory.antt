@@ -4,7 +4,9 @@ use mathlib.Core.List.{List, [], _++_}
 use Prim.Native.Nat.{ℕ, _+_, _*_}
 use lib.ListN.{getD, take, drop, set, replicate}
 use Rattle.lists.specs.Lists.{entriesIn, withEntries, written}
-use Rattle.rules.specs.Sizes.{tableLeast, nodesLeast, answersLeast, clientsLeast}
+use Rattle.query.specs.Shape.{Form, narrow, Shape}
+use Rattle.rules.specs.Layout.{tableLeast, nodesLeast, answersLeast, clientsLeast, firstFloor, recordCountOffset, floorOffset, nodeCountOffset, answerCountOffset, columnsOffset}
+use Rattle.rules.specs.Layout.{nodeWidth, entryWidth, clientWidth, clientOffset}
 use Rattle.rules.specs.Table.{Table}
 use Rattle.rules.specs.Nodes.{Store, store}
 use Rattle.rules.specs.Answers.{Entry}
@@ -20,50 +22,54 @@ pub record Mem : Type 0 where
 abbrev pub mem : List ℕ → List ℕ → List ℕ → List ℕ → Mem
 mem t n a d = record { table = t; nodes = n; answers = a; clients = d }
 
--- each list of entries stands from place 8 on (lists, `entriesIn`, `withEntries`): "What a call takes out of use it sets to 0"
--- table: how many records at 0; the records, k numbers each, from 8 on
+-- each list of entries stands behind the header (lists, `entriesIn`, `withEntries`): "What a call takes out of use it sets to 0"
+-- table: how many records; the records, k numbers each
 unfoldable pub recordsIn : ℕ → List ℕ → Table
-recordsIn k s = entriesIn 0 k s
+recordsIn k s = entriesIn recordCountOffset k s
 
 unfoldable pub withRecords : ℕ → List ℕ → Table → List ℕ
-withRecords k s t = withEntries 0 k s t
+withRecords k s t = withEntries recordCountOffset k s t
 
--- nodes: the floor at 0, how many nodes at 1; the nodes, 8 numbers each, from 8 on
+-- nodes: the floor, how many nodes; the nodes
 unfoldable pub storeIn : List ℕ → Store
-storeIn s = store (getD s 0 0) (entriesIn 1 8 s)
+storeIn s = store (getD s floorOffset 0) (entriesIn nodeCountOffset nodeWidth s)
 
 unfoldable pub withStore : List ℕ → Store → List ℕ
-withStore s st = set (withEntries 1 8 s (st .nodes)) 0 (st .floor)
+withStore s st = set (withEntries nodeCountOffset nodeWidth s (st .nodes)) floorOffset (st .floor)
 
--- answers: how many at 0; the filed answers, 152 numbers each, from 8 on
-unfoldable pub answersIn : List ℕ → List Entry
-answersIn s = entriesIn 0 152 s
+-- answers: how many; the filed answers
+unfoldable pub answersIn : Form → List ℕ → List Entry
+answersIn f s = entriesIn answerCountOffset (entryWidth f) s
 
-unfoldable pub withAnswers : List ℕ → List Entry → List ℕ
-withAnswers s es = withEntries 0 152 s es
+unfoldable pub withAnswers : Form → List ℕ → List Entry → List ℕ
+withAnswers f s es = withEntries answerCountOffset (entryWidth f) s es
 
--- desks: k at 0; desks 0 to 11, 157 numbers each, from 8 on
-unfoldable pub columnsAt : List ℕ → ℕ
-columnsAt s = getD s 0 0
+-- desks: k; desks 0 to 11, one after another. The hall's form and shape are what this memory tells of them
+abbrev pub formIn : List ℕ → Form
+formIn s = narrow
 
-unfoldable pub clientIn : List ℕ → ℕ → Client
-clientIn s d = take 157 (drop (8 + d * 157) s)
+abbrev pub shapeIn : List ℕ → Shape
+shapeIn s = record { columns = getD s columnsOffset 0 }
 
-unfoldable pub withClient : List ℕ → ℕ → Client → List ℕ
-withClient s d c = written s (8 + d * 157) c
+unfoldable pub clientIn : Form → List ℕ → ℕ → Client
+clientIn f s d = take (clientWidth f) (drop (clientOffset f d) s)
+
+unfoldable pub withClient : Form → List ℕ → ℕ → Client → List ℕ
+withClient f s d c = written s (clientOffset f d) c
 
 -- "Opening clears the four memories, sets the floor to 1 and leaves every desk idle."
 unfoldable pub cleared : ℕ → List ℕ → List ℕ
 cleared n s = replicate n 0 ++ drop n s
 
-unfoldable pub opened : ℕ → Mem → Mem
-opened k m =
-    mem (cleared tableLeast (m .table)) (set (cleared nodesLeast (m .nodes)) 0 1)
-    (cleared answersLeast (m .answers)) (set (cleared clientsLeast (m .clients)) 0 k)
+unfoldable pub opened : Form → Shape → Mem → Mem
+opened f sh m =
+    mem (cleared tableLeast (m .table)) (set (cleared (nodesLeast f) (m .nodes)) floorOffset firstFloor)
+    (cleared (answersLeast f sh) (m .answers)) (set (cleared (clientsLeast f sh) (m .clients)) columnsOffset (sh .columns))
 
 -- "Renew. ..: answers and nodes are emptied, the floor is 1, the table stays."
 unfoldable pub renewed : Mem → Mem
-renewed m = mem (m .table) (withStore (m .nodes) (store 1 [])) (withAnswers (m .answers) []) (m .clients)
+renewed m =
+    mem (m .table) (withStore (m .nodes) (store firstFloor [])) (withAnswers (formIn (m .clients)) (m .answers) []) (m .clients)
 
 -- a record has no update: one function for each memory that a call changes
 abbrev pub withTable : Mem → List ℕ → Mem

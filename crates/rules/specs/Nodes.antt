@@ -7,7 +7,9 @@ use Prim.Native.Nat.{ℕ, _+_, _-_, max}
 use lib.Dec.{eqb, ltb, leb}
 use lib.ListN.{length, getD, take, set}
 use Rattle.lists.specs.Lists.{same, place, without}
-use Rattle.rules.specs.Sizes.{maxNodes, maxPending, maxRevision, wornAbove}
+use Rattle.query.specs.Shape.{Form, Shape}
+use Rattle.query.specs.Encoding.{labelWidth}
+use Rattle.rules.specs.Layout.{maxNodes, maxPending, maxRevision, wornAbove, pendingOffset, revisionOffset}
 
 -- a label in five numbers
 abbrev pub Words : Type 0
@@ -18,19 +20,19 @@ abbrev pub Node : Type 0
 Node = List ℕ
 
 unfoldable pub labelIn : Node → Words
-labelIn n = take 5 n
+labelIn n = take labelWidth n
 
 unfoldable pub pending : Node → ℕ
-pending n = getD n 5 0
+pending n = getD n pendingOffset 0
 
 unfoldable pub revision : Node → ℕ
-revision n = getD n 6 0
+revision n = getD n revisionOffset 0
 
 unfoldable pub withPending : Node → ℕ → Node
-withPending n x = set n 5 x
+withPending n x = set n pendingOffset x
 
 unfoldable pub withRevision : Node → ℕ → Node
-withRevision n x = set n 6 x
+withRevision n x = set n revisionOffset x
 
 -- "the floor, then the nodes, oldest first"
 pub record Store : Type 0 where
@@ -104,9 +106,9 @@ unfoldable pub released : Words → Store → Store
 released p s = withNode p (withPending (nodeOf p s) (pending (nodeOf p s) - 1)) s
 
 -- *raise*: "counter up by one, marks down by one"; none: also "a counter at its largest to raise" (3)
-unfoldable pub raised : Words → Store → Option Store
-raised p s =
-    cond (isPending p s && ltb (revision (nodeOf p s)) maxRevision)
+unfoldable pub raised : Form → Words → Store → Option Store
+raised f p s =
+    cond (isPending p s && ltb (revision (nodeOf p s)) (maxRevision f))
     (some (released p (withNode p (withRevision (nodeOf p s) (revision (nodeOf p s) + 1)) s))) none
 
 -- "takes back the marks it has set": all of them, or none where one is not there to be taken back
@@ -115,8 +117,8 @@ releasedAll [] s = some s
 releasedAll (p ∷ ps) s = cond (isPending p s) (releasedAll ps (released p s)) none
 
 -- "the floor or a counter is above 4,294,967,103" (10)
-unfoldable pub isHigh : Node → Bool
-isHigh n = ltb wornAbove (revision n)
+unfoldable pub isHigh : Form → Shape → Node → Bool
+isHigh f sh n = ltb (wornAbove f sh) (revision n)
 
-unfoldable pub isWorn : Store → Bool
-isWorn s = ltb wornAbove (s .floor) || ltb (place isHigh (s .nodes)) (length (s .nodes))
+unfoldable pub isWorn : Form → Shape → Store → Bool
+isWorn f sh s = ltb (wornAbove f sh) (s .floor) || ltb (place (isHigh f sh) (s .nodes)) (length (s .nodes))

@@ -4,6 +4,7 @@ use mathlib.Core.List.{List}
 use Prim.Native.Nat.{ℕ}
 use Rattle.rules.specs.declared.Outcome.{Outcome}
 use Rattle.rules.specs.declared.Outcome.the-variants.{Refused, Accepted, Answered, Long, Ended, Full}
+use Rattle.rules.specs.Layout.{endedLong, endedFull}
 use Rattle.rules.specs.Memory.{Mem}
 
 -- the paper's number: "An accepted call that ends nothing returns 0"
@@ -11,9 +12,9 @@ unfoldable pub number : Outcome → ℕ
 number (Refused n) = n
 number Accepted = 0
 number (Answered n b) = 0
-number Long = 12
+number Long = endedLong
 number (Ended b) = 0
-number Full = 13
+number Full = endedFull
 
 -- the count: "reports their count"; "1 to 13 return the number and count 0"; "a write's end has count 0"
 unfoldable pub count : Outcome → ℕ

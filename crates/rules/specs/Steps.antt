@@ -9,20 +9,20 @@ use lib.ListN.{length, getD}
 use Rattle.lists.specs.Lists.{flat, written}
 use Rattle.rules.specs.declared.Outcome.{Outcome}
 use Rattle.rules.specs.declared.Outcome.the-variants.{Refused, Accepted, Answered, Long, Ended, Full}
-use Rattle.rules.specs.Sizes.{maxList}
+use Rattle.rules.specs.Layout.{maxList, reads, refusedUnsound}
 use Rattle.query.specs.Query.{Query, Record, readNode, writeNode, readCount, writeCount}
 use Rattle.query.specs.Encoding.{labelWords}
 use Rattle.rules.specs.Table.{Write, listOf, effect, changes, noRoom}
 use Rattle.rules.specs.Nodes.{Words, Store, ensured, announced, raised, nodeOf, revision, pending}
 use Rattle.rules.specs.Answers.{Entry, lengthIn, listIn, fetchPlace, filed}
-use Rattle.rules.specs.Client.{Client, kind, steps, sawPending, didChange, foundFull, entryOf, reads, idle, queryAt, writeAt, stepped, noted, holding, wrote}
+use Rattle.rules.specs.Client.{Client, kind, steps, sawPending, didChange, foundFull, entryOf, idle, queryAt, writeAt, stepped, noted, holding, wrote}
 use Rattle.rules.specs.Memory.{Mem, withTable, withNodes, withFiled, withClients, recordsIn, withRecords, storeIn, withStore, answersIn, withAnswers, withClient}
 use Rattle.rules.specs.Outcome.{StepResult, resultWith}
-use Rattle.rules.specs.Refusals.{columns, client}
+use Rattle.rules.specs.Refusals.{form, shape, columns, client}
 
 -- the client at d becomes c
 unfoldable pub nowAt : Mem → ℕ → Client → Mem
-nowAt m d c = withClients m (withClient (m .clients) d c)
+nowAt m d c = withClients m (withClient (form m) (m .clients) d c)
 
 unfoldable pub storeBack : Mem → Store → Mem
 storeBack m s = withNodes m (withStore (m .nodes) s)
@@ -30,45 +30,47 @@ storeBack m s = withNodes m (withStore (m .nodes) s)
 -- "An answer writes its records, k numbers each, from the tray's start and reports their count and whether it was filed before;
 -- the rest of the tray keeps its contents."
 unfoldable pub answered : Mem → List ℕ → ℕ → ℕ → List ℕ → Bool → StepResult
-answered m tray d n l cached = resultWith (Answered n cached) (nowAt m d idle) (written tray 0 l)
+answered m tray d n l cached = resultWith (Answered n cached) (nowAt m d (idle (form m))) (written tray 0 l)
 
 -- **Read.** "A look at a node present notes its counter and whether its marks are above 0. A missing node is added last"
 unfoldable pub lookResult : Mem → List ℕ → ℕ → ℕ → Words → Option Store → StepResult
-lookResult m tray d j p none = resultWith (Refused 3) m tray
+lookResult m tray d j p none = resultWith (Refused refusedUnsound) m tray
 lookResult m tray d j p (some s) =
-    resultWith Accepted (nowAt (storeBack m s) d (noted j (revision (nodeOf p s)) (pending (nodeOf p s)) (client m d))) tray
+    resultWith Accepted (nowAt (storeBack m s) d (noted (form m) j (revision (nodeOf p s)) (pending (nodeOf p s)) (client m d))) tray
 
 -- "Then *fetch*: if no look saw a mark and an answer is filed for this query whose revision at every node is at least the one noted,
 -- the read answers with it."
 unfoldable pub fetchResult : Mem → List ℕ → ℕ → ℕ → StepResult
 fetchResult m tray d i =
-    cond (not (sawPending (client m d)) && ltb i (length (answersIn (m .answers))))
-    (answered m tray d (lengthIn (getD (answersIn (m .answers)) i [])) (listIn (columns m) (getD (answersIn (m .answers)) i [])) true)
+    cond (not (sawPending (client m d)) && ltb i (length (answersIn (form m) (m .answers))))
+    (answered m tray d (lengthIn (getD (answersIn (form m) (m .answers)) i []))
+    (listIn (form m) (shape m) (getD (answersIn (form m) (m .answers)) i [])) true)
     (resultWith Accepted (nowAt m d (stepped (client m d))) tray)
 
 -- "Otherwise *table*: the matching list is taken. More than 32 records ends the read with 12. If a look saw a mark, the read answers
 -- here and files nothing."
 unfoldable pub tableResult : Mem → List ℕ → ℕ → List Record → StepResult
 tableResult m tray d l =
-    cond (ltb maxList (length l)) (resultWith Long (nowAt m d idle) tray)
+    cond (ltb maxList (length l)) (resultWith Long (nowAt m d (idle (form m))) tray)
     (cond (sawPending (client m d)) (answered m tray d (length l) (flat l) false)
-    (resultWith Accepted (nowAt m d (holding l (client m d))) tray))
+    (resultWith Accepted (nowAt m d (holding (form m) (shape m) l (client m d))) tray))
 
 -- "Otherwise *file*: .. the list goes last with the noted revisions, and the read answers."
 unfoldable pub fileResult : Mem → List ℕ → ℕ → Entry → StepResult
 fileResult m tray d e =
-    answered (withFiled m (withAnswers (m .answers) (filed e (answersIn (m .answers))))) tray d (lengthIn e) (listIn (columns m) e) false
+    answered (withFiled m (withAnswers (form m) (m .answers) (filed e (answersIn (form m) (m .answers))))) tray d (lengthIn e)
+    (listIn (form m) (shape m) e) false
 
 unfoldable pub readResult : Mem → List ℕ → ℕ → Query → ℕ → StepResult
 readResult m tray d q i =
     cond (ltb i (readCount q)) (lookResult m tray d i (labelWords (readNode q i)) (ensured (labelWords (readNode q i)) (storeIn (m .nodes))))
-    (cond (eqb i (readCount q)) (fetchResult m tray d (fetchPlace (readCount q) (entryOf (client m d)) (answersIn (m .answers))))
+    (cond (eqb i (readCount q)) (fetchResult m tray d (fetchPlace (form m) (readCount q) (entryOf (client m d)) (answersIn (form m) (m .answers))))
     (cond (eqb i (readCount q + 1)) (tableResult m tray d (listOf q (recordsIn (columns m) (m .table))))
     (fileResult m tray d (entryOf (client m d)))))
 
 -- **Write.** "One *mark* for each node"
 unfoldable pub announceResult : Mem → List ℕ → ℕ → Option Store → StepResult
-announceResult m tray d none = resultWith (Refused 3) m tray
+announceResult m tray d none = resultWith (Refused refusedUnsound) m tray
 announceResult m tray d (some s) = resultWith Accepted (nowAt (storeBack m s) d (stepped (client m d))) tray
 
 -- "Then *table*: the record is added or the subspace removed."
@@ -84,19 +86,20 @@ endOf c = cond (foundFull c) Full (Ended (didChange c))
 
 -- "Then one *raise* for each node"
 unfoldable pub raiseResult : Mem → List ℕ → ℕ → Bool → Option Store → StepResult
-raiseResult m tray d isLast none = resultWith (Refused 3) m tray
+raiseResult m tray d isLast none = resultWith (Refused refusedUnsound) m tray
 raiseResult m tray d isLast (some s) =
-    cond isLast (resultWith (endOf (client m d)) (nowAt (storeBack m s) d idle) tray)
+    cond isLast (resultWith (endOf (client m d)) (nowAt (storeBack m s) d (idle (form m))) tray)
     (resultWith Accepted (nowAt (storeBack m s) d (stepped (client m d))) tray)
 
 unfoldable pub writeResult : Mem → List ℕ → ℕ → Write → Query → ℕ → StepResult
 writeResult m tray d w q i =
     cond (ltb i (writeCount q)) (announceResult m tray d (announced (labelWords (writeNode q i)) (storeIn (m .nodes))))
     (cond (eqb i (writeCount q)) (writeTableResult m tray d w)
-    (raiseResult m tray d (eqb i (writeCount q + writeCount q)) (raised (labelWords (writeNode q (i - (writeCount q + 1)))) (storeIn (m .nodes)))))
+    (raiseResult m tray d (eqb i (writeCount q + writeCount q))
+    (raised (form m) (labelWords (writeNode q (i - (writeCount q + 1)))) (storeIn (m .nodes)))))
 
 unfoldable pub progress : Mem → List ℕ → ℕ → StepResult
 progress m tray d =
     cond (eqb (kind (client m d)) reads)
-    (readResult m tray d (queryAt (columns m) (client m d)) (steps (client m d)))
-    (writeResult m tray d (writeAt (columns m) (client m d)) (queryAt (columns m) (client m d)) (steps (client m d)))
+    (readResult m tray d (queryAt (shape m) (client m d)) (steps (client m d)))
+    (writeResult m tray d (writeAt (shape m) (client m d)) (queryAt (shape m) (client m d)) (steps (client m d)))

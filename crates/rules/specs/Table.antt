@@ -6,7 +6,7 @@ use mathlib.Core.List.{List, [], _∷_}
 use lib.Dec.{eqb, leb}
 use lib.ListN.{length}
 use Rattle.lists.specs.Lists.{same, before, keep}
-use Rattle.rules.specs.Sizes.{maxRecords}
+use Rattle.rules.specs.Layout.{maxRecords}
 use Rattle.query.specs.Query.{Query, Record, lies, naming}
 
 -- definition 2: a table, as the list of its records

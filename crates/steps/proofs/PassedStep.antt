@@ -5,12 +5,14 @@ use Prim.Native.Nat.{ℕ, _≤_}
 use lib.ListN.{length, getD}
 use borrow.Author.Tests.{eq-eqb, ne-eqb}
 use Rattle.rules.specs.declared.Outcome.the-variants.{Refused, Accepted}
-use Rattle.rules.specs.Client.{kind, steps, reads, idle, queryAt}
-use Rattle.rules.specs.Memory.{Mem, columnsAt, clientIn, withClients, withClient}
+use Rattle.rules.specs.Client.{kind, steps, idle, queryAt}
+use Rattle.rules.specs.Layout.{reads}
+use Rattle.rules.specs.Memory.{Mem, clientIn, withClients, withClient}
 use Rattle.rules.specs.Outcome.{result, resultWith}
 use Rattle.rules.specs.Refusals.{columns, client, stepCode, abandonCode}
 use Rattle.rules.specs.Steps.{nowAt, readResult, progress}
 use Rattle.rules.specs.Calls.{unless, stepResult, abandoned, abandonResult}
+use Rattle.query.specs.Shape.{narrow, shapeOf}
 use Rattle.rules.proofs.PassedChecks.{Busy, step-passed, abandon-passed, steps-before}
 use Rattle.checks.proofs.SoundMemories.{nodes-fit, client-fit}
 use Rattle.clients.specs.ClientContracts as client-contracts
@@ -32,11 +34,10 @@ module _ (m : Mem) (d : ℕ) (b : Busy m d) where
   store-fit = nodes-fit m (b .memories)
 
   pub table-fit : table.Fit (getD (m .clients) 0 0) (m .table)
-  unfolding columns columnsAt
   table-fit = record { columns = (b .memories .least, b .memories .most); long = b .memories .long .table; few = b .memories .records }
 
-  pub writer : (kind (clientIn (m .clients) d) ≡ reads → ⊥) → Writer (m .clients) d (getD (m .clients) 0 0)
-  unfolding columns columnsAt client
+  pub writer : (kind (clientIn narrow (m .clients) d) ≡ reads → ⊥) → Writer (m .clients) d (getD (m .clients) 0 0)
+  unfolding client
   writer w = record {
     columns = refl;
     least = b .memories .least;
@@ -57,21 +58,21 @@ module _ (m : Mem) (tray : List ℕ) (d n : ℕ) (e : n ≡ stepCode m tray d) w
   pub step-busy : n ≡ 0 → Busy m d
   step-busy z = step-passed m tray d (sym e ∙ z) .1
 
-  module _ (z : n ≡ 0) (x : ℕ) (f : x ≡ kind (clientIn (m .clients) d)) where
+  module _ (z : n ≡ 0) (x : ℕ) (f : x ≡ kind (clientIn narrow (m .clients) d)) where
     pub step-reads : x ≡ 1 → Steps (m .table) (m .nodes) (m .answers) (m .clients) tray d (getD (m .clients) 0 0)
-    unfolding columnsAt client
+    unfolding client
     step-reads r = reads-on m tray d (sym e ∙ z) (sym f ∙ r)
 
-    pub step-read : x ≡ 1 → readResult m tray d (queryAt (getD (m .clients) 0 0) (clientIn (m .clients) d)) (steps (clientIn (m .clients) d)) ≡ stepResult m tray d
-    unfolding columns columnsAt client
+    pub step-read : x ≡ 1 → readResult m tray d (queryAt (shapeOf (getD (m .clients) 0 0)) (clientIn narrow (m .clients) d)) (steps (clientIn narrow (m .clients) d)) ≡ stepResult m tray d
+    unfolding client
     step-read r = sym (read-due m tray d (sym e ∙ z) (sym f ∙ r))
 
     pub step-writes : (x ≡ 1 → ⊥) → Writer (m .clients) d (getD (m .clients) 0 0)
     step-writes r = writer m d (step-busy z) (λ y. r (f ∙ y))
 
     pub step-write : (x ≡ 1 → ⊥) → stepOf (getD (m .clients) 0 0) m tray d ≡ stepResult m tray d
-    unfolding stepResult progress columns columnsAt client
-    step-write r = rw (eq-eqb (stepCode m tray d) 0 (sym e ∙ z), ne-eqb (kind (clientIn (m .clients) d)) 1 (λ y. r (f ∙ y)))
+    unfolding stepResult progress client
+    step-write r = rw (eq-eqb (stepCode m tray d) 0 (sym e ∙ z), ne-eqb (kind (clientIn narrow (m .clients) d)) 1 (λ y. r (f ∙ y)))
 
 -- ---- The abandoning
 module _ (m : Mem) (d n : ℕ) (e : n ≡ abandonCode m d) where
@@ -82,18 +83,18 @@ module _ (m : Mem) (d n : ℕ) (e : n ≡ abandonCode m d) where
   pub abandon-busy : n ≡ 0 → Busy m d
   abandon-busy z = abandon-passed m d (sym e ∙ z) .0
 
-  module _ (z : n ≡ 0) (x : ℕ) (f : x ≡ kind (clientIn (m .clients) d)) where
-    pub abandon-read : (s : List ℕ) → x ≡ 1 → s ≡ withClient (m .clients) d idle → result Accepted (withClients m s) ≡ abandonResult m d
+  module _ (z : n ≡ 0) (x : ℕ) (f : x ≡ kind (clientIn narrow (m .clients) d)) where
+    pub abandon-read : (s : List ℕ) → x ≡ 1 → s ≡ withClient narrow (m .clients) d (idle narrow) → result Accepted (withClients m s) ≡ abandonResult m d
     unfolding abandonResult unless abandoned client nowAt
-    abandon-read s r g = rw (eq-eqb (abandonCode m d) 0 (sym e ∙ z), eq-eqb (kind (clientIn (m .clients) d)) 1 (sym f ∙ r), g)
+    abandon-read s r g = rw (eq-eqb (abandonCode m d) 0 (sym e ∙ z), eq-eqb (kind (clientIn narrow (m .clients) d)) 1 (sym f ∙ r), g)
 
     pub abandon-writes : (x ≡ 1 → ⊥) → Writer (m .clients) d (getD (m .clients) 0 0)
     abandon-writes r = writer m d (abandon-busy z) (λ y. r (f ∙ y))
 
     pub abandon-before : (x ≡ 1 → ⊥) → stepAt (m .clients) d ≤ countAt (getD (m .clients) 0 0) (m .clients) d
-    unfolding columns columnsAt client
+    unfolding client
     abandon-before r = steps-before m d (abandon-passed m d (sym e ∙ z) .1) (λ y. r (f ∙ y))
 
     pub abandon-write : (x ≡ 1 → ⊥) → backOf (getD (m .clients) 0 0) m d ≡ abandonResult m d
-    unfolding abandonResult unless abandoned columns columnsAt client
-    abandon-write r = rw (eq-eqb (abandonCode m d) 0 (sym e ∙ z), ne-eqb (kind (clientIn (m .clients) d)) 1 (λ y. r (f ∙ y)))
+    unfolding abandonResult unless abandoned client
+    abandon-write r = rw (eq-eqb (abandonCode m d) 0 (sym e ∙ z), ne-eqb (kind (clientIn narrow (m .clients) d)) 1 (λ y. r (f ∙ y)))

@@ -107,12 +107,18 @@ module _ (p : Record → Bool) (t : Table) (k n : ℕ) (s₀ s : List ℕ) (i fr
         same = a .same;
       })
 
+-- the memory with other records, number by number
+with-records-are : (k : ℕ) (s : List ℕ) (t : Table)
+    → withRecords k s t ≡ set (take 8 s ++ (flat t ++ replicate ((getD s 0 0 - length t) * k) 0)
+    ++ drop (8 + length (flat t ++ replicate ((getD s 0 0 - length t) * k) 0)) s) 0 (length t)
+unfolding withRecords withEntries written
+with-records-are k s t = refl
+
 -- the end: the freed part cleared, and the new count
 module _ (q : Query) (k : ℕ) (s₀ s u : List ℕ) (i from j to : ℕ) (f : Fit k s₀)
     (a : Deleting (outside q) (recordsIn k s₀) k (getD s₀ 0 0) s₀ s i from j to) (h : getD s₀ 0 0 ≤ i)
     (e : u ≡ replicate (from - to) 0 ++ drop (from - to) (take (from - to) (drop to s))) where
   pub delete-all : (getD s₀ 0 0 - j ≡ gone q (recordsIn k s₀)) × (set (putMid to (from - to) s u) 0 j ≡ withRecords k s₀ (effect (delete q) (recordsIn k s₀)))
-  unfolding withRecords withEntries written
   delete-all =
       let t : Table = recordsIn k s₀ in
       let n : ℕ = getD s₀ 0 0 in
@@ -132,5 +138,5 @@ module _ (q : Query) (k : ℕ) (s₀ s u : List ℕ) (i from j to : ℕ) (f : Fi
       drop-drop (from - to) to s ∙ (let oo : to + (from - to) ≡ from = omega (arith, a .fewer) in rw oo (a .back)) in
       let front : take to s ≡ take 8 s₀ ++ flat (keep (outside q) t) = rw x at (a .front) in (
         rw (gone-is q t, l, ← c),
-        rw (effect-delete q t, ← c, v, e, y, o, front, m, append-nil, append-assoc, append-assoc, append-assoc),
+        rw (effect-delete q t, with-records-are k s₀ (keep (outside q) t), ← c, v, e, y, o, front, m, append-nil, append-assoc, append-assoc, append-assoc),
       )

@@ -14,7 +14,7 @@ use Rattle.laws.proofs.WrittenLaws.{written-nil, written-front, written-over, t
 use Rattle.laws.proofs.EntryLaws.{drop-zeros}
 use Rattle.laws.proofs.RowLaws.{slot, slot-next, flat-snoc, length-flat, Wide, wide-keep, wide-take}
 use Rattle.query.specs.Query.{Record}
-use Rattle.rules.specs.Sizes.{maxList}
+use Rattle.rules.specs.Layout.{maxList}
 use Rattle.rules.specs.Table.{Table}
 use Rattle.table.specs.TableContracts.{gathered}
 use Rattle.table.proofs.TableLists.{gathered-few, gathered-many}

@@ -17,7 +17,7 @@ use Rattle.laws.proofs.TestLaws.{byTest}
 use Rattle.laws.proofs.SearchLaws.{place-le, place-here, place-later}
 use Rattle.laws.proofs.RowLaws.{slot-next}
 use Rattle.query.specs.Query.{Record}
-use Rattle.rules.specs.Sizes.{maxRecords}
+use Rattle.rules.specs.Layout.{maxRecords}
 use Rattle.rules.specs.Table.{Table, has, insert, effect}
 use Rattle.rules.specs.Memory.{recordsIn, withRecords}
 use Rattle.records.proofs.RecordWrites.{insert-places, effect-there, effect-full, effect-put}

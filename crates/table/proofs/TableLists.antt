@@ -14,7 +14,7 @@ use Rattle.laws.proofs.TestLaws.{byTest}
 use Rattle.laws.proofs.ListLaws.{keep-le}
 use Rattle.laws.proofs.SearchLaws.{place-here, place-later}
 use Rattle.query.specs.Query.{Query, Record}
-use Rattle.rules.specs.Sizes.{maxRecords, maxList}
+use Rattle.rules.specs.Layout.{maxRecords, maxList}
 use Rattle.rules.specs.Table.{Table, listOf, has, insert, delete, isFull, outside, effect, noRoom, changes}
 use Rattle.records.proofs.RecordWrites.{length-put, effect-there, effect-full, effect-put}
 use Rattle.records.proofs.RecordSets.{two-parts}

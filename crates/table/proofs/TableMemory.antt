@@ -13,16 +13,17 @@ use Rattle.laws.proofs.RowLaws.{slot, Wide, wide-keep}
 use Rattle.laws.proofs.EntryLaws.{length-entries, entry-at, wide-entries, with-insert, with-self, length-with, count-with, entries-with}
 use Rattle.query.specs.Query.{Query, Record, lies}
 use Rattle.query.specs.declared.Column.{Column}
-use Rattle.rules.specs.Sizes.{maxRecords, tableLeast}
+use Rattle.query.specs.Shape.{narrow}
+use Rattle.rules.specs.Layout.{maxRecords, tableLeast}
 use Rattle.rules.specs.Table.{Table, listOf, Write, effect}
 use Rattle.rules.specs.Memory.{Mem, recordsIn, withRecords}
-use Rattle.rules.specs.Refusals.{columns, isShort, isUnsound}
+use Rattle.rules.specs.Refusals.{shape, columns, isShort, isUnsound}
 use Rattle.rules.proofs.PassedChecks.{sound}
 use Rattle.records.proofs.RecordWrites.{OfWidth, effect-wide, effect-few}
 use Rattle.table.specs.TableContracts.{Fit}
 
 -- ---- a table memory that passed the refusals is fit
-pub fit-passed : (m : Mem) → isShort m ≡ false → isUnsound m ≡ false → Fit (columns m) (m .table)
+pub fit-passed : (m : Mem) → isShort narrow (shape m) m ≡ false → isUnsound m ≡ false → Fit (columns m) (m .table)
 fit-passed m h g =
     let s = sound m h g in
     record { columns = (s .least, s .most); long = s .long .table; few = s .records }

@@ -7,7 +7,7 @@ use lib.Dec.{leb}
 use lib.ListN.{length, getD}
 use Rattle.lists.specs.Lists.{before, place}
 use Rattle.query.specs.Query.{Query, Record}
-use Rattle.rules.specs.Sizes.{maxRecords, maxList, tableLeast}
+use Rattle.rules.specs.Layout.{maxRecords, maxList, tableLeast}
 use Rattle.rules.specs.Table.{Table, delete, has, effect}
 use Rattle.table.specs.declared.Inserted.{Inserted}
 use Rattle.table.specs.declared.Inserted.the-variants.{Added, Present, Full}

@@ -25,6 +25,7 @@ use Rattle.rules.specs.Client.{Client, steps, idle, queryAt}
 use Rattle.rules.specs.Memory.{Mem, mem, storeIn, withStore, clientIn, withClient}
 use Rattle.rules.specs.Outcome.{result}
 use Rattle.rules.specs.Steps.{nowAt, storeBack}
+use Rattle.query.specs.Shape.{narrow, shapeOf}
 use Rattle.rules.specs.Calls.{announcedLabels, takenBack}
 use Rattle.columns.specs.ColumnContracts.{four}
 use Rattle.nodes.specs.NodeContracts as contracts
@@ -263,7 +264,7 @@ module _ (ps : List Words) (s l : List ℕ) (o : isFound (releasedAll ps (storeI
       ∙ ap (tried s) (sym (by-places ps (storeIn s) o .1))
 
 -- ---- the call
-back-stored : (t n a s : List ℕ) (d : ℕ) (o : Option Store) (u : List ℕ) (st : Store) (v : List ℕ) → o ≡ some st → u ≡ withStore n st → v ≡ withClient s d idle
+back-stored : (t n a s : List ℕ) (d : ℕ) (o : Option Store) (u : List ℕ) (st : Store) (v : List ℕ) → o ≡ some st → u ≡ withStore n st → v ≡ withClient narrow s d (idle narrow)
     → result Accepted (mem t u a v) ≡ takenBack (mem t n a s) d o
 unfolding takenBack nowAt storeBack
 back-stored t n a s d o u st v e f l = rw (e, f, l)
@@ -273,22 +274,22 @@ unfolding takenBack isFound
 back-none m d none h = refl
 back-none m d (some st) h = let z : _≡_ {A = ℕ} 0 1 = cc in absurd (omega arith)
 
-pub back-fits : (k : ℕ) (c : Client) (cols : List Column) (i : ℕ) → cols ≡ four (queryAt k c) → i ≡ steps c → steps c ≤ writeCount (queryAt k c) → i ≤ writeCount (take k cols)
+pub back-fits : (k : ℕ) (c : Client) (cols : List Column) (i : ℕ) → cols ≡ four (queryAt (shapeOf k) c) → i ≡ steps c → steps c ≤ writeCount (queryAt (shapeOf k) c) → i ≤ writeCount (take k cols)
 back-fits k c cols i e f h = rw (columns-back k c cols e, f) h
 
-pub back-few : (k : ℕ) (c : Client) (cols : List Column) (i : ℕ) → cols ≡ four (queryAt k c) → i ≡ steps c → steps c ≤ writeCount (queryAt k c) → k ≤ 4 → i ≤ 16
+pub back-few : (k : ℕ) (c : Client) (cols : List Column) (i : ℕ) → cols ≡ four (queryAt (shapeOf k) c) → i ≡ steps c → steps c ≤ writeCount (queryAt (shapeOf k) c) → k ≤ 4 → i ≤ 16
 back-few k c cols i e f h m = few-nodes k cols i m (back-fits k c cols i e f h)
 
-module _ (t n a s : List ℕ) (d k : ℕ) (cols : List Column) (i : ℕ) (e : cols ≡ four (queryAt k (clientIn s d))) (f : i ≡ steps (clientIn s d)) where
-  same-labels : releasedAll (announcedLabels (take k cols) i) (storeIn n) ≡ releasedAll (announcedLabels (queryAt k (clientIn s d)) (steps (clientIn s d))) (storeIn n)
-  same-labels = rw (columns-back k (clientIn s d) cols e, f)
+module _ (t n a s : List ℕ) (d k : ℕ) (cols : List Column) (i : ℕ) (e : cols ≡ four (queryAt (shapeOf k) (clientIn narrow s d))) (f : i ≡ steps (clientIn narrow s d)) where
+  same-labels : releasedAll (announcedLabels (take k cols) i) (storeIn n) ≡ releasedAll (announcedLabels (queryAt (shapeOf k) (clientIn narrow s d)) (steps (clientIn narrow s d))) (storeIn n)
+  same-labels = rw (columns-back k (clientIn narrow s d) cols e, f)
 
   pub back-refused : (b : Bool) → b ≡ isFound (releasedAll (announcedLabels (take k cols) i) (storeIn n)) → b ≡ false
-      → result (Refused 3) (mem t n a s) ≡ takenBack (mem t n a s) d (releasedAll (announcedLabels (queryAt k (clientIn s d)) (steps (clientIn s d))) (storeIn n))
+      → result (Refused 3) (mem t n a s) ≡ takenBack (mem t n a s) d (releasedAll (announcedLabels (queryAt (shapeOf k) (clientIn narrow s d)) (steps (clientIn narrow s d))) (storeIn n))
   back-refused b g z = back-none (mem t n a s) d _ (sym (ap isFound same-labels) ∙ sym g ∙ z)
 
-  pub back-done : (u v : List ℕ) → contracts.attempt true u ≡ tried n (releasedAll (announcedLabels (take k cols) i) (storeIn n)) → v ≡ withClient s d idle
-      → result Accepted (mem t u a v) ≡ takenBack (mem t n a s) d (releasedAll (announcedLabels (queryAt k (clientIn s d)) (steps (clientIn s d))) (storeIn n))
+  pub back-done : (u v : List ℕ) → contracts.attempt true u ≡ tried n (releasedAll (announcedLabels (take k cols) i) (storeIn n)) → v ≡ withClient narrow s d (idle narrow)
+      → result Accepted (mem t u a v) ≡ takenBack (mem t n a s) d (releasedAll (announcedLabels (queryAt (shapeOf k) (clientIn narrow s d)) (steps (clientIn narrow s d))) (storeIn n))
   back-done u v g l =
       let x : Went n _ u = went-well n _ u (g ∙ ap (tried n) same-labels) in
       back-stored t n a s d _ u (x .store) v (x .is) (x .mem) l

@@ -18,10 +18,12 @@ use Rattle.rules.specs.declared.Outcome.{Outcome}
 use Rattle.rules.specs.declared.Outcome.the-variants.{Refused, Accepted, Ended, Full}
 use Rattle.rules.specs.Table.{Write, insert, delete, effect}
 use Rattle.rules.specs.Nodes.{Words, Store, announced, raised}
-use Rattle.rules.specs.Client.{Client, kind, steps, inserts, didChange, foundFull, idle, queryAt, writeAt, stepsInAll, stepped, wrote}
-use Rattle.rules.specs.Memory.{mem, recordsIn, withRecords, storeIn, withStore, columnsAt, clientIn, withClient}
+use Rattle.rules.specs.Client.{Client, kind, steps, didChange, foundFull, idle, queryAt, writeAt, stepsInAll, stepped, wrote}
+use Rattle.rules.specs.Layout.{inserts}
+use Rattle.rules.specs.Memory.{mem, recordsIn, withRecords, storeIn, withStore, clientIn, withClient}
 use Rattle.rules.specs.Outcome.{resultWith}
 use Rattle.rules.specs.Refusals.{columns, client}
+use Rattle.query.specs.Shape.{narrow, shapeOf}
 use Rattle.rules.specs.Steps.{nowAt, storeBack, announceResult, writeTableResult, endOf, raiseResult, writeResult}
 use Rattle.lists.specs.Lists.{padded}
 use Rattle.laws.proofs.ListLaws.{length-padded, take-padded}
@@ -48,55 +50,55 @@ unfolding writeCount
 count-power q k e = ap (λ (n : ℕ). 2 ^ n) e
 
 module _ (s : List ℕ) (d k : ℕ) (w : Writer s d k) where
-  sound : Sound k (clientIn s d)
-  sound = sound-client k (clientIn s d) (w .most) (w .sound) (w .busy)
+  sound : Sound k (clientIn narrow s d)
+  sound = sound-client k (clientIn narrow s d) (w .most) (w .sound) (w .busy)
 
   -- a write has 2^k nodes, at most 16, and has not made its last step yet
-  pub count-is : writeCount (queryAt k (clientIn s d)) ≡ 2 ^ k
-  count-is = count-power (queryAt k (clientIn s d)) k (length-query k (clientIn s d))
+  pub count-is : writeCount (queryAt (shapeOf k) (clientIn narrow s d)) ≡ 2 ^ k
+  count-is = count-power (queryAt (shapeOf k) (clientIn narrow s d)) k (length-query k (clientIn narrow s d))
 
-  pub count-small : writeCount (queryAt k (clientIn s d)) ≤ 16
-  count-small = power-small k (writeCount (queryAt k (clientIn s d))) count-is (w .most)
+  pub count-small : writeCount (queryAt (shapeOf k) (clientIn narrow s d)) ≤ 16
+  count-small = power-small k (writeCount (queryAt (shapeOf k) (clientIn narrow s d))) count-is (w .most)
 
-  pub step-most : steps (clientIn s d) ≤ writeCount (queryAt k (clientIn s d)) + writeCount (queryAt k (clientIn s d))
+  pub step-most : steps (clientIn narrow s d) ≤ writeCount (queryAt (shapeOf k) (clientIn narrow s d)) + writeCount (queryAt (shapeOf k) (clientIn narrow s d))
   step-most =
-      let a : steps (clientIn s d) < stepsInAll (kind (clientIn s d)) (queryAt k (clientIn s d)) = sound .step in
-      let b = last-of-write (kind (clientIn s d)) (queryAt k (clientIn s d)) (w .writes) in
+      let a : steps (clientIn narrow s d) < stepsInAll (kind (clientIn narrow s d)) (queryAt (shapeOf k) (clientIn narrow s d)) = sound .step in
+      let b = last-of-write (kind (clientIn narrow s d)) (queryAt (shapeOf k) (clientIn narrow s d)) (w .writes) in
       omega arith
 
-  pub step-small : steps (clientIn s d) ≤ 32
+  pub step-small : steps (clientIn narrow s d) ≤ 32
   step-small = omega (arith, step-most, count-small)
 
   -- the count that the code reads
-  pub power-count : (p : ℕ) → p ≡ 2 ^ k → p ≡ writeCount (queryAt k (clientIn s d))
+  pub power-count : (p : ℕ) → p ≡ 2 ^ k → p ≡ writeCount (queryAt (shapeOf k) (clientIn narrow s d))
   power-count p e = e ∙ sym count-is
 
   -- an insert names every column
-  pub names-all : (x : ℕ) (cols : List Column) → x ≡ kind (clientIn s d) → cols ≡ four (queryAt k (clientIn s d)) → x ≡ inserts → namesAll (take k cols) ≡ true
-  names-all x cols e f h = ap namesAll (columns-back k (clientIn s d) cols f) ∙ sound .names (sym e ∙ h)
+  pub names-all : (x : ℕ) (cols : List Column) → x ≡ kind (clientIn narrow s d) → cols ≡ four (queryAt (shapeOf k) (clientIn narrow s d)) → x ≡ inserts → namesAll (take k cols) ≡ true
+  names-all x cols e f h = ap namesAll (columns-back k (clientIn narrow s d) cols f) ∙ sound .names (sym e ∙ h)
 
 -- the label of one of the write's nodes
-pub label-is : (k : ℕ) (c : Client) (cols : List Column) (j i : ℕ) (p : Words) → p ≡ labelWords (writeNode (take k cols) j) → cols ≡ four (queryAt k c) → j ≡ i
-    → p ≡ labelWords (writeNode (queryAt k c) i)
+pub label-is : (k : ℕ) (c : Client) (cols : List Column) (j i : ℕ) (p : Words) → p ≡ labelWords (writeNode (take k cols) j) → cols ≡ four (queryAt (shapeOf k) c) → j ≡ i
+    → p ≡ labelWords (writeNode (queryAt (shapeOf k) c) i)
 label-is k c cols j i p e f g = rw (e, columns-back k c cols f, g)
 
 -- ---- the steps
 module _ (t n a s y : List ℕ) (d : ℕ) (w : Write) (q : Query) (i : ℕ) (u : List ℕ) (st : Store) (v : List ℕ) where
-  announce-stored : i < writeCount q → announced (labelWords (writeNode q i)) (storeIn n) ≡ some st → u ≡ withStore n st → v ≡ withClient s d (stepped (clientIn s d))
+  announce-stored : i < writeCount q → announced (labelWords (writeNode q i)) (storeIn n) ≡ some st → u ≡ withStore n st → v ≡ withClient narrow s d (stepped (clientIn narrow s d))
       → resultWith Accepted (mem t u a v) y ≡ writeResult (mem t n a s) y d w q i
   unfolding writeResult announceResult nowAt storeBack client
   announce-stored h e f l = rw (lt-ltb i (writeCount q) h, e, f, l)
 
-  raise-stored : writeCount q < i → raised (labelWords (writeNode q (i - (writeCount q + 1)))) (storeIn n) ≡ some st → u ≡ withStore n st
-      → (last : Bool) (o : Outcome) → last ≡ eqb i (writeCount q + writeCount q) → (o ≡ raiseEnd last (clientIn s d)) × (v ≡ withClient s d (raiseLeft last (clientIn s d)))
+  raise-stored : writeCount q < i → raised narrow (labelWords (writeNode q (i - (writeCount q + 1)))) (storeIn n) ≡ some st → u ≡ withStore n st
+      → (last : Bool) (o : Outcome) → last ≡ eqb i (writeCount q + writeCount q) → (o ≡ raiseEnd last (clientIn narrow s d)) × (v ≡ withClient narrow s d (raiseLeft last (clientIn narrow s d)))
       → resultWith o (mem t u a v) y ≡ writeResult (mem t n a s) y d w q i
   unfolding writeResult raiseResult nowAt storeBack client raiseEnd raiseLeft
   raise-stored h e f last o m l =
       rw (le-ltb i (writeCount q) (omega arith), ne-eqb i (writeCount q) (λ r. omega arith), e, ← m, f, l .0, l .1) (go last)
     where
       go : (f : Bool)
-          → resultWith (cond f (endOf (clientIn s d)) Accepted) (mem t (withStore n st) a (withClient s d (cond f idle (stepped (clientIn s d))))) y
-          ≡ cond f (resultWith (endOf (clientIn s d)) (mem t (withStore n st) a (withClient s d idle)) y) (resultWith Accepted (mem t (withStore n st) a (withClient s d (stepped (clientIn s d)))) y)
+          → resultWith (cond f (endOf (clientIn narrow s d)) Accepted) (mem t (withStore n st) a (withClient narrow s d (cond f (idle narrow) (stepped (clientIn narrow s d))))) y
+          ≡ cond f (resultWith (endOf (clientIn narrow s d)) (mem t (withStore n st) a (withClient narrow s d (idle narrow))) y) (resultWith Accepted (mem t (withStore n st) a (withClient narrow s d (stepped (clientIn narrow s d)))) y)
       go true = refl
       go false = refl
 
@@ -108,34 +110,34 @@ module _ (t n a s y : List ℕ) (d : ℕ) (w : Write) (q : Query) (i : ℕ) (p :
         let x = went-not n (announced p (storeIn n)) u (rw z at g) in
         rw (lt-ltb i (writeCount q) h, ← e, x .0, x .1)
 
-    pub announce-done : b ≡ true → (v : List ℕ) → v ≡ withClient s d (stepped (clientIn s d)) → resultWith Accepted (mem t u a v) y ≡ writeResult (mem t n a s) y d w q i
+    pub announce-done : b ≡ true → (v : List ℕ) → v ≡ withClient narrow s d (stepped (clientIn narrow s d)) → resultWith Accepted (mem t u a v) y ≡ writeResult (mem t n a s) y d w q i
     announce-done z v l =
         let x : Went n (announced p (storeIn n)) u = went-well n (announced p (storeIn n)) u (rw z at g) in
         announce-stored t n a s y d w q i u (x .store) v h (ap (λ (m : Words). announced m (storeIn n)) (sym e) ∙ x .is) (x .mem) l
 
-  module _ (e : p ≡ labelWords (writeNode q (i - (writeCount q + 1)))) (g : attempt b u ≡ tried n (raised p (storeIn n))) (h : writeCount q < i) where
+  module _ (e : p ≡ labelWords (writeNode q (i - (writeCount q + 1)))) (g : attempt b u ≡ tried n (raised narrow p (storeIn n))) (h : writeCount q < i) where
     pub raise-refused : b ≡ false → resultWith (Refused 3) (mem t u a s) y ≡ writeResult (mem t n a s) y d w q i
     unfolding writeResult raiseResult
     raise-refused z =
-        let x = went-not n (raised p (storeIn n)) u (rw z at g) in
+        let x = went-not n (raised narrow p (storeIn n)) u (rw z at g) in
         rw (le-ltb i (writeCount q) (omega arith), ne-eqb i (writeCount q) (λ m. omega arith), ← e, x .0, x .1)
 
     pub raise-done : b ≡ true → (last : Bool) (o : Outcome) (v : List ℕ) → last ≡ eqb i (writeCount q + writeCount q)
-        → (o ≡ raiseEnd last (clientIn s d)) × (v ≡ withClient s d (raiseLeft last (clientIn s d))) → resultWith o (mem t u a v) y ≡ writeResult (mem t n a s) y d w q i
+        → (o ≡ raiseEnd last (clientIn narrow s d)) × (v ≡ withClient narrow s d (raiseLeft last (clientIn narrow s d))) → resultWith o (mem t u a v) y ≡ writeResult (mem t n a s) y d w q i
     raise-done z last o v m l =
-        let x : Went n (raised p (storeIn n)) u = went-well n (raised p (storeIn n)) u (rw z at g) in
-        raise-stored t n a s y d w q i u (x .store) v h (ap (λ (m : Words). raised m (storeIn n)) (sym e) ∙ x .is) (x .mem) last o m l
+        let x : Went n (raised narrow p (storeIn n)) u = went-well n (raised narrow p (storeIn n)) u (rw z at g) in
+        raise-stored t n a s y d w q i u (x .store) v h (ap (λ (m : Words). raised narrow m (storeIn n)) (sym e) ∙ x .is) (x .mem) last o m l
 
 pub table-done : (t n a s y : List ℕ) (d k : ℕ) (w w′ : Write) (q : Query) (i : ℕ) (x v : List ℕ) (r : Report) → i ≡ writeCount q → k ≡ getD s 0 0 → w′ ≡ w
-    → (r ≡ reported w′ (recordsIn k t)) × (x ≡ withRecords k t (effect w′ (recordsIn k t))) → v ≡ withClient s d (wrote (r .changed) (r .full) (clientIn s d))
+    → (r ≡ reported w′ (recordsIn k t)) × (x ≡ withRecords k t (effect w′ (recordsIn k t))) → v ≡ withClient narrow s d (wrote (r .changed) (r .full) (clientIn narrow s d))
     → resultWith Accepted (mem x n a v) y ≡ writeResult (mem t n a s) y d w q i
-unfolding writeResult writeTableResult nowAt columns columnsAt client reported
+unfolding writeResult writeTableResult nowAt client reported
 table-done t n a s y d k w w′ q i x v r h e f l m =
     rw (le-ltb i (writeCount q) (omega arith), eq-eqb i (writeCount q) h, ← e, m, l .0, l .1, f)
 
 -- ---- the table's change
 -- the write of a client, by the kind and the columns that the code reads
-pub write-is : (k : ℕ) (c : Client) (x : ℕ) (cols : List Column) → x ≡ kind c → cols ≡ four (queryAt k c) → writeOf x (take k cols) ≡ writeAt k c
+pub write-is : (k : ℕ) (c : Client) (x : ℕ) (cols : List Column) → x ≡ kind c → cols ≡ four (queryAt (shapeOf k) c) → writeOf x (take k cols) ≡ writeAt (shapeOf k) c
 unfolding writeOf writeAt
 write-is k c x cols e f = rw (columns-back k c cols f, e)
 
@@ -194,13 +196,13 @@ module _ (c : Client) (b : Bool) (e : b ≡ foundFull c) where
   end-given h x f = rw (← e, h, f)
 
 module _ (s : List ℕ) (d : ℕ) (last : Bool) (v : List ℕ) where
-  pub last-ends : (o : Outcome) → last ≡ true → (o ≡ endOf (clientIn s d)) × (v ≡ withClient s d idle)
-      → (o ≡ raiseEnd last (clientIn s d)) × (v ≡ withClient s d (raiseLeft last (clientIn s d)))
+  pub last-ends : (o : Outcome) → last ≡ true → (o ≡ endOf (clientIn narrow s d)) × (v ≡ withClient narrow s d (idle narrow))
+      → (o ≡ raiseEnd last (clientIn narrow s d)) × (v ≡ withClient narrow s d (raiseLeft last (clientIn narrow s d)))
   unfolding raiseEnd raiseLeft
   last-ends o h e = rw h e
 
-  pub last-not : last ≡ false → v ≡ withClient s d (stepped (clientIn s d))
-      → (Accepted ≡ raiseEnd last (clientIn s d)) × (v ≡ withClient s d (raiseLeft last (clientIn s d)))
+  pub last-not : last ≡ false → v ≡ withClient narrow s d (stepped (clientIn narrow s d))
+      → (Accepted ≡ raiseEnd last (clientIn narrow s d)) × (v ≡ withClient narrow s d (raiseLeft last (clientIn narrow s d)))
   unfolding raiseEnd raiseLeft
   last-not h e = rw h (refl, e)
 

@@ -13,10 +13,12 @@ use Rattle.rules.specs.declared.Outcome.{Outcome}
 use Rattle.rules.specs.declared.Outcome.the-variants.{Accepted}
 use Rattle.rules.specs.Table.{Table, Write, insert, delete, changes, noRoom}
 use Rattle.rules.specs.Nodes.{Words, Store, pending, nodePlace, releasedAll}
-use Rattle.rules.specs.Client.{Client, kind, steps, reads, inserts, idle, isIdle, isBad, queryAt, writeAt, stepped}
+use Rattle.rules.specs.Client.{Client, kind, steps, idle, isIdle, isBad, queryAt, writeAt, stepped}
+use Rattle.rules.specs.Layout.{reads, inserts}
 use Rattle.rules.specs.Memory.{Mem, clientIn, storeIn}
 use Rattle.rules.specs.Outcome.{Result, StepResult}
 use Rattle.rules.specs.Steps.{writeResult, endOf}
+use Rattle.query.specs.Shape.{narrow, shapeOf}
 use Rattle.rules.specs.Calls.{announcedLabels, takenBack}
 use Rattle.nodes.specs.NodeContracts.{releasedAt}
 use Rattle.writing.specs.declared.Report.{Report}
@@ -28,24 +30,24 @@ pub record Writer (s : List ℕ) (d k : ℕ) : Type 0 where
   pub most : k ≤ 4
   pub below : d < 12
   pub long : 2000 ≤ length s
-  pub sound : isBad k (clientIn s d) ≡ false
-  pub busy : isIdle (clientIn s d) ≡ false
-  pub writes : kind (clientIn s d) ≡ reads → ⊥
+  pub sound : isBad narrow (shapeOf k) (clientIn narrow s d) ≡ false
+  pub busy : isIdle narrow (clientIn narrow s d) ≡ false
+  pub writes : kind (clientIn narrow s d) ≡ reads → ⊥
 
 -- how many steps the write has made, and how many nodes it has
 abbrev pub stepAt : List ℕ → ℕ → ℕ
-stepAt s d = steps (clientIn s d)
+stepAt s d = steps (clientIn narrow s d)
 
 abbrev pub countAt : ℕ → List ℕ → ℕ → ℕ
-countAt k s d = writeCount (queryAt k (clientIn s d))
+countAt k s d = writeCount (queryAt (shapeOf k) (clientIn narrow s d))
 
 -- what the next step of client d's write leaves
 abbrev pub stepOf : ℕ → Mem → List ℕ → ℕ → StepResult
-stepOf k m tray d = writeResult m tray d (writeAt k (clientIn (m .clients) d)) (queryAt k (clientIn (m .clients) d)) (steps (clientIn (m .clients) d))
+stepOf k m tray d = writeResult m tray d (writeAt (shapeOf k) (clientIn narrow (m .clients) d)) (queryAt (shapeOf k) (clientIn narrow (m .clients) d)) (steps (clientIn narrow (m .clients) d))
 
 -- what the taking back of its marks leaves
 abbrev pub backOf : ℕ → Mem → ℕ → Result
-backOf k m d = takenBack m d (releasedAll (announcedLabels (queryAt k (clientIn (m .clients) d)) (steps (clientIn (m .clients) d))) (storeIn (m .nodes)))
+backOf k m d = takenBack m d (releasedAll (announcedLabels (queryAt (shapeOf k) (clientIn narrow (m .clients) d)) (steps (clientIn narrow (m .clients) d))) (storeIn (m .nodes)))
 
 -- the write of a kind and a query
 unfoldable pub writeOf : ℕ → Query → Write
@@ -63,7 +65,7 @@ unfoldable pub raiseEnd : Bool → Client → Outcome
 raiseEnd isLast c = cond isLast (endOf c) Accepted
 
 unfoldable pub raiseLeft : Bool → Client → Client
-raiseLeft isLast c = cond isLast idle (stepped c)
+raiseLeft isLast c = cond isLast (idle narrow) (stepped c)
 
 -- a store was found
 unfoldable pub isFound : Option Store → Bool

@@ -9,10 +9,12 @@ ghost use Rattle.query.specs.Query.{writeCount};
 ghost use Rattle.query.specs.Encoding.{namesAll, recordOf};
 ghost use Rattle.rules.specs.Table.{insert, effect};
 ghost use Rattle.rules.specs.Nodes.{releasedAll};
-ghost use Rattle.rules.specs.Client.{inserts, idle};
+ghost use Rattle.rules.specs.Client.{idle};
+ghost use Rattle.rules.specs.Layout.{inserts};
 ghost use Rattle.rules.specs.Memory.{mem, recordsIn, withRecords, storeIn, withStore, clientIn, withClient};
 ghost use Rattle.rules.specs.Outcome.{result, resultWith};
 ghost use Rattle.rules.specs.Steps.{endOf};
+ghost use Rattle.query.specs.Shape.{narrow};
 ghost use Rattle.rules.specs.Calls.{announcedLabels};
 ghost use Rattle.nodes.specs.NodeContracts;
 ghost use Rattle.clients.specs.ClientContracts;
@@ -107,7 +109,7 @@ pub fn write_table_step(table: &mut [u32], clients: &mut [u32], d: usize, k: usi
 // Ends a write: the client is idle, and what it kept of the table step is the outcome.
 fn end(clients: &mut [u32], d: usize) -> Outcome
     requires { ⌜ ClientContracts.Fit (now clients) d ⌝ }
-    ensures { λ r. ⌜ (r ≡ endOf (clientIn (now (clients .entry)) d)) × (now (clients .exit) ≡ withClient (now (clients .entry)) d idle) ⌝ }
+    ensures { λ r. ⌜ (r ≡ endOf (clientIn narrow (now (clients .entry)) d)) × (now (clients .exit) ≡ withClient narrow (now (clients .entry)) d (idle narrow)) ⌝ }
 {
     let full = clients::found_full(clients, d);
     let changed = clients::did_change(clients, d);
@@ -121,7 +123,7 @@ fn end(clients: &mut [u32], d: usize) -> Outcome
 // What a raise leaves of the client: the last one ends the write.
 fn after_raise(clients: &mut [u32], d: usize, last: bool) -> Outcome
     requires { ⌜ ClientContracts.Fit (now clients) d × (stepAt (now clients) d < 4294967295) ⌝ }
-    ensures { λ r. ⌜ (r ≡ raiseEnd last (clientIn (now (clients .entry)) d)) × (now (clients .exit) ≡ withClient (now (clients .entry)) d (raiseLeft last (clientIn (now (clients .entry)) d))) ⌝ }
+    ensures { λ r. ⌜ (r ≡ raiseEnd last (clientIn narrow (now (clients .entry)) d)) × (now (clients .exit) ≡ withClient narrow (now (clients .entry)) d (raiseLeft last (clientIn narrow (now (clients .entry)) d))) ⌝ }
 {
     if last {
         return end(clients, d);

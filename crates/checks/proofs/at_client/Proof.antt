@@ -17,7 +17,7 @@ returns-2 : tie.Need-returns-2
 returns-2 c = client-none _ _ (sym (c .before .if1 .left) ∙ c .before .before .is-unsound .ensures) (c .if2 .taken)
 
 shared-slice-read-k : tie.Need-shared-slice-read-k
-shared-slice-read-k c = omega (arith, long _ (c .before .before .before .before .before .before .before .before .pre))
+shared-slice-read-k c = omega (arith, long _ _ (c .before .before .before .before .before .before .before .before .pre))
 
 cast-k : tie.Need-cast-k
 cast-k c = omega (arith, columns-range _ (sound _ (c .before .before .before .before .before .before .before .before .pre) (sym (sym (c .before .before .if1 .left) ∙ c .before .before .before .is-unsound .ensures))))

@@ -6,7 +6,7 @@ use Rattle.checks.proofs.is_unsound.Statement.{statement}
 use Rattle.checks.proofs.is_unsound.Tie as tie
 
 shared-slice-read-k : tie.Need-shared-slice-read-k
-shared-slice-read-k c = omega (arith, long _ (c .before .before .before .before .before .pre))
+shared-slice-read-k c = omega (arith, long _ _ (c .before .before .before .before .before .pre))
 
 returns : tie.Need-returns
 returns c = unsound-none _ (c .if1 .taken)
@@ -15,25 +15,25 @@ returns-2 : tie.Need-returns-2
 returns-2 c = unsound-many _ (c .before .if1 .left) (c .if2 .taken)
 
 shared-slice-read-if3 : tie.Need-shared-slice-read-if3
-shared-slice-read-if3 c = omega (arith, long _ (c .before .before .before .before .before .before .before .before .pre))
+shared-slice-read-if3 c = omega (arith, long _ _ (c .before .before .before .before .before .before .before .before .pre))
 
 returns-3 : tie.Need-returns-3
 returns-3 c = unsound-records _ (c .before .before .before .if1 .left) (c .before .before .if2 .left) (c .if3 .taken)
 
 shared-slice-read-if4 : tie.Need-shared-slice-read-if4
-shared-slice-read-if4 c = omega (arith, long _ (c .before .before .before .before .before .before .before .before .before .before .pre))
+shared-slice-read-if4 c = omega (arith, long _ _ (c .before .before .before .before .before .before .before .before .before .before .pre))
 
 returns-4 : tie.Need-returns-4
 returns-4 c = unsound-nodes _ (c .before .before .before .before .before .if1 .left) (c .before .before .before .before .if2 .left) (c .before .before .if3 .left) (c .if4 .taken)
 
 shared-slice-read-if5 : tie.Need-shared-slice-read-if5
-shared-slice-read-if5 c = omega (arith, long _ (c .before .before .before .before .before .before .before .before .before .before .before .before .pre))
+shared-slice-read-if5 c = omega (arith, long _ _ (c .before .before .before .before .before .before .before .before .before .before .before .before .pre))
 
 returns-5 : tie.Need-returns-5
 returns-5 c = unsound-answers _ (c .before .before .before .before .before .before .before .if1 .left) (c .before .before .before .before .before .before .if2 .left) (c .before .before .before .before .if3 .left) (c .before .before .if4 .left) (c .if5 .taken)
 
 some-long-requires : tie.Need-some-long-requires
-some-long-requires c κs = record { long = long _ (c .before .before .before .before .before .before .before .before .before .before .before .before .before .pre) .answers; few = c .if5 .left }
+some-long-requires c κs = record { long = long _ _ (c .before .before .before .before .before .before .before .before .before .before .before .before .before .pre) .answers; few = c .if5 .left }
 
 returns-6 : tie.Need-returns-6
 returns-6 c = unsound-lists _ (c .before .before .before .before .before .before .before .before .if1 .left) (c .before .before .before .before .before .before .before .if2 .left) (c .before .before .before .before .before .if3 .left) (c .before .before .before .if4 .left) _ (c .before .if5 .left) (c .some-long .ensures)

@@ -6,7 +6,7 @@ use Prim.Native.Nat.{_+_, _-_, _≤_}
 use native.Mathlib.Omega.{arith}
 use lib.ListN.{length, take}
 use borrow.Author.Needs.{needs}
-use Rattle.rules.specs.Sizes.{tableLeast}
+use Rattle.rules.specs.Layout.{tableLeast}
 use Rattle.rules.specs.Table.{delete, outside}
 use Rattle.rules.specs.Memory.{recordsIn}
 use Rattle.table.proofs.TableMemory.{write-length, scan-in, scan-end, length-records, part-is, part-long, tested}

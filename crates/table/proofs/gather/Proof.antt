@@ -6,7 +6,7 @@ use native.Mathlib.Omega.{arith}
 use lib.ListN.{take}
 use borrow.Author.Needs.{needs}
 use Rattle.query.specs.Query.{lies}
-use Rattle.rules.specs.Sizes.{tableLeast}
+use Rattle.rules.specs.Layout.{tableLeast}
 use Rattle.rules.specs.Table.{listOf}
 use Rattle.rules.specs.Memory.{recordsIn}
 use Rattle.table.proofs.TableMemory.{scan-in, length-records, wide-records, part-is, part-long, tested}

@@ -5,7 +5,7 @@ use native.Mathlib.Nat.{mul-le-mul-right}
 use native.Mathlib.Omega.{arith}
 use lib.ListN.{length, getD}
 use borrow.Author.Needs.{needs}
-use Rattle.rules.specs.Sizes.{tableLeast}
+use Rattle.rules.specs.Layout.{tableLeast}
 use Rattle.table.proofs.TableMemory.{scan-end, in-use, room-for}
 use Rattle.table.proofs.Seeking.{spot-in, insert-there, insert-full, insert-added}
 use Rattle.table.proofs.insert.Statement.{statement}

@@ -5,7 +5,7 @@ use Prim.Native.Nat.{_+_, _-_, _≤_}
 use native.Mathlib.Omega.{arith}
 use lib.ListN.{length}
 use borrow.Author.Needs.{needs}
-use Rattle.rules.specs.Sizes.{tableLeast}
+use Rattle.rules.specs.Layout.{tableLeast}
 use Rattle.rules.specs.Memory.{recordsIn}
 use Rattle.table.proofs.TableMemory.{scan-in, length-records, part-is, part-long}
 use Rattle.table.proofs.Seeking.{Seeking, seek-none, turn-behind, turn-past, turn-greater, seek-there, seek-all}

@@ -1,5 +1,4 @@
 -- `Hall::clear_clients` meets its contract: it empties the desks memory and sets k where that is long enough. Assumes nothing.
-use Rattle.rules.specs.Sizes.{clientsLeast}
 use Rattle.hall.specs.HallContracts.{clientsCleared}
 use Rattle.hall.proofs.Clearing.{kept, done-set}
 use borrow.Author.Needs.{needs}
@@ -8,7 +7,7 @@ use Rattle.hall.proofs.Hall.clear_clients.Tie as tie
 
 returns : tie.Need-returns
 unfolding clientsCleared
-returns c = kept clientsLeast _ _ (search needs)
+returns c = kept _ _ _ (search needs)
 
 clear-requires : tie.Need-clear-requires
 clear-requires c κs = search needs
@@ -21,7 +20,7 @@ same-length c = search needs
 
 returns-2 : tie.Need-returns-2
 unfolding clientsCleared
-returns-2 c = done-set clientsLeast _ _ _ (search needs) (c .before .before .clear .ensures)
+returns-2 c = done-set _ _ _ _ (search needs) (c .before .before .clear .ensures)
 
 pub clear-clients-spec : {M : Type 1} → statement M
 clear-clients-spec =

@@ -1,5 +1,5 @@
 -- `Hall::clear_table` meets its contract: it empties the table memory where that is long enough. Assumes nothing.
-use Rattle.rules.specs.Sizes.{tableLeast}
+use Rattle.rules.specs.Layout.{tableLeast}
 use Rattle.hall.specs.HallContracts.{tableCleared}
 use Rattle.hall.proofs.Clearing.{kept, done}
 use borrow.Author.Needs.{needs}

@@ -54,7 +54,7 @@ returns-2 c =
     let t = n .before .before .before .before in
     let i = t .before .before in
     opens _ _ _ (i .before .open-code .ensures) _ _ _ _ (i .if1 .left) (t .clear-table .ensures .1) (n .clear-nodes .ensures .1)
-    (a .clear-answers .ensures .1) (d .clear-clients .ensures .1)
+    (a .clear-answers .ensures _ .1) (d .clear-clients .ensures .1)
 
 pub open-spec : {M : Type 1} → statement M
 open-spec =
