@@ -13,7 +13,9 @@ use Rattle.lists.specs.Lists.{written, without}
 use Rattle.laws.specs.Splice.{removed}
 use Rattle.laws.proofs.EntryLaws.{with-append, with-remove, with-replace, with-none}
 use Rattle.rules.specs.Answers.{Entry, lengthIn, listIn, keyPlace, filed}
+use Rattle.lists.specs.Lists.{header}
 use Rattle.query.specs.Shape.{narrow}
+use Rattle.rules.specs.Layout.{entryWidth}
 use Rattle.rules.specs.Memory.{answersIn, withAnswers}
 use Rattle.answers.specs.AnswerContracts.{Fit, Gave}
 use Rattle.answers.proofs.AnswerScan.{count-is, part-is}
@@ -25,33 +27,33 @@ zeros-written s n = rw (length-replicate, append-assoc)
 
 module _ (s : List ℕ) (fit : Fit s) where
   -- ---- behind the last, out, out and behind the last, all out
-  pub appended : (t x : List ℕ) → t ≡ written s (8 + getD s 0 0 * 152) x → set t 0 (getD s 0 0 + 1) ≡ withAnswers narrow s (answersIn narrow s ++ (x ∷ []))
+  pub appended : (t x : List ℕ) → t ≡ written s (8 + getD s 0 0 * entryWidth narrow) x → set t 0 (getD s 0 0 + 1) ≡ withAnswers narrow s (answersIn narrow s ++ (x ∷ []))
   unfolding answersIn withAnswers
-  appended t x e = rw e (sym (with-append 0 152 s (room s fit) x))
+  appended t x e = rw e (sym (with-append 0 (entryWidth narrow) s (room s fit) x))
 
-  pub evicted : (t : List ℕ) (i : ℕ) → t ≡ removed s (8 + i * 152) 152 (8 + getD s 0 0 * 152) → i < getD s 0 0 → set t 0 (getD s 0 0 - 1) ≡ withAnswers narrow s (without i (answersIn narrow s))
+  pub evicted : (t : List ℕ) (i : ℕ) → t ≡ removed s (header + i * entryWidth narrow) (entryWidth narrow) (8 + getD s 0 0 * entryWidth narrow) → i < getD s 0 0 → set t 0 (getD s 0 0 - 1) ≡ withAnswers narrow s (without i (answersIn narrow s))
   unfolding answersIn withAnswers
-  evicted t i e h = rw e (sym (with-remove 0 152 s (room s fit) i h))
+  evicted t i e h = rw e (sym (with-remove 0 (entryWidth narrow) s (room s fit) i h))
 
-  pub replaced : (t u x : List ℕ) (i : ℕ) → t ≡ removed s (8 + i * 152) 152 (8 + getD s 0 0 * 152) → u ≡ written t (8 + getD s 0 0 * 152 - 152) x → i < getD s 0 0 → length x ≡ 152
+  pub replaced : (t u x : List ℕ) (i : ℕ) → t ≡ removed s (header + i * entryWidth narrow) (entryWidth narrow) (8 + getD s 0 0 * entryWidth narrow) → u ≡ written t (8 + getD s 0 0 * entryWidth narrow - entryWidth narrow) x → i < getD s 0 0 → length x ≡ entryWidth narrow
       → u ≡ withAnswers narrow s (without i (answersIn narrow s) ++ (x ∷ []))
   unfolding answersIn withAnswers
   replaced t u x i e f h k =
-      let m : 8 + getD s 0 0 * 152 - 152 ≡ 8 + (getD s 0 0 - 1) * 152 = omega arith in
-      f ∙ rw (m, e) (sym (with-replace 0 152 s (room s fit) i x (omega arith) h k))
+      let m : 8 + getD s 0 0 * entryWidth narrow - entryWidth narrow ≡ 8 + (getD s 0 0 - 1) * entryWidth narrow = omega arith in
+      f ∙ rw (m, e) (sym (with-replace 0 (entryWidth narrow) s (room s fit) i x (omega arith) h k))
 
-  pub emptied : (t : List ℕ) → t ≡ replicate (getD s 0 0 * 152) 0 ++ drop (getD s 0 0 * 152) (take (length s - 8) (drop 8 s))
+  pub emptied : (t : List ℕ) → t ≡ replicate (getD s 0 0 * entryWidth narrow) 0 ++ drop (getD s 0 0 * entryWidth narrow) (take (length s - 8) (drop 8 s))
       → set (putMid 8 (length s - 8) s t) 0 0 ≡ withAnswers narrow s []
   unfolding withAnswers
   emptied t e =
-      let n : ℕ = getD s 0 0 * 152 in
+      let n : ℕ = getD s 0 0 * entryWidth narrow in
       let m : length (drop 8 s) ≤ length s - 8 = rw length-drop (omega arith) in
       let a : take (length s - 8) (drop 8 s) ≡ drop 8 s = take-all (length s - 8) (drop 8 s) m in
       let b : drop (length s - 8) (drop 8 s) ≡ [] = drop-of-length-le (drop 8 s) m in
       let d : drop n (drop 8 s) ≡ drop (8 + n) s = drop-drop n 8 s in
       let f : t ≡ replicate n 0 ++ drop (8 + n) s = e ∙ rw (a, d) in
       let g : putMid 8 (length s - 8) s t ≡ written s 8 (replicate n 0) = rw (b, f, append-nil) (zeros-written s n) in
-      ap (λ (l : List ℕ). set l 0 0) g ∙ sym (with-none 0 152 s)
+      ap (λ (l : List ℕ). set l 0 0) g ∙ sym (with-none 0 (entryWidth narrow) s)
 
 -- ---- what is filed
 module _ (s : List ℕ) where
@@ -85,9 +87,9 @@ gave k e tray after h =
     record { count = refl; list = rw m at h }
 
 -- the list of entry i, where it stands in the memory
-pub short-part : (s : List ℕ) (i : ℕ) → lengthIn (getD (answersIn narrow s) i []) ≤ 32 → i < getD s 0 0 → lengthIn (take (8 + i * 152 + 152 - (8 + i * 152)) (drop (8 + i * 152) s)) ≤ 32
-short-part s i h k = rw (part-is s (8 + i * 152) i refl k) h
+pub short-part : (s : List ℕ) (i : ℕ) → lengthIn (getD (answersIn narrow s) i []) ≤ 32 → i < getD s 0 0 → lengthIn (take (header + i * entryWidth narrow + entryWidth narrow - (header + i * entryWidth narrow)) (drop (header + i * entryWidth narrow) s)) ≤ 32
+short-part s i h k = rw (part-is s (header + i * entryWidth narrow) i refl k) h
 
-pub gave-at : (s : List ℕ) (i k r : ℕ) (tray after : List ℕ) → Gave k (take (8 + i * 152 + 152 - (8 + i * 152)) (drop (8 + i * 152) s)) tray r after → i < getD s 0 0
+pub gave-at : (s : List ℕ) (i k r : ℕ) (tray after : List ℕ) → Gave k (take (header + i * entryWidth narrow + entryWidth narrow - (header + i * entryWidth narrow)) (drop (header + i * entryWidth narrow) s)) tray r after → i < getD s 0 0
     → Gave k (getD (answersIn narrow s) i []) tray r after
-gave-at s i k r tray after h g = rw (part-is s (8 + i * 152) i refl g) at h
+gave-at s i k r tray after h g = rw (part-is s (header + i * entryWidth narrow) i refl g) at h

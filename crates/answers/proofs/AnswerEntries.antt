@@ -14,44 +14,45 @@ use Rattle.laws.proofs.RowLaws.{Wide, wide-nil, wide-snoc, wide-without, wide-a
 use Rattle.laws.proofs.EntryLaws.{length-entries, wide-entries, length-with, count-with, entries-with}
 use Rattle.rules.specs.Answers.{Entry, keyPlace, filed}
 use Rattle.query.specs.Shape.{narrow}
+use Rattle.rules.specs.Layout.{entryWidth}
 use Rattle.rules.specs.Memory.{answersIn, withAnswers}
 use Rattle.answers.specs.AnswerContracts.{Fit}
 use Rattle.answers.proofs.AnswerScan.{count-is}
 
 -- entries of 152 numbers, no more than are kept
 pub record Kept (es : List Entry) : Type 0 where
-  pub wide : Wide 152 es
+  pub wide : Wide (entryWidth narrow) es
   pub few : length es ≤ 64
 
 -- ---- what a fit memory holds
 module _ (s : List ℕ) (fit : Fit s) where
-  pub room : 8 + getD s 0 0 * 152 ≤ length s
+  pub room : 8 + getD s 0 0 * entryWidth narrow ≤ length s
   room = let a = fit .long in let b = fit .few in omega arith
 
   pub answers-kept : Kept (answersIn narrow s)
   unfolding answersIn
-  answers-kept = let b = fit .few in let l = length-entries 0 152 s in record { wide = wide-entries 0 152 s room; few = omega arith }
+  answers-kept = let b = fit .few in let l = length-entries 0 (entryWidth narrow) s in record { wide = wide-entries 0 (entryWidth narrow) s room; few = omega arith }
 
-  pub answer-length : (i : ℕ) → i < getD s 0 0 → length (getD (answersIn narrow s) i []) ≡ 152
+  pub answer-length : (i : ℕ) → i < getD s 0 0 → length (getD (answersIn narrow s) i []) ≡ entryWidth narrow
   unfolding answersIn
-  answer-length i h = let l = length-entries 0 152 s in wide-at 152 (entriesIn 0 152 s) i (wide-entries 0 152 s room) (omega arith)
+  answer-length i h = let l = length-entries 0 (entryWidth narrow) s in wide-at (entryWidth narrow) (entriesIn 0 (entryWidth narrow) s) i (wide-entries 0 (entryWidth narrow) s room) (omega arith)
 
 -- ---- what a memory with other answers holds
 module _ (s : List ℕ) (fit : Fit s) (es : List Entry) (kept : Kept es) where
-  new-room : 8 + length es * 152 ≤ length s
+  new-room : 8 + length es * entryWidth narrow ≤ length s
   new-room = let a = fit .long in let b = kept .few in omega arith
 
   pub answers-back : answersIn narrow (withAnswers narrow s es) ≡ es
   unfolding answersIn withAnswers
-  answers-back = entries-with 0 152 s es (kept .wide) (room s fit) new-room (omega arith)
+  answers-back = entries-with 0 (entryWidth narrow) s es (kept .wide) (room s fit) new-room (omega arith)
 
   length-kept : length (withAnswers narrow s es) ≡ length s
   unfolding withAnswers
-  length-kept = length-with 0 152 s es (kept .wide) (room s fit) new-room
+  length-kept = length-with 0 (entryWidth narrow) s es (kept .wide) (room s fit) new-room
 
   pub count-back : getD (withAnswers narrow s es) 0 0 ≡ length es
   unfolding withAnswers
-  count-back = count-with 0 152 s es (kept .wide) (room s fit) new-room (omega arith)
+  count-back = count-with 0 (entryWidth narrow) s es (kept .wide) (room s fit) new-room (omega arith)
 
   fit-kept : Fit (withAnswers narrow s es)
   fit-kept =
@@ -63,19 +64,19 @@ module _ (s : List ℕ) (fit : Fit s) (es : List Entry) (kept : Kept es) where
 
 -- ---- none, one out, one filed
 pub none-kept : Kept []
-none-kept = record { wide = wide-nil 152; few = omega arith }
+none-kept = record { wide = wide-nil (entryWidth narrow); few = omega arith }
 
-snoc-kept : (x : Entry) (l : List Entry) → length x ≡ 152 → Wide 152 l → length l < 64 → Kept (l ++ (x ∷ []))
-snoc-kept x l h w k = let a = length-append l (x ∷ []) in record { wide = wide-snoc 152 l x w h; few = omega arith }
+snoc-kept : (x : Entry) (l : List Entry) → length x ≡ entryWidth narrow → Wide (entryWidth narrow) l → length l < 64 → Kept (l ++ (x ∷ []))
+snoc-kept x l h w k = let a = length-append l (x ∷ []) in record { wide = wide-snoc (entryWidth narrow) l x w h; few = omega arith }
 
 module _ (es : List Entry) (kept : Kept es) where
   pub without-kept : (i : ℕ) → i < length es → Kept (without i es)
   without-kept i h =
       let b = kept .few in
       let l = length-without i es h in
-      record { wide = wide-without 152 i es (kept .wide); few = omega arith }
+      record { wide = wide-without (entryWidth narrow) i es (kept .wide); few = omega arith }
 
-  pub filed-kept : (x : Entry) → length x ≡ 152 → Kept (filed x es)
+  pub filed-kept : (x : Entry) → length x ≡ entryWidth narrow → Kept (filed x es)
   unfolding filed
   filed-kept x h = go (ltb (keyPlace x es) (length es)) refl (ltb (length es) 64) refl
     where
@@ -85,13 +86,13 @@ module _ (es : List Entry) (kept : Kept es) where
           let k = kept .few in
           let q : keyPlace x es < length es = ltb-true (keyPlace x es) (length es) e in
           let l = length-without (keyPlace x es) es q in
-          snoc-kept x (without (keyPlace x es) es) h (wide-without 152 (keyPlace x es) es (kept .wide)) (omega arith)
+          snoc-kept x (without (keyPlace x es) es) h (wide-without (entryWidth narrow) (keyPlace x es) es (kept .wide)) (omega arith)
       go false e true f = snoc-kept x es h (kept .wide) (ltb-true (length es) 64 f)
       go false e false f =
           let k = kept .few in
           let q : 64 ≤ length es = ltb-false (length es) 64 f in
           let l = length-without 0 es (omega arith) in
-          snoc-kept x (without 0 es) h (wide-without 152 0 es (kept .wide)) (omega arith)
+          snoc-kept x (without 0 es) h (wide-without (entryWidth narrow) 0 es (kept .wide)) (omega arith)
 
 -- ---- each operation: the memory stays fit and as long as it was, and holds the new answers
 pub record Stays (s : List ℕ) (es : List Entry) : Type 0 where
@@ -103,7 +104,7 @@ pub stays : (s : List ℕ) → Fit s → (es : List Entry) → Kept es → Stays
 stays s fit es kept = record { fit = fit-kept s fit es kept; same-length = length-kept s fit es kept; back = answers-back s fit es kept }
 
 module _ (s : List ℕ) (fit : Fit s) where
-  pub file-stays : (x : Entry) → length x ≡ 152 → Stays s (filed x (answersIn narrow s))
+  pub file-stays : (x : Entry) → length x ≡ entryWidth narrow → Stays s (filed x (answersIn narrow s))
   file-stays x h = stays s fit (filed x (answersIn narrow s)) (filed-kept (answersIn narrow s) (answers-kept s fit) x h)
 
   pub evict-stays : (i : ℕ) → i < getD s 0 0 → Stays s (without i (answersIn narrow s))

@@ -13,7 +13,9 @@ use Rattle.lists.specs.Lists.{same, place, allBelow}
 use Rattle.laws.proofs.SearchLaws.{place-start, place-found, place-next, place-none, place-before}
 use Rattle.laws.proofs.EntryLaws.{length-entries, entry-at}
 use Rattle.rules.specs.Answers.{Entry, keyIn, lengthIn, revisionIn, hasKeyOf, atLeast, serves, isLong, someLong}
+use Rattle.lists.specs.Lists.{header}
 use Rattle.query.specs.Shape.{narrow}
+use Rattle.rules.specs.Layout.{entryWidth}
 use Rattle.rules.specs.Memory.{answersIn}
 
 -- ---- one entry
@@ -43,34 +45,34 @@ serves-recent n x e h = rw h
 -- ---- where an entry stands
 pub count-is : (s : List ℕ) → length (answersIn narrow s) ≡ getD s 0 0
 unfolding answersIn
-count-is s = length-entries 0 152 s
+count-is s = length-entries 0 (entryWidth narrow) s
 
-pub part-is : (s : List ℕ) (at i : ℕ) → at ≡ 8 + i * 152 → i < getD s 0 0 → take (at + 152 - at) (drop at s) ≡ getD (answersIn narrow s) i []
+pub part-is : (s : List ℕ) (at i : ℕ) → at ≡ header + i * entryWidth narrow → i < getD s 0 0 → take (at + entryWidth narrow - at) (drop at s) ≡ getD (answersIn narrow s) i []
 unfolding answersIn
 part-is s at i h k =
-    let m : at + 152 - at ≡ 152 = omega arith in
-    rw (m, h) (sym (entry-at 0 152 s i k))
+    let m : at + entryWidth narrow - at ≡ entryWidth narrow = omega arith in
+    rw (m, h) (sym (entry-at 0 (entryWidth narrow) s i k))
 
 -- the length of entry i's list
-pub length-is : (s : List ℕ) (at i : ℕ) → at ≡ 8 + i * 152 → i < getD s 0 0 → lengthIn (getD (answersIn narrow s) i []) ≡ getD s (at + 7) 0
+pub length-is : (s : List ℕ) (at i : ℕ) → at ≡ header + i * entryWidth narrow → i < getD s 0 0 → lengthIn (getD (answersIn narrow s) i []) ≡ getD s (at + 7) 0
 unfolding lengthIn
 length-is s at i h k =
-    let m : 7 < at + 152 - at = omega arith in
-    ap (λ (t : List ℕ). getD t 7 0) (sym (part-is s at i h k)) ∙ getD-take (at + 152 - at) (drop at s) 7 0 m ∙ getD-drop at s 7 0
+    let m : 7 < at + entryWidth narrow - at = omega arith in
+    ap (λ (t : List ℕ). getD t 7 0) (sym (part-is s at i h k)) ∙ getD-take (at + entryWidth narrow - at) (drop at s) 7 0 m ∙ getD-drop at s 7 0
 
 -- ---- the loops
 module _ (p : Entry → Bool) (s : List ℕ) where
   pub scan-start : place p (answersIn narrow s) ≡ 0 + place p (drop 0 (answersIn narrow s))
   scan-start = place-start p (answersIn narrow s)
 
-  pub scan-found : (at i : ℕ) → place p (answersIn narrow s) ≡ i + place p (drop i (answersIn narrow s)) → at ≡ 8 + i * 152 → i < getD s 0 0
-      → p (take (at + 152 - at) (drop at s)) ≡ true → place p (answersIn narrow s) ≡ i
+  pub scan-found : (at i : ℕ) → place p (answersIn narrow s) ≡ i + place p (drop i (answersIn narrow s)) → at ≡ header + i * entryWidth narrow → i < getD s 0 0
+      → p (take (at + entryWidth narrow - at) (drop at s)) ≡ true → place p (answersIn narrow s) ≡ i
   scan-found at i v h k e =
       let l : length (answersIn narrow s) ≡ getD s 0 0 = count-is s in
       place-found p (answersIn narrow s) i [] v (omega arith) (ap p (sym (part-is s at i h k)) ∙ e)
 
-  pub scan-next : (at i : ℕ) → place p (answersIn narrow s) ≡ i + place p (drop i (answersIn narrow s)) → at ≡ 8 + i * 152 → i < getD s 0 0
-      → p (take (at + 152 - at) (drop at s)) ≡ false → place p (answersIn narrow s) ≡ i + 1 + place p (drop (i + 1) (answersIn narrow s))
+  pub scan-next : (at i : ℕ) → place p (answersIn narrow s) ≡ i + place p (drop i (answersIn narrow s)) → at ≡ header + i * entryWidth narrow → i < getD s 0 0
+      → p (take (at + entryWidth narrow - at) (drop at s)) ≡ false → place p (answersIn narrow s) ≡ i + 1 + place p (drop (i + 1) (answersIn narrow s))
   scan-next at i v h k e =
       let l : length (answersIn narrow s) ≡ getD s 0 0 = count-is s in
       place-next p (answersIn narrow s) i [] v (omega arith) (ap p (sym (part-is s at i h k)) ∙ e)
@@ -81,8 +83,8 @@ module _ (p : Entry → Bool) (s : List ℕ) where
       place-none p (answersIn narrow s) i v (omega arith) (omega arith) ∙ l
 
 -- ---- the scan for a list that is too long
-module _ (s : List ℕ) (at i : ℕ) (v : place isLong (answersIn narrow s) ≡ i + place isLong (drop i (answersIn narrow s))) (h : at ≡ 8 + i * 152) (k : i < getD s 0 0) where
-  long-part : isLong (take (at + 152 - at) (drop at s)) ≡ ltb 32 (getD s (at + 7) 0)
+module _ (s : List ℕ) (at i : ℕ) (v : place isLong (answersIn narrow s) ≡ i + place isLong (drop i (answersIn narrow s))) (h : at ≡ header + i * entryWidth narrow) (k : i < getD s 0 0) where
+  long-part : isLong (take (at + entryWidth narrow - at) (drop at s)) ≡ ltb 32 (getD s (at + 7) 0)
   unfolding isLong
   long-part = ap (λ (t : List ℕ). ltb 32 (lengthIn t)) (part-is s at i h k) ∙ ap (ltb 32) (length-is s at i h k)
 

@@ -7,7 +7,9 @@ ghost use Prim.Native.Nat.{_≤_, _<_};
 ghost use lib.ListN.{length, getD};
 ghost use Rattle.lists.specs.Lists.{without, allBelow};
 ghost use Rattle.rules.specs.Answers.{hasKeyOf, atLeast, serves, fetchPlace, keyPlace, filed, someLong, lengthIn};
-ghost use Rattle.query.specs.Shape.{narrow};
+ghost use Rattle.query.specs.Encoding.{keyWidth};
+ghost use Rattle.query.specs.Shape.{maxColumns, narrow};
+ghost use Rattle.rules.specs.Layout.{maxAnswers, maxList, trayLeast, answerCountOffset, maxLooks, entryWidth};
 ghost use Rattle.rules.specs.Memory.{answersIn, withAnswers};
 ghost use Rattle.answers.specs.AnswerContracts.{Fit, Gave};
 
@@ -16,20 +18,20 @@ const ANSWERS: usize = Hall::ANSWERS as usize;
 
 // Whether the entry e answers x's query.
 fn has_key(e: &[u32], x: &[u32]) -> bool
-    requires { ⌜ (7 ≤ length (now e)) × (7 ≤ length (now x)) ⌝ }
+    requires { ⌜ (keyWidth ≤ length (now e)) × (keyWidth ≤ length (now x)) ⌝ }
     ensures { λ r. ⌜ r ≡ hasKeyOf (now (x .entry)) (now (e .entry)) ⌝ }
 {
-    words::same(&e[..7], &x[..7])
+    words::same(&e[..Hall::KEY_WIDTH], &x[..Hall::KEY_WIDTH])
 }
 
 // Whether each of e's first n revisions is at least x's.
 fn is_recent(e: &[u32], x: &[u32], n: usize) -> bool
-    requires { ⌜ (length (now e) ≡ 152) × ((length (now x) ≡ 152) × (n ≤ 16)) ⌝ }
+    requires { ⌜ (length (now e) ≡ entryWidth narrow) × ((length (now x) ≡ entryWidth narrow) × (n ≤ maxLooks)) ⌝ }
     ensures { λ r. ⌜ r ≡ allBelow n (atLeast narrow (now (x .entry)) (now (e .entry))) ⌝ }
 {
     let mut j = 0;
     while j < n {
-        if e[8 + j] < x[8 + j] {
+        if e[Hall::REVISIONS_OFFSET + j] < x[Hall::REVISIONS_OFFSET + j] {
             return false;
         }
         j += 1;
@@ -39,7 +41,7 @@ fn is_recent(e: &[u32], x: &[u32], n: usize) -> bool
 
 // Whether e may be answered with to the client whose own entry x is. Few entries have the key, so it is compared first.
 fn may_serve(e: &[u32], x: &[u32], n: usize) -> bool
-    requires { ⌜ (length (now e) ≡ 152) × ((length (now x) ≡ 152) × (n ≤ 16)) ⌝ }
+    requires { ⌜ (length (now e) ≡ entryWidth narrow) × ((length (now x) ≡ entryWidth narrow) × (n ≤ maxLooks)) ⌝ }
     ensures { λ r. ⌜ r ≡ serves narrow n (now (x .entry)) (now (e .entry)) ⌝ }
 {
     if has_key(e, x) {
@@ -51,14 +53,14 @@ fn may_serve(e: &[u32], x: &[u32], n: usize) -> bool
 
 // The place of the first entry that may be answered with, or the count where none may.
 pub fn fetch(answers: &[u32], entry: &[u32], n: usize) -> usize
-    requires { ⌜ Fit (now answers) × ((length (now entry) ≡ 152) × (n ≤ 16)) ⌝ }
+    requires { ⌜ Fit (now answers) × ((length (now entry) ≡ entryWidth narrow) × (n ≤ maxLooks)) ⌝ }
     ensures { λ r. ⌜ r ≡ fetchPlace narrow n (now (entry .entry)) (answersIn narrow (now (answers .entry))) ⌝ }
 {
-    let count = answers[0] as usize;
-    let mut at = 8;
+    let count = answers[Hall::ANSWER_COUNT_OFFSET] as usize;
+    let mut at = Hall::HEADER;
     let mut i = 0;
     while i < count {
-        let end = at + 152;
+        let end = at + Hall::ENTRY_WIDTH;
         if may_serve(&answers[at..end], entry, n) {
             return i;
         }
@@ -70,14 +72,14 @@ pub fn fetch(answers: &[u32], entry: &[u32], n: usize) -> usize
 
 // The place of the first entry that answers the same query, or the count where none does.
 pub fn find_key(answers: &[u32], entry: &[u32]) -> usize
-    requires { ⌜ Fit (now answers) × (7 ≤ length (now entry)) ⌝ }
+    requires { ⌜ Fit (now answers) × (keyWidth ≤ length (now entry)) ⌝ }
     ensures { λ r. ⌜ r ≡ keyPlace (now (entry .entry)) (answersIn narrow (now (answers .entry))) ⌝ }
 {
-    let count = answers[0] as usize;
-    let mut at = 8;
+    let count = answers[Hall::ANSWER_COUNT_OFFSET] as usize;
+    let mut at = Hall::HEADER;
     let mut i = 0;
     while i < count {
-        let end = at + 152;
+        let end = at + Hall::ENTRY_WIDTH;
         if has_key(&answers[at..end], entry) {
             return i;
         }
@@ -92,14 +94,14 @@ pub fn some_long(answers: &[u32]) -> bool
     requires { ⌜ Fit (now answers) ⌝ }
     ensures { λ r. ⌜ r ≡ someLong (answersIn narrow (now (answers .entry))) ⌝ }
 {
-    let count = answers[0] as usize;
-    let mut at = 8;
+    let count = answers[Hall::ANSWER_COUNT_OFFSET] as usize;
+    let mut at = Hall::HEADER;
     let mut i = 0;
     while i < count {
-        if Hall::LIST < answers[at + 7] {
+        if Hall::LIST < answers[at + Hall::LENGTH_OFFSET] {
             return true;
         }
-        at += 152;
+        at += Hall::ENTRY_WIDTH;
         i += 1;
     }
     false
@@ -107,33 +109,33 @@ pub fn some_long(answers: &[u32]) -> bool
 
 // Puts entry in behind the last.
 fn append(answers: &mut [u32], entry: &[u32])
-    requires { ⌜ Fit (now answers) × ((length (now entry) ≡ 152) × (getD (now answers) 0 0 < 64)) ⌝ }
+    requires { ⌜ Fit (now answers) × ((length (now entry) ≡ entryWidth narrow) × (getD (now answers) answerCountOffset 0 < maxAnswers)) ⌝ }
     ensures { λ _. ⌜ now (answers .exit) ≡ withAnswers narrow (now (answers .entry)) (answersIn narrow (now (answers .entry)) ++ (now (entry .entry) ∷ [])) ⌝ }
 {
-    let count = answers[0];
-    let at = 8 + count as usize * 152;
+    let count = answers[Hall::ANSWER_COUNT_OFFSET];
+    let at = Hall::HEADER + count as usize * Hall::ENTRY_WIDTH;
     words::write(answers, at, entry);
-    answers[0] = count + 1;
+    answers[Hall::ANSWER_COUNT_OFFSET] = count + 1;
 }
 
 // Takes the entry at place i out and puts entry in behind the last: the count stays.
 fn replace(answers: &mut [u32], i: usize, entry: &[u32])
-    requires { ⌜ Fit (now answers) × ((i < getD (now answers) 0 0) × (length (now entry) ≡ 152)) ⌝ }
+    requires { ⌜ Fit (now answers) × ((i < getD (now answers) answerCountOffset 0) × (length (now entry) ≡ entryWidth narrow)) ⌝ }
     ensures { λ _. ⌜ now (answers .exit) ≡ withAnswers narrow (now (answers .entry)) (without i (answersIn narrow (now (answers .entry))) ++ (now (entry .entry) ∷ [])) ⌝ }
 {
-    let end = 8 + answers[0] as usize * 152;
-    let at = 8 + i * 152;
-    words::remove(answers, at, 152, end);
-    let last = end - 152;
+    let end = Hall::HEADER + answers[Hall::ANSWER_COUNT_OFFSET] as usize * Hall::ENTRY_WIDTH;
+    let at = Hall::HEADER + i * Hall::ENTRY_WIDTH;
+    words::remove(answers, at, Hall::ENTRY_WIDTH, end);
+    let last = end - Hall::ENTRY_WIDTH;
     words::write(answers, last, entry);
 }
 
 // Files entry: an answer to the same query goes out, failing that the oldest where 64 are kept, and entry goes last.
 pub fn file(answers: &mut [u32], entry: &[u32])
-    requires { ⌜ Fit (now answers) × (length (now entry) ≡ 152) ⌝ }
+    requires { ⌜ Fit (now answers) × (length (now entry) ≡ entryWidth narrow) ⌝ }
     ensures { λ _. ⌜ now (answers .exit) ≡ withAnswers narrow (now (answers .entry)) (filed (now (entry .entry)) (answersIn narrow (now (answers .entry)))) ⌝ }
 {
-    let count = answers[0] as usize;
+    let count = answers[Hall::ANSWER_COUNT_OFFSET] as usize;
     let i = find_key(answers, entry);
     if i < count {
         replace(answers, i, entry);
@@ -146,14 +148,14 @@ pub fn file(answers: &mut [u32], entry: &[u32])
 
 // Takes the entry at place i out; the rest close up.
 pub fn evict(answers: &mut [u32], i: usize)
-    requires { ⌜ Fit (now answers) × (i < getD (now answers) 0 0) ⌝ }
+    requires { ⌜ Fit (now answers) × (i < getD (now answers) answerCountOffset 0) ⌝ }
     ensures { λ _. ⌜ now (answers .exit) ≡ withAnswers narrow (now (answers .entry)) (without i (answersIn narrow (now (answers .entry)))) ⌝ }
 {
-    let count = answers[0];
-    let end = 8 + count as usize * 152;
-    let at = 8 + i * 152;
-    words::remove(answers, at, 152, end);
-    answers[0] = count - 1;
+    let count = answers[Hall::ANSWER_COUNT_OFFSET];
+    let end = Hall::HEADER + count as usize * Hall::ENTRY_WIDTH;
+    let at = Hall::HEADER + i * Hall::ENTRY_WIDTH;
+    words::remove(answers, at, Hall::ENTRY_WIDTH, end);
+    answers[Hall::ANSWER_COUNT_OFFSET] = count - 1;
 }
 
 // Takes all entries out. Only what they used is cleared.
@@ -161,29 +163,29 @@ pub fn empty(answers: &mut [u32])
     requires { ⌜ Fit (now answers) ⌝ }
     ensures { λ _. ⌜ now (answers .exit) ≡ withAnswers narrow (now (answers .entry)) [] ⌝ }
 {
-    let n = answers[0] as usize * 152;
-    words::clear(&mut answers[8..], n);
-    answers[0] = 0;
+    let n = answers[Hall::ANSWER_COUNT_OFFSET] as usize * Hall::ENTRY_WIDTH;
+    words::clear(&mut answers[Hall::HEADER..], n);
+    answers[Hall::ANSWER_COUNT_OFFSET] = 0;
 }
 
 // Copies an entry's list, k numbers for each record, to the tray's start, and gives the number of its records.
 pub fn give_list(entry: &[u32], k: usize, tray: &mut [u32]) -> u32
-    requires { ⌜ (length (now entry) ≡ 152) × ((lengthIn (now entry) ≤ 32) × ((k ≤ 4) × (128 ≤ length (now tray)))) ⌝ }
+    requires { ⌜ (length (now entry) ≡ entryWidth narrow) × ((lengthIn (now entry) ≤ maxList) × ((k ≤ maxColumns) × (trayLeast ≤ length (now tray)))) ⌝ }
     ensures { λ r. ⌜ Gave k (now (entry .entry)) (now (tray .entry)) r (now (tray .exit)) ⌝ }
 {
-    let count = entry[7];
+    let count = entry[Hall::LENGTH_OFFSET];
     let n = count as usize * k;
-    let end = 24 + n;
-    words::write(tray, 0, &entry[24..end]);
+    let end = Hall::LIST_OFFSET + n;
+    words::write(tray, 0, &entry[Hall::LIST_OFFSET..end]);
     count
 }
 
 // The same with the filed answer at place i.
 pub fn give(answers: &[u32], i: usize, k: usize, tray: &mut [u32]) -> u32
-    requires { ⌜ Fit (now answers) × ((i < getD (now answers) 0 0) × ((lengthIn (getD (answersIn narrow (now answers)) i []) ≤ 32) × ((k ≤ 4) × (128 ≤ length (now tray))))) ⌝ }
+    requires { ⌜ Fit (now answers) × ((i < getD (now answers) answerCountOffset 0) × ((lengthIn (getD (answersIn narrow (now answers)) i []) ≤ maxList) × ((k ≤ maxColumns) × (trayLeast ≤ length (now tray))))) ⌝ }
     ensures { λ r. ⌜ Gave k (getD (answersIn narrow (now (answers .entry))) i []) (now (tray .entry)) r (now (tray .exit)) ⌝ }
 {
-    let at = 8 + i * 152;
-    let end = at + 152;
+    let at = Hall::HEADER + i * Hall::ENTRY_WIDTH;
+    let end = at + Hall::ENTRY_WIDTH;
     give_list(&answers[at..end], k, tray)
 }

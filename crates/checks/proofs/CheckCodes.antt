@@ -15,8 +15,10 @@ use Rattle.query.specs.Query.{named, writeCount}
 use Rattle.query.specs.Encoding.{columnOf, queryOf, isQuery, namesAll}
 use Rattle.columns.specs.ColumnContracts.{four}
 use Rattle.columns.proofs.ColumnLoops.{two-more, names-value, names-wildcard}
-use Rattle.query.specs.Shape.{shapeOf, narrow}
-use Rattle.rules.specs.Layout.{maxRecords, maxNodes, maxAnswers, trayLeast, reads, inserts}
+use Rattle.query.specs.Shape.{shapeOf, maxColumns, narrow}
+use Rattle.rules.specs.Layout.{maxRecords, maxNodes, maxAnswers, maxClients, trayLeast, recordCountOffset, nodeCountOffset, answerCountOffset}
+use Rattle.rules.specs.Layout.{reads, inserts, refusedShort, refusedColumns, refusedUnsound, refusedNoClient, refusedTaken, refusedIdle}
+use Rattle.rules.specs.Layout.{refusedCommitted, refusedNoEntry, refusedPending, refusedWorn, refusedOccupied}
 use Rattle.rules.specs.Nodes.{isWorn, pending}
 use Rattle.rules.specs.Answers.{someLong}
 use Rattle.rules.specs.Client.{Client, kind, steps, isIdle, isBad}
@@ -35,34 +37,34 @@ module _ (m : Mem) where
   unsound-none a = rw a
 
   module _ (a : getD (m .clients) 0 0 ≡ 0 → ⊥) where
-    pub unsound-many : 4 < getD (m .clients) 0 0 → true ≡ isUnsound m
+    pub unsound-many : maxColumns < getD (m .clients) 0 0 → true ≡ isUnsound m
     unfolding isUnsound badColumns
     unsound-many b = rw (ne-eqb _ _ a, lt-ltb _ _ b)
 
-    module _ (b : getD (m .clients) 0 0 ≤ 4) where
-      pub unsound-records : maxRecords < getD (m .table) 0 0 → true ≡ isUnsound m
+    module _ (b : getD (m .clients) 0 0 ≤ maxColumns) where
+      pub unsound-records : maxRecords < getD (m .table) recordCountOffset 0 → true ≡ isUnsound m
       unfolding isUnsound badColumns
       unsound-records c = rw (ne-eqb _ _ a, le-ltb _ _ b, lt-ltb _ _ c)
 
-      module _ (c : getD (m .table) 0 0 ≤ maxRecords) where
-        pub unsound-nodes : maxNodes < getD (m .nodes) 1 0 → true ≡ isUnsound m
+      module _ (c : getD (m .table) recordCountOffset 0 ≤ maxRecords) where
+        pub unsound-nodes : maxNodes < getD (m .nodes) nodeCountOffset 0 → true ≡ isUnsound m
         unfolding isUnsound badColumns
         unsound-nodes d = rw (ne-eqb _ _ a, le-ltb _ _ b, le-ltb _ _ c, lt-ltb _ _ d)
 
-        module _ (d : getD (m .nodes) 1 0 ≤ maxNodes) where
-          pub unsound-answers : maxAnswers < getD (m .answers) 0 0 → true ≡ isUnsound m
+        module _ (d : getD (m .nodes) nodeCountOffset 0 ≤ maxNodes) where
+          pub unsound-answers : maxAnswers < getD (m .answers) answerCountOffset 0 → true ≡ isUnsound m
           unfolding isUnsound badColumns
           unsound-answers e = rw (ne-eqb _ _ a, le-ltb _ _ b, le-ltb _ _ c, le-ltb _ _ d, lt-ltb _ _ e)
 
-          pub unsound-lists : (r : Bool) → getD (m .answers) 0 0 ≤ maxAnswers → r ≡ someLong (answersIn narrow (m .answers)) → r ≡ isUnsound m
+          pub unsound-lists : (r : Bool) → getD (m .answers) answerCountOffset 0 ≤ maxAnswers → r ≡ someLong (answersIn narrow (m .answers)) → r ≡ isUnsound m
           unfolding isUnsound badColumns
           unsound-lists r e f = rw (ne-eqb _ _ a, le-ltb _ _ b, le-ltb _ _ c, le-ltb _ _ d, le-ltb _ _ e, f)
 
-  pub sound-short : true ≡ isShort narrow (shape m) m → 1 ≡ soundCode m
+  pub sound-short : true ≡ isShort narrow (shape m) m → refusedShort ≡ soundCode m
   unfolding soundCode
   sound-short a = rw (← a)
 
-  pub sound-not : false ≡ isShort narrow (shape m) m → true ≡ isUnsound m → 3 ≡ soundCode m
+  pub sound-not : false ≡ isShort narrow (shape m) m → true ≡ isUnsound m → refusedUnsound ≡ soundCode m
   unfolding soundCode
   sound-not a b = rw (← a, ← b)
 
@@ -72,22 +74,22 @@ module _ (m : Mem) where
 
 -- ---- What is found at a client
 module _ (m : Mem) (d : ℕ) where
-  pub client-unsound : true ≡ isUnsound m → 3 ≡ atClient m d
+  pub client-unsound : true ≡ isUnsound m → refusedUnsound ≡ atClient m d
   unfolding atClient
   client-unsound a = rw (← a)
 
   module _ (a : false ≡ isUnsound m) where
-    pub client-none : 12 ≤ d → 4 ≡ atClient m d
+    pub client-none : maxClients ≤ d → refusedNoClient ≡ atClient m d
     unfolding atClient noClient
     client-none b = rw (← a, le-leb 12 d b)
 
-    module _ (b : d < 12) where
-      pub client-bad : true ≡ isBad narrow (shapeOf (getD (m .clients) 0 0)) (clientIn narrow (m .clients) d) → 3 ≡ atClient m d
+    module _ (b : d < maxClients) where
+      pub client-bad : true ≡ isBad narrow (shapeOf (getD (m .clients) 0 0)) (clientIn narrow (m .clients) d) → refusedUnsound ≡ atClient m d
       unfolding atClient noClient client
       client-bad c = rw (← a, lt-leb 12 d b, ← c)
 
       module _ (c : false ≡ isBad narrow (shapeOf (getD (m .clients) 0 0)) (clientIn narrow (m .clients) d)) where
-        pub client-idle : (x : ℕ) → x ≡ kind (clientIn narrow (m .clients) d) → x ≡ 0 → 6 ≡ atClient m d
+        pub client-idle : (x : ℕ) → x ≡ kind (clientIn narrow (m .clients) d) → x ≡ 0 → refusedIdle ≡ atClient m d
         unfolding atClient noClient client
         client-idle x e h = rw (← a, lt-leb 12 d b, ← c, ← none-idle _ _ c (sym e ∙ h))
 
@@ -112,7 +114,7 @@ module _ (a : List ℕ) (from : ℕ) (h : from + 1 < length a) where
       rw (e, n, two-more a from (omega arith) (λ e. omega arith))
 
   module _ (z : Column) (cols : List Column) (e : cols ≡ four (queryOf (take (from + 2 - from) (drop from a)))) (t : Rest a from) where
-    pub record-star : getD cols 0 z ≡ Wildcard → 2 ≡ recordCode a
+    pub record-star : getD cols 0 z ≡ Wildcard → refusedColumns ≡ recordCode a
     unfolding recordCode
     record-star w =
         let q : queryOf (drop from a) ≡ Wildcard ∷ queryOf (drop (from + 2) a) = rw (← column-here z cols e, w) at rest-more in
@@ -139,11 +141,11 @@ module _ (k x : ℕ) (a : List ℕ) where
   query-not r e h = rw (← e, not-true r h)
 
   module _ (r : Bool) (e : r ≡ isQuery (shapeOf k) a) (h : not r ≡ false) where
-    pub query-plain : (x ≡ 2 → ⊥) → false ≡ badQuery (shapeOf k) x a
+    pub query-plain : (x ≡ inserts → ⊥) → false ≡ badQuery (shapeOf k) x a
     unfolding badQuery
     query-plain n = rw (← e, not-false r h, ne-eqb x inserts n)
 
-    pub query-record : (n : ℕ) → n ≡ recordCode a → x ≡ 2 → not (eqb n 0) ≡ badQuery (shapeOf k) x a
+    pub query-record : (n : ℕ) → n ≡ recordCode a → x ≡ inserts → not (eqb n 0) ≡ badQuery (shapeOf k) x a
     unfolding badQuery recordCode
     query-record n c i = rw (← e, not-false r h, eq-eqb x inserts i, c) (go (namesAll (queryOf a)))
       where
@@ -163,48 +165,48 @@ begin-found false false false true r = refl
 begin-found false false false false r = refl
 
 module _ (m : Mem) (x d : ℕ) (a : List ℕ) where
-  pub begin-short : true ≡ isShort narrow (shape m) m → 1 ≡ beginCode m x d a
+  pub begin-short : true ≡ isShort narrow (shape m) m → refusedShort ≡ beginCode m x d a
   unfolding beginCode
   begin-short s = rw (← s)
 
   module _ (s : false ≡ isShort narrow (shape m) m) where
-    pub begin-query : true ≡ badQuery (shapeOf (getD (m .clients) 0 0)) x a → 2 ≡ beginCode m x d a
+    pub begin-query : true ≡ badQuery (shapeOf (getD (m .clients) 0 0)) x a → refusedColumns ≡ beginCode m x d a
     unfolding beginCode
     begin-query q = rw (← s, ← q)
 
     module _ (q : false ≡ badQuery (shapeOf (getD (m .clients) 0 0)) x a) (n : ℕ) (f : n ≡ atClient m d) where
-      begin-rest : cond (eqb n 0) 5 (cond (eqb n 6) (cond (not (eqb x reads) && isWorn narrow (shape m) (storeIn (m .nodes))) 10 0) n) ≡ beginCode m x d a
+      begin-rest : cond (eqb n 0) refusedTaken (cond (eqb n refusedIdle) (cond (not (eqb x reads) && isWorn narrow (shape m) (storeIn (m .nodes))) refusedWorn 0) n) ≡ beginCode m x d a
       unfolding beginCode atClient
       begin-rest = rw (← s, ← q, f)
           (sym (begin-found (isUnsound m) (noClient d) (isBad narrow (shapeOf (getD (m .clients) 0 0)) (client m d)) (isIdle narrow (client m d))
-          (cond (not (eqb x reads) && isWorn narrow (shape m) (storeIn (m .nodes))) 10 0)))
+          (cond (not (eqb x reads) && isWorn narrow (shape m) (storeIn (m .nodes))) refusedWorn 0)))
 
-      pub begin-busy : n ≡ 0 → 5 ≡ beginCode m x d a
+      pub begin-busy : n ≡ 0 → refusedTaken ≡ beginCode m x d a
       begin-busy h = rw h at begin-rest
 
       pub begin-other : (n ≡ 0 → ⊥) → (n ≡ 6 → ⊥) → n ≡ beginCode m x d a
       begin-other h g = rw (ne-eqb n 0 h, ne-eqb n 6 g) at begin-rest
 
       module _ (g : n ≡ 6) where
-        begin-free : cond (not (eqb x reads) && isWorn narrow (shape m) (storeIn (m .nodes))) 10 0 ≡ beginCode m x d a
+        begin-free : cond (not (eqb x reads) && isWorn narrow (shape m) (storeIn (m .nodes))) refusedWorn 0 ≡ beginCode m x d a
         begin-free = rw g at begin-rest
 
-        pub begin-read : x ≡ 1 → 0 ≡ beginCode m x d a
+        pub begin-read : x ≡ reads → 0 ≡ beginCode m x d a
         begin-read h = rw (eq-eqb x reads h) at begin-free
 
-        pub begin-worn : (x ≡ 1 → ⊥) → true ≡ isWorn narrow (shape m) (storeIn (m .nodes)) → 10 ≡ beginCode m x d a
+        pub begin-worn : (x ≡ reads → ⊥) → true ≡ isWorn narrow (shape m) (storeIn (m .nodes)) → refusedWorn ≡ beginCode m x d a
         begin-worn h w = rw (ne-eqb x reads h, ← w) at begin-free
 
-        pub begin-write : (x ≡ 1 → ⊥) → false ≡ isWorn narrow (shape m) (storeIn (m .nodes)) → 0 ≡ beginCode m x d a
+        pub begin-write : (x ≡ reads → ⊥) → false ≡ isWorn narrow (shape m) (storeIn (m .nodes)) → 0 ≡ beginCode m x d a
         begin-write h w = rw (ne-eqb x reads h, ← w) at begin-free
 
 -- ---- Steps and abandonings
 module _ (m : Mem) (tray : List ℕ) (d : ℕ) where
-  pub step-short : true ≡ isShort narrow (shape m) m → 1 ≡ stepCode m tray d
+  pub step-short : true ≡ isShort narrow (shape m) m → refusedShort ≡ stepCode m tray d
   unfolding stepCode
   step-short s = rw (← s)
 
-  pub step-tray : false ≡ isShort narrow (shape m) m → length tray < trayLeast → 1 ≡ stepCode m tray d
+  pub step-tray : false ≡ isShort narrow (shape m) m → length tray < trayLeast → refusedShort ≡ stepCode m tray d
   unfolding stepCode
   step-tray s t = rw (← s, lt-ltb _ _ t)
 
@@ -213,16 +215,16 @@ module _ (m : Mem) (tray : List ℕ) (d : ℕ) where
   step-found n s t f = rw (← s, le-ltb _ _ t, f)
 
 module _ (k : ℕ) (c : Client) (x : ℕ) (e : x ≡ kind c) where
-  pub committed-read : x ≡ 1 → false ≡ isCommitted (shapeOf k) c
+  pub committed-read : x ≡ reads → false ≡ isCommitted (shapeOf k) c
   unfolding isCommitted
   committed-read h = rw (eq-eqb (kind c) reads (sym e ∙ h))
 
-  pub committed-write : (n p : ℕ) → n ≡ steps c → p ≡ 2 ^ k → (x ≡ 1 → ⊥) → ltb p n ≡ isCommitted (shapeOf k) c
+  pub committed-write : (n p : ℕ) → n ≡ steps c → p ≡ 2 ^ k → (x ≡ reads → ⊥) → ltb p n ≡ isCommitted (shapeOf k) c
   unfolding isCommitted writeCount
   committed-write n p s q h = rw (ne-eqb (kind c) reads (λ z. h (e ∙ z)), length-query k c, s, q)
 
 module _ (m : Mem) (d : ℕ) where
-  pub abandon-short : true ≡ isShort narrow (shape m) m → 1 ≡ abandonCode m d
+  pub abandon-short : true ≡ isShort narrow (shape m) m → refusedShort ≡ abandonCode m d
   unfolding abandonCode
   abandon-short s = rw (← s)
 
@@ -231,7 +233,7 @@ module _ (m : Mem) (d : ℕ) where
     unfolding abandonCode
     abandon-found h = rw (← s, ← f, ne-eqb n 0 h)
 
-    pub abandon-committed : n ≡ 0 → true ≡ isCommitted (shapeOf (getD (m .clients) 0 0)) (clientIn narrow (m .clients) d) → 7 ≡ abandonCode m d
+    pub abandon-committed : n ≡ 0 → true ≡ isCommitted (shapeOf (getD (m .clients) 0 0)) (clientIn narrow (m .clients) d) → refusedCommitted ≡ abandonCode m d
     unfolding abandonCode client
     abandon-committed h c = rw (← s, ← f, eq-eqb n 0 h, ← c)
 
@@ -261,11 +263,11 @@ module _ (m : Mem) (n : ℕ) (e : n ≡ soundCode m) where
     unfolding evictAnswerCode
     answer-out h = sound-out _ h
 
-    pub answer-none : n ≡ 0 → getD (m .answers) 0 0 ≤ i → 8 ≡ evictAnswerCode m i
+    pub answer-none : n ≡ 0 → getD (m .answers) answerCountOffset 0 ≤ i → refusedNoEntry ≡ evictAnswerCode m i
     unfolding evictAnswerCode
-    answer-none h l = rw (le-leb _ _ l) (sound-on 8 h)
+    answer-none h l = rw (le-leb _ _ l) (sound-on refusedNoEntry h)
 
-    pub answer-there : n ≡ 0 → i < getD (m .answers) 0 0 → 0 ≡ evictAnswerCode m i
+    pub answer-there : n ≡ 0 → i < getD (m .answers) answerCountOffset 0 → 0 ≡ evictAnswerCode m i
     unfolding evictAnswerCode
     answer-there h l = rw (lt-leb _ _ l) (sound-on 0 h)
 
@@ -273,35 +275,33 @@ module _ (m : Mem) (n : ℕ) (e : n ≡ soundCode m) where
     unfolding evictNodeCode
     node-out h = sound-out _ h
 
-    pub node-none : n ≡ 0 → getD (m .nodes) 1 0 ≤ i → 8 ≡ evictNodeCode m i
+    pub node-none : n ≡ 0 → getD (m .nodes) nodeCountOffset 0 ≤ i → refusedNoEntry ≡ evictNodeCode m i
     unfolding evictNodeCode
-    node-none h l = rw (le-leb _ _ l) (sound-on 8 h)
+    node-none h l = rw (le-leb _ _ l) (sound-on refusedNoEntry h)
 
-    module _ (h : n ≡ 0) (l : i < getD (m .nodes) 1 0) where
-      pending-at : pending (getD (storeIn (m .nodes) .nodes) i []) ≡ getD (m .nodes) (8 + i * 8 + 5) 0
-      unfolding pending
-      pending-at = node-word (m .nodes) i 5 l (omega arith)
+    module _ (h : n ≡ 0) (l : i < getD (m .nodes) nodeCountOffset 0) where
+      -- x: the node's pending writes
+      module _ (x : ℕ) (is : x ≡ pending (getD (storeIn (m .nodes) .nodes) i [])) where
+        pub node-pending : 0 < x → refusedPending ≡ evictNodeCode m i
+        unfolding evictNodeCode
+        node-pending p = rw (lt-leb _ _ l, ← is, lt-ltb _ _ p) (sound-on refusedPending h)
 
-      pub node-pending : 0 < getD (m .nodes) (8 + i * 8 + 5) 0 → 9 ≡ evictNodeCode m i
-      unfolding evictNodeCode
-      node-pending p = rw (lt-leb _ _ l, pending-at, lt-ltb _ _ p) (sound-on 9 h)
-
-      pub node-there : getD (m .nodes) (8 + i * 8 + 5) 0 ≤ 0 → 0 ≡ evictNodeCode m i
-      unfolding evictNodeCode
-      node-there p = rw (lt-leb _ _ l, pending-at, le-ltb _ _ p) (sound-on 0 h)
+        pub node-there : x ≤ 0 → 0 ≡ evictNodeCode m i
+        unfolding evictNodeCode
+        node-there p = rw (lt-leb _ _ l, ← is, le-ltb _ _ p) (sound-on 0 h)
 
   pub renew-out : (n ≡ 0 → ⊥) → n ≡ renewCode m
   unfolding renewCode
   renew-out h = sound-out _ h
 
-  module _ (h : n ≡ 0) (r : Bool) (f : r ≡ allBelow 12 (idleAt (m .clients))) where
+  module _ (h : n ≡ 0) (r : Bool) (f : r ≡ allBelow maxClients (idleAt (m .clients))) where
     is-all : r ≡ allIdle m
     unfolding allIdle idleAt client
     is-all = f
 
-    pub renew-busy : not r ≡ true → 11 ≡ renewCode m
+    pub renew-busy : not r ≡ true → refusedOccupied ≡ renewCode m
     unfolding renewCode
-    renew-busy g = rw (← is-all, g) (sound-on 11 h)
+    renew-busy g = rw (← is-all, g) (sound-on refusedOccupied h)
 
     pub renew-fine : not r ≡ false → 0 ≡ renewCode m
     unfolding renewCode

@@ -3,6 +3,7 @@
 use mathlib.Core.Path.{_≡_}
 use Prim.Native.Nat.{ℕ, _≤_, _<_}
 use lib.ListN.{getD}
+use native.Mathlib.Omega.{arith}
 use Rattle.laws.proofs.TestLaws.{passed}
 use Rattle.rules.specs.Memory.{Mem}
 use Rattle.rules.specs.Refusals.{columns, isShort, isUnsound}
@@ -13,6 +14,7 @@ use Rattle.answers.specs.AnswerContracts as answers
 use Rattle.clients.specs.ClientContracts as client-contracts
 use Rattle.checks.specs.CheckContracts.{soundCode}
 use Rattle.query.specs.Shape.{narrow}
+use Rattle.rules.specs.Layout.{maxClients}
 
 module _ (m : Mem) (s : Sound m) where
   pub columns-range : (1 ≤ getD (m .clients) 0 0) × (getD (m .clients) 0 0 ≤ 4)
@@ -24,8 +26,8 @@ module _ (m : Mem) (s : Sound m) where
   pub answers-fit : answers.Fit (m .answers)
   answers-fit = record { long = s .long .answers; few = s .answers }
 
-  pub client-fit : (d : ℕ) → d < 12 → client-contracts.Fit (m .clients) d
-  client-fit d h = record { long = s .long .clients; below = h }
+  pub client-fit : (d : ℕ) → d < maxClients → client-contracts.Fit (m .clients) d
+  client-fit d h = record { long = (let l = s .long .clients in omega arith); below = h }
 
 pub sound-memories : (m : Mem) → soundCode m ≡ 0 → Sound m
 unfolding soundCode

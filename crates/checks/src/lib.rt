@@ -6,7 +6,7 @@ ghost use mathlib.Core.Path.{_≡_};
 ghost use mathlib.Core.Bool.{false};
 ghost use Prim.Native.Nat.{_≤_};
 ghost use Rattle.rules.specs.Memory.{mem, clientIn};
-ghost use Rattle.query.specs.Shape.{narrow, shapeOf};
+ghost use Rattle.query.specs.Shape.{shapeOf, maxColumns, narrow};
 ghost use Rattle.rules.specs.Refusals.{shape};
 ghost use Rattle.rules.specs.Refusals.{isShort, badQuery, isUnsound, isCommitted, atClient, beginCode, stepCode, abandonCode, evictAnswerCode, evictNodeCode, renewCode};
 ghost use Rattle.clients.specs.ClientContracts.{Fit};
@@ -18,20 +18,20 @@ pub fn is_unsound(table: &[u32], nodes: &[u32], answers: &[u32], clients: &[u32]
     requires { ⌜ isShort narrow (shape (mem (now table) (now nodes) (now answers) (now clients))) (mem (now table) (now nodes) (now answers) (now clients)) ≡ false ⌝ }
     ensures { λ r. ⌜ r ≡ isUnsound (mem (now (table .entry)) (now (nodes .entry)) (now (answers .entry)) (now (clients .entry))) ⌝ }
 {
-    let k = clients[0];
+    let k = clients[Hall::COLUMNS_OFFSET];
     if k == 0 {
         return true;
     }
-    if 4 < k {
+    if Hall::COLUMNS < k {
         return true;
     }
-    if Hall::RECORDS < table[0] {
+    if Hall::RECORDS < table[Hall::RECORD_COUNT_OFFSET] {
         return true;
     }
-    if Hall::NODES < nodes[1] {
+    if Hall::NODES < nodes[Hall::NODE_COUNT_OFFSET] {
         return true;
     }
-    if Hall::ANSWERS < answers[0] {
+    if Hall::ANSWERS < answers[Hall::ANSWER_COUNT_OFFSET] {
         return true;
     }
     answers::some_long(answers)
@@ -42,10 +42,10 @@ fn sound_code(table: &[u32], nodes: &[u32], answers: &[u32], clients: &[u32]) ->
     ensures { λ r. ⌜ r ≡ soundCode (mem (now (table .entry)) (now (nodes .entry)) (now (answers .entry)) (now (clients .entry))) ⌝ }
 {
     if Hall::is_short(table, nodes, answers, clients) {
-        return 1;
+        return Hall::REFUSED_SHORT;
     }
     if is_unsound(table, nodes, answers, clients) {
-        return 3;
+        return Hall::REFUSED_UNSOUND;
     }
     0
 }
@@ -56,18 +56,18 @@ pub fn at_client(table: &[u32], nodes: &[u32], answers: &[u32], clients: &[u32],
     ensures { λ r. ⌜ r ≡ atClient (mem (now (table .entry)) (now (nodes .entry)) (now (answers .entry)) (now (clients .entry))) d ⌝ }
 {
     if is_unsound(table, nodes, answers, clients) {
-        return 3;
+        return Hall::REFUSED_UNSOUND;
     }
     if Hall::CLIENTS <= d {
-        return 4;
+        return Hall::REFUSED_NO_CLIENT;
     }
-    let k = clients[0] as usize;
+    let k = clients[Hall::COLUMNS_OFFSET] as usize;
     if clients::is_bad(clients, d as usize, k) {
-        return 3;
+        return Hall::REFUSED_UNSOUND;
     }
     // A client that is not bad is idle exactly if its kind is 0: its other numbers need not be read again.
     if clients::kind_of(clients, d as usize) == 0 {
-        return 6;
+        return Hall::REFUSED_IDLE;
     }
     0
 }
@@ -83,7 +83,7 @@ fn record_code(asked: &[u32]) -> u32
         let cols = columns::columns_of(&asked[from..end]);
         let col = cols[0];
         let Column::Is(_) = col else {
-            return 2;
+            return Hall::REFUSED_COLUMNS;
         };
         from = end;
     }
@@ -97,7 +97,7 @@ fn bad_query(k: u32, kind: u32, asked: &[u32]) -> bool
     if !columns::is_query(asked, k) {
         return true;
     }
-    if kind != 2 {
+    if kind != Hall::INSERTS {
         return false;
     }
     record_code(asked) != 0
@@ -116,23 +116,23 @@ pub fn begin_code(
     ensures { λ r. ⌜ r ≡ beginCode (mem (now (table .entry)) (now (nodes .entry)) (now (answers .entry)) (now (clients .entry))) kind d (now (asked .entry)) ⌝ }
 {
     if Hall::is_short(table, nodes, answers, clients) {
-        return 1;
+        return Hall::REFUSED_SHORT;
     }
-    if bad_query(clients[0], kind, asked) {
-        return 2;
+    if bad_query(clients[Hall::COLUMNS_OFFSET], kind, asked) {
+        return Hall::REFUSED_COLUMNS;
     }
     let found = at_client(table, nodes, answers, clients, d);
     if found == 0 {
-        return 5;
+        return Hall::REFUSED_TAKEN;
     }
-    if found != 6 {
+    if found != Hall::REFUSED_IDLE {
         return found;
     }
-    if kind == 1 {
+    if kind == Hall::READS {
         return 0;
     }
     if nodes::is_worn(nodes) {
-        return 10;
+        return Hall::REFUSED_WORN;
     }
     0
 }
@@ -149,20 +149,20 @@ pub fn step_code(
     ensures { λ r. ⌜ r ≡ stepCode (mem (now (table .entry)) (now (nodes .entry)) (now (answers .entry)) (now (clients .entry))) (now (tray .entry)) d ⌝ }
 {
     if Hall::is_short(table, nodes, answers, clients) {
-        return 1;
+        return Hall::REFUSED_SHORT;
     }
     if tray.len() < Hall::TRAY_LEAST {
-        return 1;
+        return Hall::REFUSED_SHORT;
     }
     at_client(table, nodes, answers, clients, d)
 }
 
 // Whether a write has made its table step: it has made more steps than it has nodes to mark.
 fn is_committed(clients: &[u32], d: usize, k: usize) -> bool
-    requires { ⌜ Fit (now clients) d × (k ≤ 4) ⌝ }
+    requires { ⌜ Fit (now clients) d × (k ≤ maxColumns) ⌝ }
     ensures { λ r. ⌜ r ≡ isCommitted (shapeOf k) (clientIn narrow (now (clients .entry)) d) ⌝ }
 {
-    if clients::kind_of(clients, d) == 1 {
+    if clients::kind_of(clients, d) == Hall::READS {
         return false;
     }
     let made = clients::steps_of(clients, d);
@@ -173,15 +173,15 @@ pub fn abandon_code(table: &[u32], nodes: &[u32], answers: &[u32], clients: &[u3
     ensures { λ r. ⌜ r ≡ abandonCode (mem (now (table .entry)) (now (nodes .entry)) (now (answers .entry)) (now (clients .entry))) d ⌝ }
 {
     if Hall::is_short(table, nodes, answers, clients) {
-        return 1;
+        return Hall::REFUSED_SHORT;
     }
     let found = at_client(table, nodes, answers, clients, d);
     if found != 0 {
         return found;
     }
-    let k = clients[0] as usize;
+    let k = clients[Hall::COLUMNS_OFFSET] as usize;
     if is_committed(clients, d as usize, k) {
-        return 7;
+        return Hall::REFUSED_COMMITTED;
     }
     0
 }
@@ -200,8 +200,8 @@ pub fn evict_answer_code(
     if found != 0 {
         return found;
     }
-    if answers[0] <= place {
-        return 8;
+    if answers[Hall::ANSWER_COUNT_OFFSET] <= place {
+        return Hall::REFUSED_NO_ENTRY;
     }
     0
 }
@@ -219,12 +219,12 @@ pub fn evict_node_code(
     if found != 0 {
         return found;
     }
-    if nodes[1] <= place {
-        return 8;
+    if nodes[Hall::NODE_COUNT_OFFSET] <= place {
+        return Hall::REFUSED_NO_ENTRY;
     }
     let i = place as usize;
-    if 0 < nodes[8 + i * 8 + 5] {
-        return 9;
+    if 0 < nodes::pending_at(nodes, i) {
+        return Hall::REFUSED_PENDING;
     }
     0
 }
@@ -237,7 +237,7 @@ pub fn renew_code(table: &[u32], nodes: &[u32], answers: &[u32], clients: &[u32]
         return found;
     }
     if !clients::all_idle(clients) {
-        return 11;
+        return Hall::REFUSED_OCCUPIED;
     }
     0
 }

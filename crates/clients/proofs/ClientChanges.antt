@@ -17,12 +17,13 @@ use Rattle.query.specs.Encoding.{keyWords}
 use Rattle.query.proofs.EncodingLaws.{key-words-length}
 use Rattle.rules.specs.Client.{Client, steps, idle, begun, stepped, flag, noted, holding, wrote}
 use Rattle.query.specs.Shape.{Shape, shapeOf, narrow}
+use Rattle.rules.specs.Layout.{listWidth, entryOffset, clientWidth, clientOffset, heldLengthOffset, notedOffset, heldListOffset}
 use Rattle.rules.specs.Memory.{clientIn, withClient}
 use Rattle.clients.specs.ClientContracts.{Fit, begunWith, listSet}
 use Rattle.clients.proofs.ClientMemory.{client-room, length-client, with-self, client-same, with-twice, with-words, part-cleared, length-kept}
 
 -- ---- each has 157 numbers
-pub length-idle : length (idle narrow) ≡ 157
+pub length-idle : length (idle narrow) ≡ clientWidth narrow
 unfolding idle
 length-idle = refl
 
@@ -39,20 +40,20 @@ module _ (c : Client) where
   unfolding wrote
   length-wrote changed full = simp length-set length-stepped
 
-  pub length-holding : (sh : Shape) (l : List Record) → length (flat l) ≤ 128 → length c ≡ 157 → length (holding narrow sh l c) ≡ 157
+  pub length-holding : (sh : Shape) (l : List Record) → length (flat l) ≤ listWidth → length c ≡ clientWidth narrow → length (holding narrow sh l c) ≡ clientWidth narrow
   unfolding holding
   length-holding sh l h e =
-      let n : length (padded 128 (flat l)) ≡ 128 = length-padded 128 (flat l) h in
-      let m : length (set (stepped c) 12 (length l)) ≡ 157 = simp length-set (length-stepped ∙ e) in
-      length-written (set (stepped c) 12 (length l)) 29 (padded 128 (flat l)) (omega arith) ∙ m
+      let n : length (padded listWidth (flat l)) ≡ listWidth = length-padded listWidth (flat l) h in
+      let m : length (set (stepped c) heldLengthOffset (length l)) ≡ clientWidth narrow = simp length-set (length-stepped ∙ e) in
+      length-written (set (stepped c) heldLengthOffset (length l)) (heldListOffset narrow sh) (padded listWidth (flat l)) (omega arith) ∙ m
 
-pub length-begun : (x : ℕ) (q : Query) → length q ≤ 6 → length (begun narrow x q) ≡ 157
+pub length-begun : (x : ℕ) (q : Query) → length q ≤ 6 → length (begun narrow x q) ≡ clientWidth narrow
 unfolding begun
-length-begun x q h = let n : length (keyWords q) ≡ 7 = key-words-length q h in length-padded 157 (x ∷ 0 ∷ 0 ∷ 0 ∷ 0 ∷ keyWords q) (omega arith)
+length-begun x q h = let n : length (keyWords q) ≡ 7 = key-words-length q h in length-padded (clientWidth narrow) (x ∷ 0 ∷ 0 ∷ 0 ∷ 0 ∷ keyWords q) (omega arith)
 
-pub length-begun-with : (x : ℕ) (key : List ℕ) → length key ≡ 7 → length (begunWith x key) ≡ 157
+pub length-begun-with : (x : ℕ) (key : List ℕ) → length key ≡ 7 → length (begunWith x key) ≡ clientWidth narrow
 unfolding begunWith
-length-begun-with x key h = length-padded 157 (x ∷ 0 ∷ 0 ∷ 0 ∷ 0 ∷ key) (omega arith)
+length-begun-with x key h = length-padded (clientWidth narrow) (x ∷ 0 ∷ 0 ∷ 0 ∷ 0 ∷ key) (omega arith)
 
 -- a begin with a query's key is a begin with the query
 pub begun-with : (x : ℕ) (q : Query) → begunWith x (keyWords q) ≡ begun narrow x q
@@ -66,88 +67,88 @@ unfolding written idle begunWith padded
 key-in x key n = rw n
 
 -- where no write is pending the number that says so stays
-quiet : (c : Client) (j revision pending : ℕ) → pending ≡ 0 → noted narrow j revision pending c ≡ set (stepped c) (13 + j) revision
+quiet : (c : Client) (j revision pending : ℕ) → pending ≡ 0 → noted narrow j revision pending c ≡ set (stepped c) (notedOffset narrow j) revision
 unfolding noted stepped
 quiet c j revision pending z =
     let u : List ℕ = set c 1 (steps c + 1) in
     let a : getD u 2 0 ≡ getD c 2 0 = getD-set-other c 1 2 (steps c + 1) 0 (λ h. absurd (omega arith)) in
-    let b : getD (set u (13 + j) revision) 2 0 ≡ getD c 2 0 = getD-set-other u (13 + j) 2 revision 0 (λ h. absurd (omega arith)) ∙ a in
-    rw (eq-eqb pending 0 z, ← b) (set-getD (set u (13 + j) revision) 2 0)
+    let b : getD (set u (notedOffset narrow j) revision) 2 0 ≡ getD c 2 0 = getD-set-other u (notedOffset narrow j) 2 revision 0 (λ h. absurd (omega arith)) ∙ a in
+    rw (eq-eqb pending 0 z, ← b) (set-getD (set u (notedOffset narrow j) revision) 2 0)
 
 -- zeros behind the list
-list-in : (c : Client) (n k : ℕ) → length c ≡ 157 → n * k ≤ 128
-    → listSet n k c ≡ written (set (stepped c) 12 n) (29 + n * k) (replicate (157 - (29 + n * k)) 0)
+list-in : (c : Client) (n k : ℕ) → length c ≡ clientWidth narrow → n * k ≤ listWidth
+    → listSet n (shapeOf k) c ≡ written (set (stepped c) heldLengthOffset n) (heldListOffset narrow (shapeOf k) + n * k) (replicate (clientWidth narrow - (heldListOffset narrow (shapeOf k) + n * k)) 0)
 unfolding listSet padded stepped
 list-in c n k e h =
-    let u : List ℕ = set (set c 1 (steps c + 1)) 12 n in
-    let l : length u ≡ 157 = simp length-set e in
-    let a : drop 29 u ≡ drop 29 c = drop-set-lt 29 (set c 1 (steps c + 1)) 12 n (omega arith) ∙ drop-set-lt 29 c 1 (steps c + 1) (omega arith) in
-    let m : length (take (n * k) (drop 29 c)) ≡ n * k = length-take-le (n * k) (drop 29 c) (rw length-drop (omega arith)) in
-    let z : 128 - n * k ≡ 157 - (29 + n * k) = omega arith in
-    rw (m, z, ← a) (written-front u 29 (n * k) (replicate (157 - (29 + n * k)) 0) (omega arith))
+    let u : List ℕ = set (set c 1 (steps c + 1)) heldLengthOffset n in
+    let l : length u ≡ clientWidth narrow = simp length-set e in
+    let a : drop (heldListOffset narrow (shapeOf k)) u ≡ drop (heldListOffset narrow (shapeOf k)) c = drop-set-lt (heldListOffset narrow (shapeOf k)) (set c 1 (steps c + 1)) heldLengthOffset n (omega arith) ∙ drop-set-lt (heldListOffset narrow (shapeOf k)) c 1 (steps c + 1) (omega arith) in
+    let m : length (take (n * k) (drop (heldListOffset narrow (shapeOf k)) c)) ≡ n * k = length-take-le (n * k) (drop (heldListOffset narrow (shapeOf k)) c) (rw length-drop (omega arith)) in
+    let z : listWidth - n * k ≡ clientWidth narrow - (heldListOffset narrow (shapeOf k) + n * k) = omega arith in
+    rw (m, z, ← a) (written-front u (heldListOffset narrow (shapeOf k)) (n * k) (replicate (clientWidth narrow - (heldListOffset narrow (shapeOf k) + n * k)) 0) (omega arith))
 
 -- whatever lay in the list's place before, the list taken there and set is the table step's
-head-set : (c₁ c : Client) (n : ℕ) → take 29 c₁ ≡ take 29 c → take 29 (set (stepped c₁) 12 n) ≡ take 29 (set (stepped c) 12 n)
+head-set : (sh : Shape) (c₁ c : Client) (n : ℕ) → take (heldListOffset narrow sh) c₁ ≡ take (heldListOffset narrow sh) c → take (heldListOffset narrow sh) (set (stepped c₁) heldLengthOffset n) ≡ take (heldListOffset narrow sh) (set (stepped c) heldLengthOffset n)
 unfolding stepped steps
-head-set c₁ c n e =
-    let g : (x : Client) → take 29 (set (set x 1 (getD x 1 0 + 1)) 12 n) ≡ set (set (take 29 x) 1 (getD (take 29 x) 1 0 + 1)) 12 n =
-    λ x. rw (take-set-lt 29 (set x 1 (getD x 1 0 + 1)) 12 n (omega arith), take-set-lt 29 x 1 (getD x 1 0 + 1) (omega arith), getD-take 29 x 1 0 (omega arith)) in
+head-set sh c₁ c n e =
+    let g : (x : Client) → take (heldListOffset narrow sh) (set (set x 1 (getD x 1 0 + 1)) heldLengthOffset n) ≡ set (set (take (heldListOffset narrow sh) x) 1 (getD (take (heldListOffset narrow sh) x) 1 0 + 1)) heldLengthOffset n =
+    λ x. rw (take-set-lt (heldListOffset narrow sh) (set x 1 (getD x 1 0 + 1)) heldLengthOffset n (omega arith), take-set-lt (heldListOffset narrow sh) x 1 (getD x 1 0 + 1) (omega arith), getD-take (heldListOffset narrow sh) x 1 0 (omega arith)) in
     g c₁ ∙ rw e (sym (g c))
 
-behind-head : (x v : List ℕ) → length x ≡ 157 → length v ≡ 128 → written x 29 v ≡ take 29 x ++ v
+behind-head : (sh : Shape) (x v : List ℕ) → length x ≡ clientWidth narrow → length v ≡ listWidth → written x (heldListOffset narrow sh) v ≡ take (heldListOffset narrow sh) x ++ v
 unfolding written
-behind-head x v h k = let l : length x ≤ 29 + length v = omega arith in rw (drop-of-length-le x l) (append-nil (take 29 x ++ v))
+behind-head sh x v h k = let l : length x ≤ heldListOffset narrow sh + length v = omega arith in rw (drop-of-length-le x l) (append-nil (take (heldListOffset narrow sh) x ++ v))
 
-pub list-holds : (c₁ c : Client) (n k : ℕ) (l : List Record) → length c₁ ≡ 157 → length c ≡ 157 → take 29 c₁ ≡ take 29 c → take (n * k) (drop 29 c₁) ≡ flat l → length l ≡ n
-    → length (flat l) ≤ 128 → listSet n k c₁ ≡ holding narrow (shapeOf k) l c
+pub list-holds : (c₁ c : Client) (n k : ℕ) (l : List Record) → length c₁ ≡ clientWidth narrow → length c ≡ clientWidth narrow → take (heldListOffset narrow (shapeOf k)) c₁ ≡ take (heldListOffset narrow (shapeOf k)) c → take (n * k) (drop (heldListOffset narrow (shapeOf k)) c₁) ≡ flat l → length l ≡ n
+    → length (flat l) ≤ listWidth → listSet n (shapeOf k) c₁ ≡ holding narrow (shapeOf k) l c
 unfolding listSet holding
 list-holds c₁ c n k l h g e f m o =
-    let p : List ℕ = padded 128 (flat l) in
-    let q : length p ≡ 128 = length-padded 128 (flat l) o in
-    let a : length (set (stepped c₁) 12 n) ≡ 157 = length-set (stepped c₁) 12 n ∙ length-stepped c₁ ∙ h in
-    let b : length (set (stepped c) 12 n) ≡ 157 = length-set (stepped c) 12 n ∙ length-stepped c ∙ g in
-    rw (f, m) (behind-head (set (stepped c₁) 12 n) p a q ∙ rw (head-set c₁ c n e) (sym (behind-head (set (stepped c) 12 n) p b q)))
+    let p : List ℕ = padded listWidth (flat l) in
+    let q : length p ≡ listWidth = length-padded listWidth (flat l) o in
+    let a : length (set (stepped c₁) heldLengthOffset n) ≡ clientWidth narrow = length-set (stepped c₁) heldLengthOffset n ∙ length-stepped c₁ ∙ h in
+    let b : length (set (stepped c) heldLengthOffset n) ≡ clientWidth narrow = length-set (stepped c) heldLengthOffset n ∙ length-stepped c ∙ g in
+    rw (f, m) (behind-head (shapeOf k) (set (stepped c₁) heldLengthOffset n) p a q ∙ rw (head-set (shapeOf k) c₁ c n e) (sym (behind-head (shapeOf k) (set (stepped c) heldLengthOffset n) p b q)))
 
 -- ---- one number stored, and one more
 module _ (s : List ℕ) (d : ℕ) (f : Fit s d) where
-  pub put-one : (j x : ℕ) → j < 157 → set s (8 + d * 157 + j) x ≡ withClient narrow s d (set (clientIn narrow s d) j x)
+  pub put-one : (j x : ℕ) → j < clientWidth narrow → set s (clientOffset narrow d + j) x ≡ withClient narrow s d (set (clientIn narrow s d) j x)
   unfolding withClient clientIn
-  put-one j x h = sym (set-part s (8 + d * 157) 157 j x h (client-room s d f))
+  put-one j x h = sym (set-part s (clientOffset narrow d) (clientWidth narrow) j x h (client-room s d f))
 
-  pub put-more : (s₁ s₂ : List ℕ) (c : Client) (j x : ℕ) → s₁ ≡ withClient narrow s d c → s₂ ≡ withClient narrow s₁ d (set (clientIn narrow s₁ d) j x) → length c ≡ 157
+  pub put-more : (s₁ s₂ : List ℕ) (c : Client) (j x : ℕ) → s₁ ≡ withClient narrow s d c → s₂ ≡ withClient narrow s₁ d (set (clientIn narrow s₁ d) j x) → length c ≡ clientWidth narrow
       → s₂ ≡ withClient narrow s d (set c j x)
   put-more s₁ s₂ c j x e g n =
-      let m : length (set c j x) ≡ 157 = length-set c j x ∙ n in
+      let m : length (set c j x) ≡ clientWidth narrow = length-set c j x ∙ n in
       g ∙ rw (e, client-same s d f c n) (with-twice s d f c n (set c j x) m)
 
   -- ---- what each function leaves
-  pub idle-left : (t : List ℕ) → t ≡ replicate 157 0 ++ drop 157 (take (8 + d * 157 + 157 - (8 + d * 157)) (drop (8 + d * 157) s))
-      → putMid (8 + d * 157) (8 + d * 157 + 157 - (8 + d * 157)) s t ≡ withClient narrow s d (idle narrow)
+  pub idle-left : (t : List ℕ) → t ≡ replicate (clientWidth narrow) 0 ++ drop (clientWidth narrow) (take (clientOffset narrow d + clientWidth narrow - (clientOffset narrow d)) (drop (clientOffset narrow d) s))
+      → putMid (clientOffset narrow d) (clientOffset narrow d + clientWidth narrow - (clientOffset narrow d)) s t ≡ withClient narrow s d (idle narrow)
   unfolding withClient idle
-  idle-left t e = part-cleared s (8 + d * 157) (8 + d * 157 + 157) 157 t e refl (client-room s d f)
+  idle-left t e = part-cleared s (clientOffset narrow d) (clientOffset narrow d + clientWidth narrow) (clientWidth narrow) t e refl (client-room s d f)
 
-  pub begun-left : (s₁ s₂ : List ℕ) (x : ℕ) (key : List ℕ) → s₁ ≡ withClient narrow s d (idle narrow) → s₂ ≡ written s₁ (8 + d * 157) (x ∷ 0 ∷ 0 ∷ 0 ∷ 0 ∷ []) → length key ≡ 7
-      → written s₂ (8 + d * 157 + 5) key ≡ withClient narrow s d (begunWith x key)
+  pub begun-left : (s₁ s₂ : List ℕ) (x : ℕ) (key : List ℕ) → s₁ ≡ withClient narrow s d (idle narrow) → s₂ ≡ written s₁ (clientOffset narrow d) (x ∷ 0 ∷ 0 ∷ 0 ∷ 0 ∷ []) → length key ≡ 7
+      → written s₂ (clientOffset narrow d + entryOffset) key ≡ withClient narrow s d (begunWith x key)
   begun-left s₁ s₂ x key e g n =
       let head : List ℕ = x ∷ 0 ∷ 0 ∷ 0 ∷ 0 ∷ [] in
       let c : Client = written (idle narrow) 0 head in
-      let m : length c ≡ 157 = length-written (idle narrow) 0 head (rw length-idle (omega arith)) ∙ length-idle in
-      let z : 8 + d * 157 ≡ 8 + d * 157 + 0 = omega arith in
+      let m : length c ≡ clientWidth narrow = length-written (idle narrow) 0 head (rw length-idle (omega arith)) ∙ length-idle in
+      let z : clientOffset narrow d ≡ clientOffset narrow d + 0 = omega arith in
       let h : s₂ ≡ withClient narrow s d c =
-      g ∙ ap (λ (i : ℕ). written s₁ i head) z ∙ ap (λ (y : List ℕ). written y (8 + d * 157 + 0) head) e ∙ with-words s d f (idle narrow) length-idle 0 head (omega arith) in
+      g ∙ ap (λ (i : ℕ). written s₁ i head) z ∙ ap (λ (y : List ℕ). written y (clientOffset narrow d + 0) head) e ∙ with-words s d f (idle narrow) length-idle 0 head (omega arith) in
       rw h (with-words s d f c m 5 key (omega arith) ∙ ap (withClient narrow s d) (key-in x key n))
 
   pub stepped-left : (s₁ : List ℕ) (n : ℕ) → n ≡ steps (clientIn narrow s d) → s₁ ≡ withClient narrow s d (set (clientIn narrow s d) 1 (n + 1)) → s₁ ≡ withClient narrow s d (stepped (clientIn narrow s d))
   unfolding stepped
   stepped-left s₁ n e g = g ∙ rw e
 
-  length-after : length (stepped (clientIn narrow s d)) ≡ 157
+  length-after : length (stepped (clientIn narrow s d)) ≡ clientWidth narrow
   length-after = length-stepped (clientIn narrow s d) ∙ length-client s d f
 
   module _ (s₁ s₂ : List ℕ) (j revision pending : ℕ) (e : s₁ ≡ withClient narrow s d (stepped (clientIn narrow s d)))
-      (g : s₂ ≡ withClient narrow s₁ d (set (clientIn narrow s₁ d) (13 + j) revision)) where
-    look-left : s₂ ≡ withClient narrow s d (set (stepped (clientIn narrow s d)) (13 + j) revision)
-    look-left = put-more s₁ s₂ (stepped (clientIn narrow s d)) (13 + j) revision e g length-after
+      (g : s₂ ≡ withClient narrow s₁ d (set (clientIn narrow s₁ d) (notedOffset narrow j) revision)) where
+    look-left : s₂ ≡ withClient narrow s d (set (stepped (clientIn narrow s d)) (notedOffset narrow j) revision)
+    look-left = put-more s₁ s₂ (stepped (clientIn narrow s d)) (notedOffset narrow j) revision e g length-after
 
     pub noted-quiet : pending ≡ 0 → s₂ ≡ withClient narrow s d (noted narrow j revision pending (clientIn narrow s d))
     noted-quiet z = look-left ∙ ap (withClient narrow s d) (sym (quiet (clientIn narrow s d) j revision pending z))
@@ -155,8 +156,8 @@ module _ (s : List ℕ) (d : ℕ) (f : Fit s d) where
     pub noted-seen : (s₃ : List ℕ) → s₃ ≡ withClient narrow s₂ d (set (clientIn narrow s₂ d) 2 1) → (pending ≡ 0 → ⊥) → s₃ ≡ withClient narrow s d (noted narrow j revision pending (clientIn narrow s d))
     unfolding noted
     noted-seen s₃ h z =
-        let c : Client = set (stepped (clientIn narrow s d)) (13 + j) revision in
-        let n : length c ≡ 157 = length-set (stepped (clientIn narrow s d)) (13 + j) revision ∙ length-after in
+        let c : Client = set (stepped (clientIn narrow s d)) (notedOffset narrow j) revision in
+        let n : length c ≡ clientWidth narrow = length-set (stepped (clientIn narrow s d)) (notedOffset narrow j) revision ∙ length-after in
         rw (ne-eqb pending 0 z) (put-more s₂ s₃ c 2 1 look-left h n)
 
   pub wrote-left : (s₁ s₂ s₃ : List ℕ) (a b : ℕ) (changed full : Bool) → s₁ ≡ withClient narrow s d (stepped (clientIn narrow s d))
@@ -165,38 +166,38 @@ module _ (s : List ℕ) (d : ℕ) (f : Fit s d) where
   unfolding wrote
   wrote-left s₁ s₂ s₃ a b changed full e g h p q =
       let c : Client = set (stepped (clientIn narrow s d)) 3 a in
-      let n : length c ≡ 157 = length-set (stepped (clientIn narrow s d)) 3 a ∙ length-after in
+      let n : length c ≡ clientWidth narrow = length-set (stepped (clientIn narrow s d)) 3 a ∙ length-after in
       rw (← p, ← q) (put-more s₂ s₃ c 4 b (put-more s₁ s₂ (stepped (clientIn narrow s d)) 3 a e g length-after) h n)
 
-  pub list-left : (s₁ s₂ t : List ℕ) (n k : ℕ) → s₁ ≡ withClient narrow s d (stepped (clientIn narrow s d)) → s₂ ≡ withClient narrow s₁ d (set (clientIn narrow s₁ d) 12 n)
-      → t ≡ replicate (157 - (29 + n * k)) 0 ++ drop (157 - (29 + n * k)) (take (8 + d * 157 + 157 - (8 + d * 157 + (29 + n * k))) (drop (8 + d * 157 + (29 + n * k)) s₂))
-      → n * k ≤ 128 → putMid (8 + d * 157 + (29 + n * k)) (8 + d * 157 + 157 - (8 + d * 157 + (29 + n * k))) s₂ t ≡ withClient narrow s d (listSet n k (clientIn narrow s d))
+  pub list-left : (s₁ s₂ t : List ℕ) (n k : ℕ) → s₁ ≡ withClient narrow s d (stepped (clientIn narrow s d)) → s₂ ≡ withClient narrow s₁ d (set (clientIn narrow s₁ d) heldLengthOffset n)
+      → t ≡ replicate (clientWidth narrow - (heldListOffset narrow (shapeOf k) + n * k)) 0 ++ drop (clientWidth narrow - (heldListOffset narrow (shapeOf k) + n * k)) (take (clientOffset narrow d + clientWidth narrow - (clientOffset narrow d + (heldListOffset narrow (shapeOf k) + n * k))) (drop (clientOffset narrow d + (heldListOffset narrow (shapeOf k) + n * k)) s₂))
+      → n * k ≤ listWidth → putMid (clientOffset narrow d + (heldListOffset narrow (shapeOf k) + n * k)) (clientOffset narrow d + clientWidth narrow - (clientOffset narrow d + (heldListOffset narrow (shapeOf k) + n * k))) s₂ t ≡ withClient narrow s d (listSet n (shapeOf k) (clientIn narrow s d))
   list-left s₁ s₂ t n k e g h m =
-      let c : Client = set (stepped (clientIn narrow s d)) 12 n in
-      let o : length c ≡ 157 = length-set (stepped (clientIn narrow s d)) 12 n ∙ length-after in
-      let p : s₂ ≡ withClient narrow s d c = put-more s₁ s₂ (stepped (clientIn narrow s d)) 12 n e g length-after in
+      let c : Client = set (stepped (clientIn narrow s d)) heldLengthOffset n in
+      let o : length c ≡ clientWidth narrow = length-set (stepped (clientIn narrow s d)) heldLengthOffset n ∙ length-after in
+      let p : s₂ ≡ withClient narrow s d c = put-more s₁ s₂ (stepped (clientIn narrow s d)) heldLengthOffset n e g length-after in
       let l : length s₂ ≡ length s = ap length p ∙ length-kept s d f c o in
-      let r : length (replicate {A = ℕ} (157 - (29 + n * k)) 0) ≡ 157 - (29 + n * k) = length-replicate (157 - (29 + n * k)) 0 in
-      part-cleared s₂ (8 + d * 157 + (29 + n * k)) (8 + d * 157 + 157) (157 - (29 + n * k)) t h (omega arith) (omega arith)
-      ∙ rw p (with-words s d f c o (29 + n * k) (replicate (157 - (29 + n * k)) 0) (omega arith))
+      let r : length (replicate {A = ℕ} (clientWidth narrow - (heldListOffset narrow (shapeOf k) + n * k)) 0) ≡ clientWidth narrow - (heldListOffset narrow (shapeOf k) + n * k) = length-replicate (clientWidth narrow - (heldListOffset narrow (shapeOf k) + n * k)) 0 in
+      part-cleared s₂ (clientOffset narrow d + (heldListOffset narrow (shapeOf k) + n * k)) (clientOffset narrow d + clientWidth narrow) (clientWidth narrow - (heldListOffset narrow (shapeOf k) + n * k)) t h (omega arith) (omega arith)
+      ∙ rw p (with-words s d f c o (heldListOffset narrow (shapeOf k) + n * k) (replicate (clientWidth narrow - (heldListOffset narrow (shapeOf k) + n * k)) 0) (omega arith))
       ∙ ap (withClient narrow s d) (sym (list-in (clientIn narrow s d) n k (length-client s d f) m))
 
 -- ---- a list written into its place and then set
-pub list-held : (s : List ℕ) (d : ℕ) → Fit s d → (s₁ c₁ : List ℕ) (n k : ℕ) (l : List Record) → s₁ ≡ withClient narrow s d c₁ → length c₁ ≡ 157
-    → take 29 c₁ ≡ take 29 (clientIn narrow s d) → take (n * k) (drop 29 c₁) ≡ flat l → length l ≡ n → length (flat l) ≤ 128
-    → withClient narrow s₁ d (listSet n k (clientIn narrow s₁ d)) ≡ withClient narrow s d (holding narrow (shapeOf k) l (clientIn narrow s d))
+pub list-held : (s : List ℕ) (d : ℕ) → Fit s d → (s₁ c₁ : List ℕ) (n k : ℕ) (l : List Record) → s₁ ≡ withClient narrow s d c₁ → length c₁ ≡ clientWidth narrow
+    → take (heldListOffset narrow (shapeOf k)) c₁ ≡ take (heldListOffset narrow (shapeOf k)) (clientIn narrow s d) → take (n * k) (drop (heldListOffset narrow (shapeOf k)) c₁) ≡ flat l → length l ≡ n → length (flat l) ≤ listWidth
+    → withClient narrow s₁ d (listSet n (shapeOf k) (clientIn narrow s₁ d)) ≡ withClient narrow s d (holding narrow (shapeOf k) l (clientIn narrow s d))
 list-held s d f s₁ c₁ n k l e h g q m o =
-    let a : listSet n k c₁ ≡ holding narrow (shapeOf k) l (clientIn narrow s d) = list-holds c₁ (clientIn narrow s d) n k l h (length-client s d f) g q m o in
+    let a : listSet n (shapeOf k) c₁ ≡ holding narrow (shapeOf k) l (clientIn narrow s d) = list-holds c₁ (clientIn narrow s d) n k l h (length-client s d f) g q m o in
     rw (e, client-same s d f c₁ h, a) (with-twice s d f c₁ h (holding narrow (shapeOf k) l (clientIn narrow s d)) (length-holding (clientIn narrow s d) (shapeOf k) l o (length-client s d f)))
 
-pub list-written : (s : List ℕ) (d : ℕ) → Fit s d → (s₁ : List ℕ) (n k : ℕ) (l : List Record) → s₁ ≡ written s (8 + d * 157 + 29) (flat l) → length l ≡ n
-    → length (flat l) ≡ n * k → n * k ≤ 128 → withClient narrow s₁ d (listSet n k (clientIn narrow s₁ d)) ≡ withClient narrow s d (holding narrow (shapeOf k) l (clientIn narrow s d))
+pub list-written : (s : List ℕ) (d : ℕ) → Fit s d → (s₁ : List ℕ) (n k : ℕ) (l : List Record) → s₁ ≡ written s (clientOffset narrow d + heldListOffset narrow (shapeOf k)) (flat l) → length l ≡ n
+    → length (flat l) ≡ n * k → n * k ≤ listWidth → withClient narrow s₁ d (listSet n (shapeOf k) (clientIn narrow s₁ d)) ≡ withClient narrow s d (holding narrow (shapeOf k) l (clientIn narrow s d))
 list-written s d f s₁ n k l e m q o =
     let c : Client = clientIn narrow s d in
-    let j : length c ≡ 157 = length-client s d f in
-    let c₁ : Client = written c 29 (flat l) in
-    let h : length c₁ ≡ 157 = length-written c 29 (flat l) (omega arith) ∙ j in
-    let w : s₁ ≡ withClient narrow s d c₁ = e ∙ ap (λ (x : List ℕ). written x (8 + d * 157 + 29) (flat l)) (sym (with-self s d f)) ∙ with-words s d f c j 29 (flat l) (omega arith) in
-    let t : take (n * k) (drop 29 c₁) ≡ flat l =
-    ap (take (n * k)) (drop-of-written c 29 (flat l) (omega arith)) ∙ take-at (flat l) (drop (29 + length (flat l)) c) (n * k) q in
-    list-held s d f s₁ c₁ n k l w h (take-written c 29 (flat l) (omega arith) 29 (omega arith)) t m (omega arith)
+    let j : length c ≡ clientWidth narrow = length-client s d f in
+    let c₁ : Client = written c (heldListOffset narrow (shapeOf k)) (flat l) in
+    let h : length c₁ ≡ clientWidth narrow = length-written c (heldListOffset narrow (shapeOf k)) (flat l) (omega arith) ∙ j in
+    let w : s₁ ≡ withClient narrow s d c₁ = e ∙ ap (λ (x : List ℕ). written x (clientOffset narrow d + heldListOffset narrow (shapeOf k)) (flat l)) (sym (with-self s d f)) ∙ with-words s d f c j (heldListOffset narrow (shapeOf k)) (flat l) (omega arith) in
+    let t : take (n * k) (drop (heldListOffset narrow (shapeOf k)) c₁) ≡ flat l =
+    ap (take (n * k)) (drop-of-written c (heldListOffset narrow (shapeOf k)) (flat l) (omega arith)) ∙ take-at (flat l) (drop (heldListOffset narrow (shapeOf k) + length (flat l)) c) (n * k) q in
+    list-held s d f s₁ c₁ n k l w h (take-written c (heldListOffset narrow (shapeOf k)) (flat l) (omega arith) (heldListOffset narrow (shapeOf k)) (omega arith)) t m (omega arith)

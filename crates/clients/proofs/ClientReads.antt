@@ -4,8 +4,8 @@ use mathlib.Core.Bool.{Bool, true, false, not}
 use mathlib.Core.List.{List}
 use Prim.Native.Nat.{ℕ, _+_, _-_, _*_, _≤_, _<_}
 use native.Mathlib.Omega.{arith}
-use lib.ListN.{length, getD, take, drop, replicate}
-use lib.Seq.{getD-take, getD-drop, drop-drop}
+use lib.ListN.{length-drop, length, getD, take, drop, replicate}
+use lib.Seq.{take-all, getD-take, getD-drop, drop-drop}
 use Rattle.lists.specs.Lists.{same, allBelow}
 use Rattle.laws.proofs.ListLaws.{below-next, below-not}
 use Rattle.laws.proofs.WrittenLaws.{drop-take}
@@ -14,19 +14,21 @@ use Rattle.rules.specs.Answers.{keyIn, lengthIn, listIn}
 use Rattle.rules.specs.Client.{Client, entryOf, isIdle, idle, queryAt}
 use Rattle.rules.specs.Memory.{Mem, clientIn}
 use Rattle.rules.specs.Refusals.{client, allIdle}
-use Rattle.query.specs.Shape.{narrow, shapeOf}
+use Rattle.query.specs.Shape.{shapeOf, maxColumns, narrow}
+use Rattle.rules.specs.Layout.{maxClients, maxList, listOffset, listWidth, entryWidth, entryOffset, clientWidth, clientOffset}
+use Rattle.rules.specs.Layout.{heldValuesOffset, heldLengthOffset, heldListOffset}
 use Rattle.rules.proofs.ClientLaws.{list-room}
 use Rattle.clients.specs.ClientContracts.{Fit, idleAt}
 use Rattle.clients.proofs.ClientMemory.{length-client, part-at}
 
 -- ---- idleness
-part-client : (s : List ℕ) (d : ℕ) → take (8 + d * 157 + 157 - (8 + d * 157)) (drop (8 + d * 157) s) ≡ clientIn narrow s d
+part-client : (s : List ℕ) (d : ℕ) → take (clientOffset narrow d + clientWidth narrow - (clientOffset narrow d)) (drop (clientOffset narrow d) s) ≡ clientIn narrow s d
 unfolding clientIn
-part-client s d = let m : 8 + d * 157 + 157 - (8 + d * 157) ≡ 157 = omega arith in rw m
+part-client s d = let m : clientOffset narrow d + clientWidth narrow - (clientOffset narrow d) ≡ clientWidth narrow = omega arith in rw m
 
 module _ (s : List ℕ) (d : ℕ) where
   pub idle-read : (r : Bool) → Fit s d
-      → r ≡ same (take (8 + d * 157 + 157 - (8 + d * 157)) (drop (8 + d * 157) s)) (replicate (length (take (8 + d * 157 + 157 - (8 + d * 157)) (drop (8 + d * 157) s))) 0)
+      → r ≡ same (take (clientOffset narrow d + clientWidth narrow - (clientOffset narrow d)) (drop (clientOffset narrow d) s)) (replicate (length (take (clientOffset narrow d + clientWidth narrow - (clientOffset narrow d)) (drop (clientOffset narrow d) s))) 0)
       → r ≡ isIdle narrow (clientIn narrow s d)
   unfolding isIdle idle
   idle-read r f e = e ∙ rw (part-client s d, length-client s d f)
@@ -46,15 +48,15 @@ module _ (s : List ℕ) (d : ℕ) where
   idle-all n h k e = let m : d ≡ n = omega arith in rw (← m) (sym e)
 
 -- the rules' test of all clients
-pub all-idle : (m : Mem) → allIdle m ≡ allBelow 12 (idleAt (m .clients))
+pub all-idle : (m : Mem) → allIdle m ≡ allBelow maxClients (idleAt (m .clients))
 unfolding allIdle idleAt client
 all-idle m = refl
 
 -- ---- the query
-pub key-read : (s : List ℕ) (d : ℕ) → take (8 + d * 157 + 5 + 7 - (8 + d * 157 + 5)) (drop (8 + d * 157 + 5) s) ≡ keyIn (entryOf (clientIn narrow s d))
+pub key-read : (s : List ℕ) (d : ℕ) → take (clientOffset narrow d + entryOffset + 7 - (clientOffset narrow d + entryOffset)) (drop (clientOffset narrow d + entryOffset) s) ≡ keyIn (entryOf (clientIn narrow s d))
 unfolding keyIn entryOf
 key-read s d =
-    let n : 8 + d * 157 + 5 + 7 - (8 + d * 157 + 5) ≡ 7 = omega arith in
+    let n : clientOffset narrow d + entryOffset + 7 - (clientOffset narrow d + entryOffset) ≡ 7 = omega arith in
     rw n (sym (part-at s d 5 7 (omega arith)))
 
 marks-in : (c : Client) → getD (keyIn (entryOf c)) 0 0 ≡ getD c 5 0
@@ -66,25 +68,40 @@ unfolding keyIn entryOf
 values-in c = drop-take 1 7 (drop 5 c) ∙ ap (take 6) (drop-drop 1 5 c)
 
 pub columns-read : (s : List ℕ) (d k m : ℕ) → m ≡ getD (clientIn narrow s d) 5 0
-    → columnsIn k m (take (8 + d * 157 + 6 + 6 - (8 + d * 157 + 6)) (drop (8 + d * 157 + 6) s)) ≡ queryAt (shapeOf k) (clientIn narrow s d)
+    → columnsIn k m (take (clientOffset narrow d + heldValuesOffset + 6 - (clientOffset narrow d + heldValuesOffset)) (drop (clientOffset narrow d + heldValuesOffset) s)) ≡ queryAt (shapeOf k) (clientIn narrow s d)
 unfolding queryAt queryIn
 columns-read s d k m e =
-    let n : 8 + d * 157 + 6 + 6 - (8 + d * 157 + 6) ≡ 6 = omega arith in
+    let n : clientOffset narrow d + heldValuesOffset + 6 - (clientOffset narrow d + heldValuesOffset) ≡ 6 = omega arith in
     rw (n, e, ← part-at s d 6 6 (omega arith), ← marks-in (clientIn narrow s d), ← values-in (clientIn narrow s d))
 
 -- ---- the list
-pub length-read : (c : Client) → getD c 12 0 ≡ lengthIn (entryOf c)
+pub length-read : (c : Client) → getD c heldLengthOffset 0 ≡ lengthIn (entryOf c)
 unfolding lengthIn entryOf
 length-read c = sym (getD-drop 5 c 7 0)
 
-pub list-fits : (c : Client) (n k : ℕ) → n ≡ getD c 12 0 → lengthIn (entryOf c) ≤ 32 → k ≤ 4 → n * k ≤ 128
+pub list-fits : (c : Client) (n k : ℕ) → n ≡ getD c heldLengthOffset 0 → lengthIn (entryOf c) ≤ maxList → k ≤ maxColumns → n * k ≤ listWidth
 list-fits c n k e h g = let l = length-read c in list-room n k (omega arith) g
 
-pub list-read : (s : List ℕ) (d k n : ℕ) → n ≡ getD (clientIn narrow s d) 12 0 → n * k ≤ 128
-    → take (8 + d * 157 + 29 + n * k - (8 + d * 157 + 29)) (drop (8 + d * 157 + 29) s) ≡ listIn narrow (shapeOf k) (entryOf (clientIn narrow s d))
+pub list-read : (s : List ℕ) (d k n : ℕ) → n ≡ getD (clientIn narrow s d) heldLengthOffset 0 → n * k ≤ listWidth
+    → take (clientOffset narrow d + heldListOffset narrow (shapeOf k) + n * k - (clientOffset narrow d + heldListOffset narrow (shapeOf k))) (drop (clientOffset narrow d + heldListOffset narrow (shapeOf k)) s) ≡ listIn narrow (shapeOf k) (entryOf (clientIn narrow s d))
 unfolding listIn
 list-read s d k n e h =
-    let m : 8 + d * 157 + 29 + n * k - (8 + d * 157 + 29) ≡ n * k = omega arith in
+    let m : clientOffset narrow d + heldListOffset narrow (shapeOf k) + n * k - (clientOffset narrow d + heldListOffset narrow (shapeOf k)) ≡ n * k = omega arith in
     let l : n ≡ lengthIn (entryOf (clientIn narrow s d)) = e ∙ length-read (clientIn narrow s d) in
-    let g : drop 24 (entryOf (clientIn narrow s d)) ≡ drop 29 (clientIn narrow s d) = unfold entryOf in drop-drop 24 5 (clientIn narrow s d) in
-    rw (m, ← l, g) (sym (part-at s d 29 (n * k) (omega arith)))
+    let g : drop (listOffset narrow (shapeOf k)) (entryOf (clientIn narrow s d)) ≡ drop (heldListOffset narrow (shapeOf k)) (clientIn narrow s d) =
+    unfold entryOf in drop-drop (listOffset narrow (shapeOf k)) entryOffset (clientIn narrow s d) in
+    rw (m, ← l, g) (sym (part-at s d (heldListOffset narrow (shapeOf k)) (n * k) (omega arith)))
+
+-- the part that holds a client's entry
+pub entry-part : (s : List ℕ) (d : ℕ) → Fit s d
+    → take (clientOffset narrow d + entryOffset + entryWidth narrow - (clientOffset narrow d + entryOffset)) (drop (clientOffset narrow d + entryOffset) s)
+    ≡ entryOf (clientIn narrow s d)
+unfolding entryOf
+entry-part s d f =
+    let w : ℕ = entryWidth narrow in
+    let m : clientOffset narrow d + entryOffset + w - (clientOffset narrow d + entryOffset) ≡ w = omega arith in
+    rw m (sym (part-at s d entryOffset w (omega arith)) ∙ take-all w (drop entryOffset (clientIn narrow s d)) (rw (length-drop, length-client s d f) (omega arith)))
+
+pub entry-length : (s : List ℕ) (d : ℕ) (x : List ℕ) → Fit s d → x ≡ entryOf (clientIn narrow s d) → length x ≡ entryWidth narrow
+unfolding entryOf
+entry-length s d x f e = ap length e ∙ rw (length-drop, length-client s d f) refl

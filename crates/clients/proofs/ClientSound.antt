@@ -18,18 +18,17 @@ use Rattle.query.proofs.NodeLists.{named-most, read-count-most, write-count-mos
 use Rattle.query.proofs.EncodingLaws.{query-in-length}
 use Rattle.columns.specs.ColumnContracts.{four}
 use Rattle.columns.proofs.ColumnLoops.{four-back}
-use Rattle.rules.specs.Layout.{maxList}
+use Rattle.query.specs.Shape.{shapeOf, maxColumns, narrow}
+use Rattle.rules.specs.Layout.{maxList, maxLooks, inserts, deletes}
 use Rattle.rules.specs.Answers.{keyIn, lengthIn}
 use Rattle.rules.specs.Client.{Client, kind, steps, entryOf, idle, isIdle, queryAt, stepsInAll, isBad}
-use Rattle.rules.specs.Layout.{inserts}
-use Rattle.query.specs.Shape.{narrow, shapeOf}
 use Rattle.rules.proofs.ClientLaws.{busy-of}
 
 -- ---- counts of nodes
-pub power-small : (n p : ℕ) → p ≡ 2 ^ n → n ≤ 4 → p ≤ 16
+pub power-small : (n p : ℕ) → p ≡ 2 ^ n → n ≤ maxColumns → p ≤ maxLooks
 power-small n p e h = rw e (pow-le-pow-right {n = 2} (omega arith) {i = n} {j = 4} h)
 
-pub named-small : (n k : ℕ) (cols : List Column) → n ≡ named (take k cols) → k ≤ length cols → k ≤ 4 → n ≤ 4
+pub named-small : (n k : ℕ) (cols : List Column) → n ≡ named (take k cols) → k ≤ length cols → k ≤ maxColumns → n ≤ maxColumns
 named-small n k cols e l h =
     let m : named (take k cols) ≤ length (take k cols) = named-most (take k cols) in
     let t : length (take k cols) ≡ k = length-take-le k cols l in
@@ -96,7 +95,7 @@ module _ (k : ℕ) (c : Client) where
   pub none-idle : false ≡ isBad narrow (shapeOf k) c → kind c ≡ 0 → true ≡ isIdle narrow c
   none-idle g h = sym (not-false (isIdle narrow c) (bad-none (isIdle narrow c) refl h ∙ sym g))
 
-  bad-busy : (kind c ≡ 0 → ⊥) → kind c ≤ 3 → isBadBusy k c ≡ isBad narrow (shapeOf k) c
+  bad-busy : (kind c ≡ 0 → ⊥) → kind c ≤ deletes → isBadBusy k c ≡ isBad narrow (shapeOf k) c
   unfolding isBad isBadBusy
   bad-busy h g = rw (kind-busy c h, ne-eqb (kind c) 0 h, le-ltb 3 (kind c) g)
 
@@ -132,21 +131,21 @@ module _ (k : ℕ) (c : Client) where
         unfolding isBadBusy
         bad-step e t l = rw (← p, h, ← insert-is b r, g, ← step-is e t, l) at whole
 
-        pub bad-length : (e z : Bool) → e ≡ leb (stepsInAll x (take k cols)) (steps c) → e ≡ false → z ≡ ltb 32 (lengthIn (entryOf c)) → z ≡ isBad narrow (shapeOf k) c
+        pub bad-length : (e z : Bool) → e ≡ leb (stepsInAll x (take k cols)) (steps c) → e ≡ false → z ≡ ltb maxList (lengthIn (entryOf c)) → z ≡ isBad narrow (shapeOf k) c
         unfolding isBadBusy
         bad-length e z t l m = m ∙ (rw (← p, h, ← insert-is b r, g, ← step-is e t, l) at whole)
 
 -- ---- what a client that is neither idle nor senseless holds
 pub record Sound (k : ℕ) (c : Client) : Type 0 where
   pub least : 1 ≤ kind c
-  pub most : kind c ≤ 3
+  pub most : kind c ≤ deletes
   pub key : isKey (shapeOf k) (keyIn (entryOf c)) ≡ true
   pub names : kind c ≡ inserts → namesAll (queryAt (shapeOf k) c) ≡ true
   pub step : steps c < stepsInAll (kind c) (queryAt (shapeOf k) c)
   pub last : stepsInAll (kind c) (queryAt (shapeOf k) c) ≤ 33
-  pub list : lengthIn (entryOf c) ≤ 32
+  pub list : lengthIn (entryOf c) ≤ maxList
 
-pub sound-client : (k : ℕ) (c : Client) → k ≤ 4 → isBad narrow (shapeOf k) c ≡ false → isIdle narrow c ≡ false → Sound k c
+pub sound-client : (k : ℕ) (c : Client) → k ≤ maxColumns → isBad narrow (shapeOf k) c ≡ false → isIdle narrow c ≡ false → Sound k c
 sound-client k c h e i =
     let b = busy-of (shapeOf k) c e i in
     record {

@@ -6,13 +6,14 @@ use Prim.Native.Nat.{ℕ, _*_, _≤_, _<_}
 use lib.ListN.{length, take, drop, set}
 use Rattle.lists.specs.Lists.{padded, written}
 use Rattle.rules.specs.Client.{Client, isIdle, stepped}
-use Rattle.query.specs.Shape.{narrow}
+use Rattle.query.specs.Shape.{Shape, narrow}
+use Rattle.rules.specs.Layout.{maxClients, listWidth, clientWidth, clientsEnd, heldLengthOffset, heldListOffset}
 use Rattle.rules.specs.Memory.{clientIn}
 
--- a desks memory of at least its least length, and a client of it
+-- a memory that holds all clients, and one of them
 pub record Fit (s : List ℕ) (d : ℕ) : Type 0 where
-  pub long : 2000 ≤ length s
-  pub below : d < 12
+  pub long : clientsEnd narrow ≤ length s
+  pub below : d < maxClients
 
 -- client d is idle
 unfoldable pub idleAt : List ℕ → ℕ → Bool
@@ -20,8 +21,10 @@ idleAt s d = isIdle narrow (clientIn narrow s d)
 
 -- as a begin leaves a client, by the key of its query
 unfoldable pub begunWith : ℕ → List ℕ → Client
-begunWith x key = padded 157 (x ∷ 0 ∷ 0 ∷ 0 ∷ 0 ∷ key)
+begunWith x key = padded (clientWidth narrow) (x ∷ 0 ∷ 0 ∷ 0 ∷ 0 ∷ key)
 
--- a client whose list of n records of k numbers is in its place already: the length, zeros behind the list, and one step more
-unfoldable pub listSet : ℕ → ℕ → Client → Client
-listSet n k c = written (set (stepped c) 12 n) 29 (padded 128 (take (n * k) (drop 29 c)))
+-- a client whose list of n records is in its place already: the length, zeros behind the list, and one step more
+unfoldable pub listSet : ℕ → Shape → Client → Client
+listSet n sh c =
+    written (set (stepped c) heldLengthOffset n) (heldListOffset narrow sh)
+    (padded listWidth (take (n * sh .columns) (drop (heldListOffset narrow sh) c)))

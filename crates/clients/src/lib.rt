@@ -11,7 +11,10 @@ ghost use Rattle.query.specs.Encoding.{isKey, namesAll};
 ghost use Rattle.columns.specs.ColumnContracts.{four};
 ghost use Rattle.rules.specs.Answers.{keyIn, lengthIn, listIn};
 ghost use Rattle.rules.specs.Client.{kind, steps, sawPending, didChange, foundFull, entryOf, idle, isIdle, queryAt, stepsInAll, isBad, stepped, flag, noted, wrote};
-ghost use Rattle.query.specs.Shape.{narrow, shapeOf};
+ghost use Rattle.query.specs.Encoding.{keyWidth};
+ghost use Rattle.query.specs.Shape.{shapeOf, maxColumns, narrow};
+ghost use Rattle.rules.specs.Layout.{maxClients, maxList, maxWord, trayLeast, maxLooks, clientWidth, clientOffset, clientsEnd, heldListOffset};
+ghost use Rattle.rules.specs.Layout.{inserts};
 ghost use Rattle.rules.specs.Memory.{clientIn, withClient};
 ghost use Rattle.clients.specs.ClientContracts.{Fit, idleAt, begunWith, listSet};
 use query::Column;
@@ -22,24 +25,24 @@ const CLIENTS: usize = Hall::CLIENTS as usize;
 // ---- Reading
 // Number j of client d.
 fn word(clients: &[u32], d: usize, j: usize) -> u32
-    requires { ⌜ Fit (now clients) d × (j < 157) ⌝ }
+    requires { ⌜ Fit (now clients) d × (j < clientWidth narrow) ⌝ }
     ensures { λ r. ⌜ r ≡ getD (clientIn narrow (now (clients .entry)) d) j 0 ⌝ }
 {
-    clients[8 + d * 157 + j]
+    clients[Hall::HEADER + d * Hall::CLIENT_WIDTH + j]
 }
 
 pub fn kind_of(clients: &[u32], d: usize) -> u32
     requires { ⌜ Fit (now clients) d ⌝ }
     ensures { λ r. ⌜ r ≡ kind (clientIn narrow (now (clients .entry)) d) ⌝ }
 {
-    word(clients, d, 0)
+    word(clients, d, Hall::KIND_OFFSET)
 }
 
 pub fn steps_of(clients: &[u32], d: usize) -> u32
     requires { ⌜ Fit (now clients) d ⌝ }
     ensures { λ r. ⌜ r ≡ steps (clientIn narrow (now (clients .entry)) d) ⌝ }
 {
-    word(clients, d, 1)
+    word(clients, d, Hall::STEPS_OFFSET)
 }
 
 // Whether a look saw a mark.
@@ -47,7 +50,7 @@ pub fn saw_pending(clients: &[u32], d: usize) -> bool
     requires { ⌜ Fit (now clients) d ⌝ }
     ensures { λ r. ⌜ r ≡ sawPending (clientIn narrow (now (clients .entry)) d) ⌝ }
 {
-    word(clients, d, 2) != 0
+    word(clients, d, Hall::SAW_OFFSET) != 0
 }
 
 // Whether the write changed the table.
@@ -55,7 +58,7 @@ pub fn did_change(clients: &[u32], d: usize) -> bool
     requires { ⌜ Fit (now clients) d ⌝ }
     ensures { λ r. ⌜ r ≡ didChange (clientIn narrow (now (clients .entry)) d) ⌝ }
 {
-    word(clients, d, 3) != 0
+    word(clients, d, Hall::CHANGED_OFFSET) != 0
 }
 
 // Whether the insert found the table full.
@@ -63,7 +66,7 @@ pub fn found_full(clients: &[u32], d: usize) -> bool
     requires { ⌜ Fit (now clients) d ⌝ }
     ensures { λ r. ⌜ r ≡ foundFull (clientIn narrow (now (clients .entry)) d) ⌝ }
 {
-    word(clients, d, 4) != 0
+    word(clients, d, Hall::FULL_OFFSET) != 0
 }
 
 // Whether all of a client's numbers are 0.
@@ -71,15 +74,15 @@ pub fn is_idle(clients: &[u32], d: usize) -> bool
     requires { ⌜ Fit (now clients) d ⌝ }
     ensures { λ r. ⌜ r ≡ isIdle narrow (clientIn narrow (now (clients .entry)) d) ⌝ }
 {
-    let at = 8 + d * 157;
-    let stop = at + 157;
+    let at = Hall::HEADER + d * Hall::CLIENT_WIDTH;
+    let stop = at + Hall::CLIENT_WIDTH;
     words::is_zero(&clients[at..stop])
 }
 
 // Whether no client is busy; ends at the first that is.
 pub fn all_idle(clients: &[u32]) -> bool
-    requires { ⌜ 2000 ≤ length (now clients) ⌝ }
-    ensures { λ r. ⌜ r ≡ allBelow 12 (idleAt (now (clients .entry))) ⌝ }
+    requires { ⌜ clientsEnd narrow ≤ length (now clients) ⌝ }
+    ensures { λ r. ⌜ r ≡ allBelow maxClients (idleAt (now (clients .entry))) ⌝ }
 {
     let mut d = 0;
     while d < CLIENTS {
@@ -92,23 +95,41 @@ pub fn all_idle(clients: &[u32]) -> bool
 }
 
 // The columns of a client's query.
-pub fn columns_at(clients: &[u32], d: usize, k: usize) -> [Column; 4]
-    requires { ⌜ Fit (now clients) d × ((1 ≤ k) × (k ≤ 4)) ⌝ }
+pub fn columns_at(clients: &[u32], d: usize, k: usize) -> [Column; Hall::COLUMN_SLOTS]
+    requires { ⌜ Fit (now clients) d × ((1 ≤ k) × (k ≤ maxColumns)) ⌝ }
     ensures { λ r. ⌜ r ≡ four (queryAt (shapeOf k) (clientIn narrow (now (clients .entry)) d)) ⌝ }
 {
-    let marks = word(clients, d, 5);
-    let at = 8 + d * 157 + 6;
-    let end = at + 6;
+    let marks = word(clients, d, Hall::ENTRY_OFFSET);
+    let at = Hall::HEADER + d * Hall::CLIENT_WIDTH + Hall::HELD_VALUES_OFFSET;
+    let end = at + Hall::VALUES_WIDTH;
     columns::keys::columns_in(k, marks, &clients[at..end])
+}
+
+// A client's own entry: its query's key, the list's length, the revisions noted, the list.
+pub fn entry<'a>(clients: &'a [u32], d: usize) -> &'a [u32]
+    requires { ⌜ Fit (now clients) d ⌝ }
+    ensures { λ r. ⌜ now r ≡ entryOf (clientIn narrow (now (clients .entry)) d) ⌝ }
+{
+    let at = Hall::HEADER + d * Hall::CLIENT_WIDTH + Hall::ENTRY_OFFSET;
+    let end = at + Hall::ENTRY_WIDTH;
+    &clients[at..end]
+}
+
+// Where a client's list stands in the memory of a hall of k columns: at the same place for every k.
+pub fn list_at(d: usize, k: usize) -> usize
+    requires { ⌜ d < maxClients ⌝ }
+    ensures { λ r. ⌜ r ≡ clientOffset narrow d + heldListOffset narrow (shapeOf k) ⌝ }
+{
+    Hall::HEADER + d * Hall::CLIENT_WIDTH + Hall::HELD_LIST_OFFSET
 }
 
 // Writes a client's list from the tray's start on, and says how many records it has.
 pub fn give_list(clients: &[u32], d: usize, k: usize, tray: &mut [u32]) -> u32
-    requires { ⌜ Fit (now clients) d × ((lengthIn (entryOf (clientIn narrow (now clients) d)) ≤ 32) × ((1 ≤ k) × ((k ≤ 4) × (128 ≤ length (now tray))))) ⌝ }
+    requires { ⌜ Fit (now clients) d × ((lengthIn (entryOf (clientIn narrow (now clients) d)) ≤ maxList) × ((1 ≤ k) × ((k ≤ maxColumns) × (trayLeast ≤ length (now tray))))) ⌝ }
     ensures { λ r. ⌜ (r ≡ lengthIn (entryOf (clientIn narrow (now (clients .entry)) d))) × (now (tray .exit) ≡ written (now (tray .entry)) 0 (listIn narrow (shapeOf k) (entryOf (clientIn narrow (now (clients .entry)) d)))) ⌝ }
 {
-    let n = word(clients, d, 12);
-    let at = 8 + d * 157 + 29;
+    let n = word(clients, d, Hall::HELD_LENGTH_OFFSET);
+    let at = Hall::HEADER + d * Hall::CLIENT_WIDTH + Hall::HELD_LIST_OFFSET;
     let end = at + n as usize * k;
     words::write(tray, 0, &clients[at..end]);
     n
@@ -117,10 +138,10 @@ pub fn give_list(clients: &[u32], d: usize, k: usize, tray: &mut [u32]) -> u32
 // ---- Changes
 // Stores x as number j of client d.
 fn put(clients: &mut [u32], d: usize, j: usize, x: u32)
-    requires { ⌜ Fit (now clients) d × (j < 157) ⌝ }
+    requires { ⌜ Fit (now clients) d × (j < clientWidth narrow) ⌝ }
     ensures { λ _. ⌜ now (clients .exit) ≡ withClient narrow (now (clients .entry)) d (set (clientIn narrow (now (clients .entry)) d) j x) ⌝ }
 {
-    clients[8 + d * 157 + j] = x;
+    clients[Hall::HEADER + d * Hall::CLIENT_WIDTH + j] = x;
 }
 
 // Leaves client d idle: all 0.
@@ -128,43 +149,43 @@ pub fn set_idle(clients: &mut [u32], d: usize)
     requires { ⌜ Fit (now clients) d ⌝ }
     ensures { λ _. ⌜ now (clients .exit) ≡ withClient narrow (now (clients .entry)) d (idle narrow) ⌝ }
 {
-    let at = 8 + d * 157;
-    let end = at + 157;
-    words::clear(&mut clients[at..end], 157);
+    let at = Hall::HEADER + d * Hall::CLIENT_WIDTH;
+    let end = at + Hall::CLIENT_WIDTH;
+    words::clear(&mut clients[at..end], Hall::CLIENT_WIDTH);
 }
 
 // Begins a read or a write at client d: its kind and its query's key, all the rest 0.
 pub fn begin(clients: &mut [u32], d: usize, kind: u32, key: &[u32])
-    requires { ⌜ Fit (now clients) d × (length (now key) ≡ 7) ⌝ }
+    requires { ⌜ Fit (now clients) d × (length (now key) ≡ keyWidth) ⌝ }
     ensures { λ _. ⌜ now (clients .exit) ≡ withClient narrow (now (clients .entry)) d (begunWith kind (now (key .entry))) ⌝ }
 {
     set_idle(clients, d);
     let head = [kind, 0, 0, 0, 0];
-    let at = 8 + d * 157;
+    let at = Hall::HEADER + d * Hall::CLIENT_WIDTH;
     words::write(clients, at, &head);
-    words::write(clients, at + 5, key);
+    words::write(clients, at + Hall::ENTRY_OFFSET, key);
 }
 
 // Counts one step more.
 pub fn advance(clients: &mut [u32], d: usize)
-    requires { ⌜ Fit (now clients) d × (steps (clientIn narrow (now clients) d) < 4294967295) ⌝ }
+    requires { ⌜ Fit (now clients) d × (steps (clientIn narrow (now clients) d) < maxWord) ⌝ }
     ensures { λ _. ⌜ now (clients .exit) ≡ withClient narrow (now (clients .entry)) d (stepped (clientIn narrow (now (clients .entry)) d)) ⌝ }
 {
     let made = steps_of(clients, d);
-    put(clients, d, 1, made + 1);
+    put(clients, d, Hall::STEPS_OFFSET, made + 1);
 }
 
 // Look j: notes a node's revision and whether writes are pending there, and counts the step.
 pub fn note(clients: &mut [u32], d: usize, j: usize, revision: u32, pending: u32)
-    requires { ⌜ Fit (now clients) d × ((j < 16) × (steps (clientIn narrow (now clients) d) < 4294967295)) ⌝ }
+    requires { ⌜ Fit (now clients) d × ((j < maxLooks) × (steps (clientIn narrow (now clients) d) < maxWord)) ⌝ }
     ensures { λ _. ⌜ now (clients .exit) ≡ withClient narrow (now (clients .entry)) d (noted narrow j revision pending (clientIn narrow (now (clients .entry)) d)) ⌝ }
 {
     advance(clients, d);
-    put(clients, d, 13 + j, revision);
+    put(clients, d, Hall::NOTED_OFFSET + j, revision);
     if pending == 0 {
         return;
     }
-    put(clients, d, 2, 1);
+    put(clients, d, Hall::SAW_OFFSET, 1);
 }
 
 fn flag(b: bool) -> u32
@@ -175,34 +196,34 @@ fn flag(b: bool) -> u32
 
 // A write's table step: whether the table changed, whether it was full, and the step counted.
 pub fn set_wrote(clients: &mut [u32], d: usize, changed: bool, full: bool)
-    requires { ⌜ Fit (now clients) d × (steps (clientIn narrow (now clients) d) < 4294967295) ⌝ }
+    requires { ⌜ Fit (now clients) d × (steps (clientIn narrow (now clients) d) < maxWord) ⌝ }
     ensures { λ _. ⌜ now (clients .exit) ≡ withClient narrow (now (clients .entry)) d (wrote changed full (clientIn narrow (now (clients .entry)) d)) ⌝ }
 {
     advance(clients, d);
-    put(clients, d, 3, flag(changed));
-    put(clients, d, 4, flag(full));
+    put(clients, d, Hall::CHANGED_OFFSET, flag(changed));
+    put(clients, d, Hall::FULL_OFFSET, flag(full));
 }
 
 // A read's table step, the list being in its place already: sets its length, clears what is behind it, and counts the step.
 pub fn set_list(clients: &mut [u32], d: usize, n: usize, k: usize)
-    requires { ⌜ Fit (now clients) d × ((n ≤ 32) × ((1 ≤ k) × ((k ≤ 4) × (steps (clientIn narrow (now clients) d) < 4294967295)))) ⌝ }
-    ensures { λ _. ⌜ now (clients .exit) ≡ withClient narrow (now (clients .entry)) d (listSet n k (clientIn narrow (now (clients .entry)) d)) ⌝ }
+    requires { ⌜ Fit (now clients) d × ((n ≤ maxList) × ((1 ≤ k) × ((k ≤ maxColumns) × (steps (clientIn narrow (now clients) d) < maxWord)))) ⌝ }
+    ensures { λ _. ⌜ now (clients .exit) ≡ withClient narrow (now (clients .entry)) d (listSet n (shapeOf k) (clientIn narrow (now (clients .entry)) d)) ⌝ }
 {
     advance(clients, d);
-    put(clients, d, 12, n as u32);
-    let used = 29 + n * k;
-    let from = 8 + d * 157 + used;
-    let end = 8 + d * 157 + 157;
-    words::clear(&mut clients[from..end], 157 - used);
+    put(clients, d, Hall::HELD_LENGTH_OFFSET, n as u32);
+    let used = Hall::HELD_LIST_OFFSET + n * k;
+    let from = Hall::HEADER + d * Hall::CLIENT_WIDTH + used;
+    let end = Hall::HEADER + d * Hall::CLIENT_WIDTH + Hall::CLIENT_WIDTH;
+    words::clear(&mut clients[from..end], Hall::CLIENT_WIDTH - used);
 }
 
 // ---- Soundness
 // How many steps a client of this kind makes at the most.
-pub fn steps_in_all(kind: u32, cols: [Column; 4], k: usize) -> u32
-    requires { ⌜ k ≤ 4 ⌝ }
+pub fn steps_in_all(kind: u32, cols: [Column; Hall::COLUMN_SLOTS], k: usize) -> u32
+    requires { ⌜ k ≤ maxColumns ⌝ }
     ensures { λ r. ⌜ r ≡ stepsInAll kind (take k cols) ⌝ }
 {
-    if kind == 1 {
+    if kind == Hall::READS {
         let named = columns::keys::named(cols, k);
         return columns::keys::power(named) + 3;
     }
@@ -212,28 +233,34 @@ pub fn steps_in_all(kind: u32, cols: [Column; 4], k: usize) -> u32
 
 // Whether a client's key is that of no query of k columns.
 fn bad_key(clients: &[u32], d: usize, k: usize) -> bool
-    requires { ⌜ Fit (now clients) d × (k ≤ 4) ⌝ }
+    requires { ⌜ Fit (now clients) d × (k ≤ maxColumns) ⌝ }
     ensures { λ r. ⌜ r ≡ not (isKey (shapeOf k) (keyIn (entryOf (clientIn narrow (now (clients .entry)) d)))) ⌝ }
 {
-    let at = 8 + d * 157 + 5;
-    let end = at + 7;
+    let at = Hall::HEADER + d * Hall::CLIENT_WIDTH + Hall::ENTRY_OFFSET;
+    let end = at + Hall::KEY_WIDTH;
     !columns::keys::is_key(k, &clients[at..end])
 }
 
 // Whether an insert has a wildcard.
-fn bad_insert(kind: u32, cols: [Column; 4], k: usize) -> bool
-    requires { ⌜ k ≤ 4 ⌝ }
-    ensures { λ r. ⌜ r ≡ (eqb kind 2 && not (namesAll (take k cols))) ⌝ }
+fn bad_insert(kind: u32, cols: [Column; Hall::COLUMN_SLOTS], k: usize) -> bool
+    requires { ⌜ k ≤ maxColumns ⌝ }
+    ensures { λ r. ⌜ r ≡ (eqb kind inserts && not (namesAll (take k cols))) ⌝ }
 {
-    if kind != 2 {
+    if kind != Hall::INSERTS {
         return false;
     }
     columns::keys::named(cols, k) != k
 }
 
 // Whether a client has made all its steps and is not idle.
-fn bad_step(clients: &[u32], d: usize, kind: u32, cols: [Column; 4], k: usize) -> bool
-    requires { ⌜ Fit (now clients) d × (k ≤ 4) ⌝ }
+fn bad_step(
+    clients: &[u32],
+    d: usize,
+    kind: u32,
+    cols: [Column; Hall::COLUMN_SLOTS],
+    k: usize,
+) -> bool
+    requires { ⌜ Fit (now clients) d × (k ≤ maxColumns) ⌝ }
     ensures { λ r. ⌜ r ≡ leb (stepsInAll kind (take k cols)) (steps (clientIn narrow (now (clients .entry)) d)) ⌝ }
 {
     let made = steps_of(clients, d);
@@ -243,21 +270,21 @@ fn bad_step(clients: &[u32], d: usize, kind: u32, cols: [Column; 4], k: usize) -
 // Whether a client's list is longer than any.
 fn bad_length(clients: &[u32], d: usize) -> bool
     requires { ⌜ Fit (now clients) d ⌝ }
-    ensures { λ r. ⌜ r ≡ ltb 32 (lengthIn (entryOf (clientIn narrow (now (clients .entry)) d))) ⌝ }
+    ensures { λ r. ⌜ r ≡ ltb maxList (lengthIn (entryOf (clientIn narrow (now (clients .entry)) d))) ⌝ }
 {
-    Hall::LIST < word(clients, d, 12)
+    Hall::LIST < word(clients, d, Hall::HELD_LENGTH_OFFSET)
 }
 
 // Whether a client is not idle and its kind, query, step or list length is out of range. Only where the kind is 0 are all its numbers read.
 pub fn is_bad(clients: &[u32], d: usize, k: usize) -> bool
-    requires { ⌜ Fit (now clients) d × ((1 ≤ k) × (k ≤ 4)) ⌝ }
+    requires { ⌜ Fit (now clients) d × ((1 ≤ k) × (k ≤ maxColumns)) ⌝ }
     ensures { λ r. ⌜ r ≡ isBad narrow (shapeOf k) (clientIn narrow (now (clients .entry)) d) ⌝ }
 {
     let kind = kind_of(clients, d);
     if kind == 0 {
         return !is_idle(clients, d);
     }
-    if 3 < kind {
+    if Hall::DELETES < kind {
         return true;
     }
     if bad_key(clients, d, k) {

@@ -1,9 +1,11 @@
 // Queries as numbers in memory (docs/LAYOUT.md): marks, values, keys.
+use hall::Hall;
 ghost use mathlib.Core.Path.{_≡_};
 ghost use Prim.Native.Nat.{_≤_, _^_};
 ghost use lib.ListN.{length, take};
 ghost use Rattle.query.specs.Query.{named};
-ghost use Rattle.query.specs.Shape.{shapeOf};
+ghost use Rattle.query.specs.Encoding.{keyWidth};
+ghost use Rattle.query.specs.Shape.{shapeOf, maxColumns};
 ghost use Rattle.query.specs.Encoding.{marks, columnsIn, columnValue, keyWords, isKey};
 ghost use Rattle.columns.specs.ColumnContracts.{four};
 ghost use Rattle.columns.specs.KeyContracts.{markOf, keeps, zeroUnder};
@@ -30,8 +32,8 @@ fn value_of(col: Column) -> u32
 }
 
 // How many columns a query names.
-pub fn named(cols: [Column; 4], k: usize) -> usize
-    requires { ⌜ k ≤ 4 ⌝ }
+pub fn named(cols: [Column; Hall::COLUMN_SLOTS], k: usize) -> usize
+    requires { ⌜ k ≤ maxColumns ⌝ }
     ensures { λ r. ⌜ r ≡ named (take k cols) ⌝ }
 {
     let mut n = 0;
@@ -46,8 +48,8 @@ pub fn named(cols: [Column; 4], k: usize) -> usize
 }
 
 // One bit for each column, 1 where it names a value; the first column has the lowest bit.
-pub fn marks_of(cols: [Column; 4], k: usize) -> u32
-    requires { ⌜ k ≤ 4 ⌝ }
+pub fn marks_of(cols: [Column; Hall::COLUMN_SLOTS], k: usize) -> u32
+    requires { ⌜ k ≤ maxColumns ⌝ }
     ensures { λ r. ⌜ r ≡ marks (take k cols) ⌝ }
 {
     let mut marks = 0;
@@ -62,12 +64,12 @@ pub fn marks_of(cols: [Column; 4], k: usize) -> u32
 }
 
 // The k columns of marks and values.
-pub fn columns_in(k: usize, marks: u32, values: &[u32]) -> [Column; 4]
-    requires { ⌜ (k ≤ 4) × (k ≤ length (now values)) ⌝ }
+pub fn columns_in(k: usize, marks: u32, values: &[u32]) -> [Column; Hall::COLUMN_SLOTS]
+    requires { ⌜ (k ≤ maxColumns) × (k ≤ length (now values)) ⌝ }
     ensures { λ r. ⌜ r ≡ four (columnsIn k marks (now (values .entry))) ⌝ }
 {
     let wildcard = Column::Wildcard;
-    let mut cols = [wildcard; 4];
+    let mut cols = [wildcard; Hall::COLUMN_SLOTS];
     let mut left = marks;
     let mut i = 0;
     while i < k {
@@ -81,11 +83,11 @@ pub fn columns_in(k: usize, marks: u32, values: &[u32]) -> [Column; 4]
 }
 
 // A query as the key of an answer: its marks, its values, zeros behind.
-pub fn key_words(cols: [Column; 4], k: usize) -> [u32; 7]
-    requires { ⌜ k ≤ 4 ⌝ }
+pub fn key_words(cols: [Column; Hall::COLUMN_SLOTS], k: usize) -> [u32; Hall::KEY_WIDTH]
+    requires { ⌜ k ≤ maxColumns ⌝ }
     ensures { λ r. ⌜ r ≡ keyWords (take k cols) ⌝ }
 {
-    let mut key = [0u32; 7];
+    let mut key = [0u32; Hall::KEY_WIDTH];
     key[0] = marks_of(cols, k);
     let mut i = 0;
     while i < k {
@@ -101,7 +103,7 @@ const POWERS: [u32; 5] = [1, 2, 4, 8, 16];
 
 // Two to the k: as many as the nodes of a write, and one above the highest marks.
 pub fn power(k: usize) -> u32
-    requires { ⌜ k ≤ 4 ⌝ }
+    requires { ⌜ k ≤ maxColumns ⌝ }
     ensures { λ r. ⌜ r ≡ 2 ^ k ⌝ }
 {
     POWERS[k]
@@ -136,7 +138,7 @@ fn zero_under(marks: u32, values: &[u32]) -> bool
 
 // Whether seven numbers are the key of a query of k columns: marks for k columns at most, and no value without a mark.
 pub fn is_key(k: usize, key: &[u32]) -> bool
-    requires { ⌜ (k ≤ 4) × (length (now key) ≡ 7) ⌝ }
+    requires { ⌜ (k ≤ maxColumns) × (length (now key) ≡ keyWidth) ⌝ }
     ensures { λ r. ⌜ r ≡ isKey (shapeOf k) (now (key .entry)) ⌝ }
 {
     let marks = key[0];

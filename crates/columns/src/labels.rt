@@ -1,4 +1,5 @@
 // The labels of a query's nodes, in five numbers each: four tags in one, then four values (docs/LAYOUT.md).
+use hall::Hall;
 ghost use mathlib.Core.Path.{_≡_};
 ghost use Prim.Native.Nat.{_≤_, _<_};
 ghost use lib.ListN.{take};
@@ -6,6 +7,7 @@ ghost use Rattle.query.specs.Query.{readCount, readNode, writeNode};
 ghost use Rattle.query.specs.Encoding.{labelWords};
 ghost use Rattle.columns.specs.LabelContracts.{termOf, changedTerm, changedNode, wordOf, bytes, Tags};
 use query::Column;
+ghost use Rattle.query.specs.Shape.{maxColumns};
 
 // The tags of a label's column.
 const VALUE: u32 = 1;
@@ -45,7 +47,7 @@ fn changed(col: Column, bits: usize, to: u32) -> Word
 }
 
 // Four tags in one number, the first in the lowest byte.
-fn packed(tags: [u32; 4]) -> u32
+fn packed(tags: [u32; Hall::COLUMN_SLOTS]) -> u32
     requires { ⌜ Tags tags ⌝ }
     ensures { λ r. ⌜ r ≡ bytes tags ⌝ }
 {
@@ -53,12 +55,17 @@ fn packed(tags: [u32; 4]) -> u32
 }
 
 // A query's label in which the columns at the 1 bits of `bits` are changed: a value to the tag `to`, a wildcard to ?.
-fn label(cols: [Column; 4], k: usize, bits: usize, to: u32) -> [u32; 5]
-    requires { ⌜ (k ≤ 4) × ((2 ≤ to) × (to ≤ 3)) ⌝ }
+fn label(
+    cols: [Column; Hall::COLUMN_SLOTS],
+    k: usize,
+    bits: usize,
+    to: u32,
+) -> [u32; Hall::LABEL_WIDTH]
+    requires { ⌜ (k ≤ maxColumns) × ((2 ≤ to) × (to ≤ 3)) ⌝ }
     ensures { λ r. ⌜ r ≡ labelWords (changedNode (termOf to) (take k cols) bits) ⌝ }
 {
-    let mut words = [0u32; 5];
-    let mut tags = [0u32; 4];
+    let mut words = [0u32; Hall::LABEL_WIDTH];
+    let mut tags = [0u32; Hall::COLUMN_SLOTS];
     let mut left = bits;
     let mut i = 0;
     while i < k {
@@ -74,8 +81,12 @@ fn label(cols: [Column; 4], k: usize, bits: usize, to: u32) -> [u32; 5]
 }
 
 // The label of a read's node at a look: the sheet says which named columns become ?. A column that the hall lacks is a star there.
-pub fn read_label(cols: [Column; 4], k: usize, look: usize) -> [u32; 5]
-    requires { ⌜ (k ≤ 4) × (look < readCount (take k cols)) ⌝ }
+pub fn read_label(
+    cols: [Column; Hall::COLUMN_SLOTS],
+    k: usize,
+    look: usize,
+) -> [u32; Hall::LABEL_WIDTH]
+    requires { ⌜ (k ≤ maxColumns) × (look < readCount (take k cols)) ⌝ }
     ensures { λ r. ⌜ r ≡ labelWords (readNode (take k cols) look) ⌝ }
 {
     let stars = 15 - super::keys::marks_of(cols, k);
@@ -84,8 +95,12 @@ pub fn read_label(cols: [Column; 4], k: usize, look: usize) -> [u32; 5]
 }
 
 // The label of a write's node: the bits of its number say which columns change.
-pub fn write_label(cols: [Column; 4], k: usize, number: usize) -> [u32; 5]
-    requires { ⌜ k ≤ 4 ⌝ }
+pub fn write_label(
+    cols: [Column; Hall::COLUMN_SLOTS],
+    k: usize,
+    number: usize,
+) -> [u32; Hall::LABEL_WIDTH]
+    requires { ⌜ k ≤ maxColumns ⌝ }
     ensures { λ r. ⌜ r ≡ labelWords (writeNode (take k cols) number) ⌝ }
 {
     label(cols, k, number, WILDCARD)

@@ -1,10 +1,11 @@
 // Queries in code: an array of four columns, of which the first k are in use and the rest are wildcards.
 // Leans on query for the column and for the rules.
+use hall::Hall;
 ghost use mathlib.Core.Path.{_≡_};
-ghost use Prim.Native.Nat.{_≤_};
+ghost use Prim.Native.Nat.{_*_, _≤_};
 ghost use lib.ListN.{length, take};
 ghost use Rattle.query.specs.Query.{admits, lies};
-ghost use Rattle.query.specs.Shape.{shapeOf};
+ghost use Rattle.query.specs.Shape.{shapeOf, maxColumns};
 ghost use Rattle.query.specs.Encoding.{isQuery, columnOf, queryOf, wellMarked};
 ghost use Rattle.columns.specs.ColumnContracts.{columnMarked, four, takenOf};
 use query::Column;
@@ -24,8 +25,8 @@ pub fn admits(col: Column, x: u32) -> bool
 }
 
 // Whether a record lies in a query's subspace: the one test that all callers share. It ends at the first column that fails.
-pub fn lies(cols: [Column; 4], rec: &[u32]) -> bool
-    requires { ⌜ length (now rec) ≤ 4 ⌝ }
+pub fn lies(cols: [Column; Hall::COLUMN_SLOTS], rec: &[u32]) -> bool
+    requires { ⌜ length (now rec) ≤ maxColumns ⌝ }
     ensures { λ r. ⌜ r ≡ lies (take (length (now (rec .entry))) cols) (now (rec .entry)) ⌝ }
 {
     let mut i = 0;
@@ -43,15 +44,15 @@ pub fn lies(cols: [Column; 4], rec: &[u32]) -> bool
 // What an insert takes from a query: whether it names every column, and the values up to the first wildcard, zeros behind.
 pub struct Taken {
     pub ok: bool,
-    pub values: [u32; 4],
+    pub values: [u32; Hall::COLUMN_SLOTS],
 }
 
 // An insert takes each column's value, and refuses a wildcard.
-pub fn take_record(cols: [Column; 4], k: usize) -> Taken
-    requires { ⌜ k ≤ 4 ⌝ }
+pub fn take_record(cols: [Column; Hall::COLUMN_SLOTS], k: usize) -> Taken
+    requires { ⌜ k ≤ maxColumns ⌝ }
     ensures { λ r. ⌜ r ≡ takenOf (take k cols) ⌝ }
 {
-    let mut values = [0u32; 4];
+    let mut values = [0u32; Hall::COLUMN_SLOTS];
     let mut i = 0;
     while i < k {
         let col = cols[i];
@@ -115,12 +116,12 @@ fn column_of(mark: u32, v: u32) -> Column
 }
 
 // The columns of what arrives, at most four, wildcards behind.
-pub fn columns_of(asked: &[u32]) -> [Column; 4]
-    requires { ⌜ length (now asked) ≤ 8 ⌝ }
+pub fn columns_of(asked: &[u32]) -> [Column; Hall::COLUMN_SLOTS]
+    requires { ⌜ length (now asked) ≤ 2 * maxColumns ⌝ }
     ensures { λ r. ⌜ r ≡ four (queryOf (now (asked .entry))) ⌝ }
 {
     let wildcard = Column::Wildcard;
-    let mut cols = [wildcard; 4];
+    let mut cols = [wildcard; Hall::COLUMN_SLOTS];
     let mut i = 0;
     let mut from = 0;
     while from + 1 < asked.len() {

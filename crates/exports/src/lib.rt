@@ -1,11 +1,13 @@
 // The calls for programs in C and Rust: each of the nine public calls over plain slices and numbers, under a name of its own. Nothing is decided
 // here: an export makes one call of the library and turns its outcome into three numbers. Leans on hall, requests and steps; specs/Reply.antt
 // says what is sent back.
+use hall::Hall;
 use rules::Outcome;
 ghost use mathlib.Core.Path.{_≡_};
 ghost use Rattle.rules.specs.Memory.{mem};
 ghost use Rattle.rules.specs.Calls.{openResult, beginResult, stepResult, abandonResult, evictAnswerResult, evictNodeResult, renewResult};
 ghost use Rattle.exports.specs.Reply.{replied, replyOf, sent, sentBy, sentWith, sentByStep};
+ghost use Rattle.rules.specs.Layout.{reads, inserts, deletes};
 
 // What a caller in another language gets. Its memories hold the rest.
 #[repr(C)]
@@ -42,14 +44,14 @@ fn reply_of(out: Outcome) -> Reply
             }
             three(0, count, 2)
         }
-        Outcome::Long => three(12, 0, 0),
+        Outcome::Long => three(Hall::ENDED_LONG, 0, 0),
         Outcome::Ended { changed } => {
             if changed {
                 return three(0, 0, 3);
             }
             three(0, 0, 4)
         }
-        Outcome::Full => three(13, 0, 0),
+        Outcome::Full => three(Hall::ENDED_FULL, 0, 0),
     }
 }
 
@@ -64,7 +66,7 @@ pub extern "C" fn mondzafeky_open(
 ) -> Reply
     ensures { λ r. ⌜ sent r (mem (now (table .exit)) (now (nodes .exit)) (now (answers .exit)) (now (clients .exit))) ≡ sentBy (openResult (mem (now (table .entry)) (now (nodes .entry)) (now (answers .entry)) (now (clients .entry))) k) ⌝ }
 {
-    let out = hall::Hall::open(table, nodes, answers, clients, k);
+    let out = Hall::open(table, nodes, answers, clients, k);
     reply_of(out)
 }
 
@@ -78,7 +80,7 @@ pub extern "C" fn mondzafeky_begin_read(
     client: u32,
     query: &[u32],
 ) -> Reply
-    ensures { λ r. ⌜ sent r (mem (now (table .exit)) (now (nodes .exit)) (now (answers .exit)) (now (clients .exit))) ≡ sentBy (beginResult (mem (now (table .entry)) (now (nodes .entry)) (now (answers .entry)) (now (clients .entry))) 1 client (now (query .entry))) ⌝ }
+    ensures { λ r. ⌜ sent r (mem (now (table .exit)) (now (nodes .exit)) (now (answers .exit)) (now (clients .exit))) ≡ sentBy (beginResult (mem (now (table .entry)) (now (nodes .entry)) (now (answers .entry)) (now (clients .entry))) reads client (now (query .entry))) ⌝ }
 {
     let out = requests::begin_read(table, nodes, answers, clients, client, query);
     reply_of(out)
@@ -94,7 +96,7 @@ pub extern "C" fn mondzafeky_begin_insert(
     client: u32,
     query: &[u32],
 ) -> Reply
-    ensures { λ r. ⌜ sent r (mem (now (table .exit)) (now (nodes .exit)) (now (answers .exit)) (now (clients .exit))) ≡ sentBy (beginResult (mem (now (table .entry)) (now (nodes .entry)) (now (answers .entry)) (now (clients .entry))) 2 client (now (query .entry))) ⌝ }
+    ensures { λ r. ⌜ sent r (mem (now (table .exit)) (now (nodes .exit)) (now (answers .exit)) (now (clients .exit))) ≡ sentBy (beginResult (mem (now (table .entry)) (now (nodes .entry)) (now (answers .entry)) (now (clients .entry))) inserts client (now (query .entry))) ⌝ }
 {
     let out = requests::begin_insert(table, nodes, answers, clients, client, query);
     reply_of(out)
@@ -110,7 +112,7 @@ pub extern "C" fn mondzafeky_begin_delete(
     client: u32,
     query: &[u32],
 ) -> Reply
-    ensures { λ r. ⌜ sent r (mem (now (table .exit)) (now (nodes .exit)) (now (answers .exit)) (now (clients .exit))) ≡ sentBy (beginResult (mem (now (table .entry)) (now (nodes .entry)) (now (answers .entry)) (now (clients .entry))) 3 client (now (query .entry))) ⌝ }
+    ensures { λ r. ⌜ sent r (mem (now (table .exit)) (now (nodes .exit)) (now (answers .exit)) (now (clients .exit))) ≡ sentBy (beginResult (mem (now (table .entry)) (now (nodes .entry)) (now (answers .entry)) (now (clients .entry))) deletes client (now (query .entry))) ⌝ }
 {
     let out = requests::begin_delete(table, nodes, answers, clients, client, query);
     reply_of(out)

@@ -33,8 +33,10 @@ impl Hall {
 
     pub const CLIENTS: u32 = 12;
 
-    // The most columns.
+    // The most columns, and as many places in an array of columns.
     pub const COLUMNS: u32 = 4;
+
+    pub const COLUMN_SLOTS: usize = Hall::COLUMNS as usize;
 
     // The most pending writes of a node.
     pub const PENDING: u32 = 12;
@@ -76,10 +78,10 @@ impl Hall {
     pub const COLUMNS_OFFSET: usize = 0;
 
     // ---- A label and a key.
-    pub const LABEL_WIDTH: usize = 1 + Hall::COLUMNS as usize;
+    pub const LABEL_WIDTH: usize = 1 + Hall::COLUMN_SLOTS;
 
     // Two numbers are kept for a range.
-    pub const KEY_WIDTH: usize = 1 + Hall::COLUMNS as usize + 2;
+    pub const KEY_WIDTH: usize = 1 + Hall::COLUMN_SLOTS + 2;
 
     // ---- A node.
     pub const PENDING_OFFSET: usize = Hall::LABEL_WIDTH;
@@ -95,7 +97,7 @@ impl Hall {
 
     pub const LIST_OFFSET: usize = Hall::REVISIONS_OFFSET + Hall::LOOKS;
 
-    pub const LIST_WIDTH: usize = Hall::LIST as usize * Hall::COLUMNS as usize;
+    pub const LIST_WIDTH: usize = Hall::LIST as usize * Hall::COLUMN_SLOTS;
 
     pub const ENTRY_WIDTH: usize = Hall::LIST_OFFSET + Hall::LIST_WIDTH;
 
@@ -113,6 +115,11 @@ impl Hall {
     pub const ENTRY_OFFSET: usize = 5;
 
     pub const CLIENT_WIDTH: usize = Hall::ENTRY_OFFSET + Hall::ENTRY_WIDTH;
+
+    // The values of its key, behind the marks.
+    pub const HELD_VALUES_OFFSET: usize = Hall::ENTRY_OFFSET + 1;
+
+    pub const VALUES_WIDTH: usize = Hall::KEY_WIDTH - 1;
 
     pub const HELD_LENGTH_OFFSET: usize = Hall::ENTRY_OFFSET + Hall::LENGTH_OFFSET;
 

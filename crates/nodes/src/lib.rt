@@ -8,7 +8,9 @@ ghost use Prim.Native.Nat.{_+_, _≤_, _<_, max};
 ghost use lib.ListN.{length, getD, take, drop};
 ghost use Rattle.lists.specs.Lists.{same};
 ghost use Rattle.rules.specs.Nodes.{store, nodePlace, oldestFree, evictNode, added, makeRoom, ensured, announced, raised, pending, isWorn};
-ghost use Rattle.query.specs.Shape.{narrow, Shape};
+ghost use Rattle.query.specs.Encoding.{labelWidth};
+ghost use Rattle.query.specs.Shape.{Shape, narrow};
+ghost use Rattle.rules.specs.Layout.{maxNodes, firstFloor, nodeCountOffset};
 ghost use Rattle.rules.specs.Memory.{storeIn, withStore};
 ghost use Rattle.nodes.specs.NodeContracts.{Fit, attempt, tried, saw, looked, put, placed, pendingSpot, releasedAt};
 
@@ -30,8 +32,8 @@ pub enum Spot {
 // Whether the label's five numbers stand at `at`. Tags and first value are compared at once: many nodes agree in one of them and few in both,
 // so a branch on each would be badly predicted.
 fn has_label(nodes: &[u32], at: usize, label: &[u32]) -> bool
-    requires { ⌜ (at + 5 ≤ length (now nodes)) × (length (now label) ≡ 5) ⌝ }
-    ensures { λ r. ⌜ r ≡ same (take 5 (drop at (now (nodes .entry)))) (now (label .entry)) ⌝ }
+    requires { ⌜ (at + labelWidth ≤ length (now nodes)) × (length (now label) ≡ labelWidth) ⌝ }
+    ensures { λ r. ⌜ r ≡ same (take labelWidth (drop at (now (nodes .entry)))) (now (label .entry)) ⌝ }
 {
     let first = (nodes[at] ^ label[0]) | (nodes[at + 1] ^ label[1]);
     if first != 0 {
@@ -43,13 +45,13 @@ fn has_label(nodes: &[u32], at: usize, label: &[u32]) -> bool
 
 // The place of the label's node, or the number of nodes where there is none.
 pub fn find(nodes: &[u32], label: &[u32]) -> usize
-    requires { ⌜ Fit (now nodes) × (length (now label) ≡ 5) ⌝ }
+    requires { ⌜ Fit (now nodes) × (length (now label) ≡ labelWidth) ⌝ }
     ensures { λ r. ⌜ r ≡ nodePlace (now (label .entry)) (storeIn (now (nodes .entry)) .nodes) ⌝ }
 {
-    let n = nodes[1] as usize;
+    let n = nodes[Hall::NODE_COUNT_OFFSET] as usize;
     let mut i = 0;
     while i < n {
-        if has_label(nodes, 8 + i * 8, label) {
+        if has_label(nodes, Hall::HEADER + i * Hall::NODE_WIDTH, label) {
             return i;
         }
         i += 1;
@@ -62,10 +64,10 @@ pub fn find_free(nodes: &[u32]) -> usize
     requires { ⌜ Fit (now nodes) ⌝ }
     ensures { λ r. ⌜ r ≡ oldestFree (storeIn (now (nodes .entry)) .nodes) ⌝ }
 {
-    let n = nodes[1] as usize;
+    let n = nodes[Hall::NODE_COUNT_OFFSET] as usize;
     let mut i = 0;
     while i < n {
-        if nodes[8 + i * 8 + 5] == 0 {
+        if nodes[Hall::HEADER + i * Hall::NODE_WIDTH + Hall::PENDING_OFFSET] == 0 {
             return i;
         }
         i += 1;
@@ -82,25 +84,30 @@ fn larger(a: u32, b: u32) -> u32
 
 // Takes node i out; the floor becomes its revision if that is larger.
 pub fn evict(nodes: &mut [u32], i: usize)
-    requires { ⌜ Fit (now nodes) × (i < getD (now nodes) 1 0) ⌝ }
+    requires { ⌜ Fit (now nodes) × (i < getD (now nodes) nodeCountOffset 0) ⌝ }
     ensures { λ _. ⌜ now (nodes .exit) ≡ withStore (now (nodes .entry)) (evictNode i (storeIn (now (nodes .entry)))) ⌝ }
 {
-    let n = nodes[1];
-    let at = 8 + i * 8;
-    let floor = nodes[0];
-    let higher = larger(floor, nodes[at + 6]);
-    words::remove(nodes, at, 8, 8 + n as usize * 8);
-    nodes[1] = n - 1;
-    nodes[0] = higher;
+    let n = nodes[Hall::NODE_COUNT_OFFSET];
+    let at = Hall::HEADER + i * Hall::NODE_WIDTH;
+    let floor = nodes[Hall::FLOOR_OFFSET];
+    let higher = larger(floor, nodes[at + Hall::REVISION_OFFSET]);
+    words::remove(
+        nodes,
+        at,
+        Hall::NODE_WIDTH,
+        Hall::HEADER + n as usize * Hall::NODE_WIDTH,
+    );
+    nodes[Hall::NODE_COUNT_OFFSET] = n - 1;
+    nodes[Hall::FLOOR_OFFSET] = higher;
 }
 
 // Adds the label's node last, with the floor as revision and no pending write.
 pub fn add(nodes: &mut [u32], label: &[u32])
-    requires { ⌜ Fit (now nodes) × ((getD (now nodes) 1 0 < 1024) × (length (now label) ≡ 5)) ⌝ }
+    requires { ⌜ Fit (now nodes) × ((getD (now nodes) nodeCountOffset 0 < maxNodes) × (length (now label) ≡ labelWidth)) ⌝ }
     ensures { λ _. ⌜ now (nodes .exit) ≡ withStore (now (nodes .entry)) (added (now (label .entry)) (storeIn (now (nodes .entry)))) ⌝ }
 {
-    let n = nodes[1];
-    let floor = nodes[0];
+    let n = nodes[Hall::NODE_COUNT_OFFSET];
+    let floor = nodes[Hall::FLOOR_OFFSET];
     let node = [
         label[0],
         label[1],
@@ -111,8 +118,8 @@ pub fn add(nodes: &mut [u32], label: &[u32])
         floor,
         0,
     ];
-    words::write(nodes, 8 + n as usize * 8, &node);
-    nodes[1] = n + 1;
+    words::write(nodes, Hall::HEADER + n as usize * Hall::NODE_WIDTH, &node);
+    nodes[Hall::NODE_COUNT_OFFSET] = n + 1;
 }
 
 // Makes room for one node more: where 1,024 are there, the oldest with no pending write leaves. False: there is none.
@@ -120,7 +127,7 @@ fn make_room(nodes: &mut [u32]) -> bool
     requires { ⌜ Fit (now nodes) ⌝ }
     ensures { λ r. ⌜ attempt r (now (nodes .exit)) ≡ tried (now (nodes .entry)) (makeRoom (storeIn (now (nodes .entry)))) ⌝ }
 {
-    let n = nodes[1] as usize;
+    let n = nodes[Hall::NODE_COUNT_OFFSET] as usize;
     if n < NODES {
         return true;
     }
@@ -134,33 +141,33 @@ fn make_room(nodes: &mut [u32]) -> bool
 
 // Makes the label's node present.
 fn ensure(nodes: &mut [u32], label: &[u32]) -> Spot
-    requires { ⌜ Fit (now nodes) × (length (now label) ≡ 5) ⌝ }
+    requires { ⌜ Fit (now nodes) × (length (now label) ≡ labelWidth) ⌝ }
     ensures { λ r. ⌜ put r (now (nodes .exit)) ≡ placed (now (label .entry)) (now (nodes .entry)) (ensured (now (label .entry)) (storeIn (now (nodes .entry)))) ⌝ }
 {
     let i = find(nodes, label);
-    if i < nodes[1] as usize {
+    if i < nodes[Hall::NODE_COUNT_OFFSET] as usize {
         return Spot::At(i);
     }
     if !make_room(nodes) {
         return Spot::Nowhere;
     }
-    let n = nodes[1] as usize;
+    let n = nodes[Hall::NODE_COUNT_OFFSET] as usize;
     add(nodes, label);
     Spot::At(n)
 }
 
 // Looks at the label's node, which is added where it is missing.
 pub fn look(nodes: &mut [u32], label: &[u32]) -> Sight
-    requires { ⌜ Fit (now nodes) × (length (now label) ≡ 5) ⌝ }
+    requires { ⌜ Fit (now nodes) × (length (now label) ≡ labelWidth) ⌝ }
     ensures { λ r. ⌜ saw r (now (nodes .exit)) ≡ looked (now (label .entry)) (now (nodes .entry)) (ensured (now (label .entry)) (storeIn (now (nodes .entry)))) ⌝ }
 {
     let spot = ensure(nodes, label);
     let Spot::At(i) = spot else {
         return Sight::Stuck;
     };
-    let at = 8 + i * 8;
-    let pending = nodes[at + 5];
-    let revision = nodes[at + 6];
+    let at = Hall::HEADER + i * Hall::NODE_WIDTH;
+    let pending = nodes[at + Hall::PENDING_OFFSET];
+    let revision = nodes[at + Hall::REVISION_OFFSET];
     Sight::Seen {
         revision: revision,
         pending: pending,
@@ -169,14 +176,14 @@ pub fn look(nodes: &mut [u32], label: &[u32]) -> Sight
 
 // One pending write more at the label's node, which is added where it is missing. False: no room, or 12 pending already.
 pub fn announce(nodes: &mut [u32], label: &[u32]) -> bool
-    requires { ⌜ Fit (now nodes) × (length (now label) ≡ 5) ⌝ }
+    requires { ⌜ Fit (now nodes) × (length (now label) ≡ labelWidth) ⌝ }
     ensures { λ r. ⌜ attempt r (now (nodes .exit)) ≡ tried (now (nodes .entry)) (announced (now (label .entry)) (storeIn (now (nodes .entry)))) ⌝ }
 {
     let spot = ensure(nodes, label);
     let Spot::At(i) = spot else {
         return false;
     };
-    let at = 8 + i * 8 + 5;
+    let at = Hall::HEADER + i * Hall::NODE_WIDTH + Hall::PENDING_OFFSET;
     let pending = nodes[at];
     if Hall::PENDING <= pending {
         return false;
@@ -188,25 +195,33 @@ pub fn announce(nodes: &mut [u32], label: &[u32]) -> bool
 
 // The place of the label's node where it is there and has a pending write.
 pub fn find_pending(nodes: &[u32], label: &[u32]) -> Spot
-    requires { ⌜ Fit (now nodes) × (length (now label) ≡ 5) ⌝ }
+    requires { ⌜ Fit (now nodes) × (length (now label) ≡ labelWidth) ⌝ }
     ensures { λ r. ⌜ r ≡ pendingSpot (now (label .entry)) (storeIn (now (nodes .entry))) ⌝ }
 {
     let i = find(nodes, label);
-    if nodes[1] as usize <= i {
+    if nodes[Hall::NODE_COUNT_OFFSET] as usize <= i {
         return Spot::Nowhere;
     }
-    if nodes[8 + i * 8 + 5] == 0 {
+    if nodes[Hall::HEADER + i * Hall::NODE_WIDTH + Hall::PENDING_OFFSET] == 0 {
         return Spot::Nowhere;
     }
     Spot::At(i)
 }
 
+// How many writes are pending at node i.
+pub fn pending_at(nodes: &[u32], i: usize) -> u32
+    requires { ⌜ Fit (now nodes) × (i < getD (now nodes) nodeCountOffset 0) ⌝ }
+    ensures { λ r. ⌜ r ≡ pending (getD (storeIn (now (nodes .entry)) .nodes) i []) ⌝ }
+{
+    nodes[Hall::HEADER + i * Hall::NODE_WIDTH + Hall::PENDING_OFFSET]
+}
+
 // One pending write fewer at node i.
 pub fn release(nodes: &mut [u32], i: usize)
-    requires { ⌜ Fit (now nodes) × ((i < getD (now nodes) 1 0) × (0 < pending (getD (storeIn (now nodes) .nodes) i []))) ⌝ }
+    requires { ⌜ Fit (now nodes) × ((i < getD (now nodes) nodeCountOffset 0) × (0 < pending (getD (storeIn (now nodes) .nodes) i []))) ⌝ }
     ensures { λ _. ⌜ now (nodes .exit) ≡ withStore (now (nodes .entry)) (releasedAt i (storeIn (now (nodes .entry)))) ⌝ }
 {
-    let at = 8 + i * 8 + 5;
+    let at = Hall::HEADER + i * Hall::NODE_WIDTH + Hall::PENDING_OFFSET;
     let pending = nodes[at];
     let fewer = pending - 1;
     nodes[at] = fewer;
@@ -214,26 +229,26 @@ pub fn release(nodes: &mut [u32], i: usize)
 
 // The label's node: revision up by one, pending writes down by one. False: it is missing, has none pending, or its revision is the largest.
 pub fn raise(nodes: &mut [u32], label: &[u32]) -> bool
-    requires { ⌜ Fit (now nodes) × (length (now label) ≡ 5) ⌝ }
+    requires { ⌜ Fit (now nodes) × (length (now label) ≡ labelWidth) ⌝ }
     ensures { λ r. ⌜ attempt r (now (nodes .exit)) ≡ tried (now (nodes .entry)) (raised narrow (now (label .entry)) (storeIn (now (nodes .entry)))) ⌝ }
 {
     let i = find(nodes, label);
-    if nodes[1] as usize <= i {
+    if nodes[Hall::NODE_COUNT_OFFSET] as usize <= i {
         return false;
     }
-    let at = 8 + i * 8;
-    let pending = nodes[at + 5];
+    let at = Hall::HEADER + i * Hall::NODE_WIDTH;
+    let pending = nodes[at + Hall::PENDING_OFFSET];
     if pending == 0 {
         return false;
     }
-    let revision = nodes[at + 6];
-    if 4294967295 <= revision {
+    let revision = nodes[at + Hall::REVISION_OFFSET];
+    if Hall::LARGEST_REVISION <= revision {
         return false;
     }
     let next = revision + 1;
     let fewer = pending - 1;
-    nodes[at + 6] = next;
-    nodes[at + 5] = fewer;
+    nodes[at + Hall::REVISION_OFFSET] = next;
+    nodes[at + Hall::PENDING_OFFSET] = fewer;
     true
 }
 
@@ -242,13 +257,13 @@ pub fn is_worn(nodes: &[u32]) -> bool
     requires { ⌜ Fit (now nodes) ⌝ }
     ensures { λ r. ⌜ ((sh : Shape) → r ≡ isWorn narrow sh (storeIn (now (nodes .entry)))) ⌝ }
 {
-    if 4294967103 < nodes[0] {
+    if Hall::WORN_ABOVE < nodes[Hall::FLOOR_OFFSET] {
         return true;
     }
-    let n = nodes[1] as usize;
+    let n = nodes[Hall::NODE_COUNT_OFFSET] as usize;
     let mut i = 0;
     while i < n {
-        if 4294967103 < nodes[8 + i * 8 + 6] {
+        if Hall::WORN_ABOVE < nodes[Hall::HEADER + i * Hall::NODE_WIDTH + Hall::REVISION_OFFSET] {
             return true;
         }
         i += 1;
@@ -259,11 +274,11 @@ pub fn is_worn(nodes: &[u32]) -> bool
 // Takes every node out; the floor is 1.
 pub fn empty(nodes: &mut [u32])
     requires { ⌜ Fit (now nodes) ⌝ }
-    ensures { λ _. ⌜ now (nodes .exit) ≡ withStore (now (nodes .entry)) (store 1 []) ⌝ }
+    ensures { λ _. ⌜ now (nodes .exit) ≡ withStore (now (nodes .entry)) (store firstFloor []) ⌝ }
 {
-    let n = nodes[1] as usize * 8;
-    let e = 8 + n;
-    words::clear(&mut nodes[8..e], n);
-    nodes[1] = 0;
-    nodes[0] = 1;
+    let n = nodes[Hall::NODE_COUNT_OFFSET] as usize * Hall::NODE_WIDTH;
+    let e = Hall::HEADER + n;
+    words::clear(&mut nodes[Hall::HEADER..e], n);
+    nodes[Hall::NODE_COUNT_OFFSET] = 0;
+    nodes[Hall::FLOOR_OFFSET] = Hall::FIRST_FLOOR;
 }

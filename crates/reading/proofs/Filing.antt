@@ -20,7 +20,7 @@ use Rattle.clients.specs.ClientContracts as client-contracts
 use Rattle.answers.specs.AnswerContracts as answers
 use Rattle.answers.proofs.AnswerScan.{count-is}
 use Rattle.reading.specs.ReadContracts.{Reads, looks, made, foundFor}
-use Rattle.reading.proofs.ReadClient.{fit-clients, entry-part, fetch-is, file-is}
+use Rattle.reading.proofs.ReadClient.{fetch-is, file-is}
 
 -- ---- the fetch
 -- a search that is made only where no mark was seen
@@ -58,17 +58,17 @@ module _ (s clients : List ℕ) (d i : ℕ) where
   unfolding foundFor
   found-pending b e h g = rw (← e, h) g
 
-  pub found-search : (b : Bool) (n : ℕ) → b ≡ sawPending (clientIn narrow clients d) → b ≡ false → n ≡ made clients d → client-contracts.Fit clients d
-      → i ≡ fetchPlace narrow n (take (8 + d * 157 + 5 + 152 - (8 + d * 157 + 5)) (drop (8 + d * 157 + 5) clients)) (answersIn narrow s) → i ≡ foundFor s (clientIn narrow clients d)
+  pub found-search : (b : Bool) (n : ℕ) (x : List ℕ) → b ≡ sawPending (clientIn narrow clients d) → b ≡ false → n ≡ made clients d
+      → x ≡ entryOf (clientIn narrow clients d) → i ≡ fetchPlace narrow n x (answersIn narrow s) → i ≡ foundFor s (clientIn narrow clients d)
   unfolding foundFor
-  found-search b n e h l f g = rw (← e, h, ← l, ← entry-part clients d f) g
+  found-search b n x e h l f g = rw (← e, h, ← l, ← f) g
 
 -- ---- the file step
 module _ (s clients tray : List ℕ) (d k : ℕ) (r : Reads clients d k) (h : made clients d ≡ looks clients d k + 2) where
-  pub file-left : (s′ tray′ clients′ : List ℕ) (count : ℕ)
-      → s′ ≡ withAnswers narrow s (filed (take (8 + d * 157 + 5 + 152 - (8 + d * 157 + 5)) (drop (8 + d * 157 + 5) clients)) (answersIn narrow s))
+  pub file-left : (x s′ tray′ clients′ : List ℕ) (count : ℕ) → x ≡ entryOf (clientIn narrow clients d)
+      → s′ ≡ withAnswers narrow s (filed x (answersIn narrow s))
       → (count ≡ lengthIn (entryOf (clientIn narrow clients d))) × (tray′ ≡ written tray 0 (listIn narrow (shapeOf k) (entryOf (clientIn narrow clients d)))) → clients′ ≡ withClient narrow clients d (idle narrow) → (t n : List ℕ)
       → resultWith (Answered count false) (mem t n s′ clients′) tray′ ≡ readResult (mem t n s clients) tray d (queryAt (shapeOf k) (clientIn narrow clients d)) (made clients d)
   unfolding fileResult answered nowAt client
-  file-left s′ tray′ clients′ count e g u t n =
-      rw (file-is (mem t n s clients) tray d (queryAt (shapeOf k) (clientIn narrow clients d)) (made clients d) h, e, g .0, g .1, u, ← r .columns, entry-part clients d (fit-clients clients d k r))
+  file-left x s′ tray′ clients′ count f e g u t n =
+      rw (file-is (mem t n s clients) tray d (queryAt (shapeOf k) (clientIn narrow clients d)) (made clients d) h, e, g .0, g .1, u, ← r .columns, f)

@@ -24,7 +24,8 @@ use Rattle.rules.specs.Memory.{mem, clientIn, withClient, recordsIn}
 use Rattle.rules.specs.Outcome.{resultWith}
 use Rattle.rules.specs.Refusals.{columns, client}
 use Rattle.rules.specs.Steps.{nowAt, answered, tableResult, readResult}
-use Rattle.query.specs.Shape.{narrow, shapeOf}
+use Rattle.query.specs.Shape.{shapeOf, narrow}
+use Rattle.rules.specs.Layout.{maxList, listWidth, clientWidth, clientOffset, heldListOffset}
 use Rattle.rules.proofs.ClientLaws.{list-room}
 use Rattle.clients.specs.ClientContracts.{listSet}
 use Rattle.clients.proofs.ClientMemory.{length-client, with-self, with-words, client-same, with-twice, written-inside}
@@ -49,75 +50,80 @@ part-written s at n v t e h l =
     ∙ ap (λ (x : List ℕ). written x (at + 0) v) (written-self s at n l) ∙ ap (λ (x : ℕ). written s x v) (add-zero at))
 
 -- ---- how many there are
-counted : (l : List Record) (n : ℕ) → n ≡ gathered l → n ≤ 32 → length l ≡ n
+counted : (l : List Record) (n : ℕ) → n ≡ gathered l → n ≤ maxList → length l ≡ n
 unfolding gathered
-counted l n e h = go (leb (length l) 32) e
+counted l n e h = go (leb (length l) maxList) e
   where
     go : (b : Bool) → n ≡ cond b (length l) 33 → length l ≡ n
     go true g = sym g
     go false g = absurd (omega arith)
 
-over : (l : List Record) (n : ℕ) → n ≡ gathered l → 32 < n → 32 < length l
+over : (l : List Record) (n : ℕ) → n ≡ gathered l → maxList < n → maxList < length l
 unfolding gathered
-over l n e h = go (leb (length l) 32) refl e
+over l n e h = go (leb (length l) maxList) refl e
   where
-    go : (b : Bool) → leb (length l) 32 ≡ b → n ≡ cond b (length l) 33 → 32 < length l
+    go : (b : Bool) → leb (length l) maxList ≡ b → n ≡ cond b (length l) 33 → maxList < length l
     go true q g = omega arith
-    go false q g = leb-false (length l) 32 q
+    go false q g = leb-false (length l) maxList q
 
 -- the list that the step takes
 abbrev pub listFor : List ℕ → List ℕ → ℕ → ℕ → List Record
 listFor s clients d k = listOf (queryAt (shapeOf k) (clientIn narrow clients d)) (recordsIn k s)
 
 module _ (s clients : List ℕ) (d k : ℕ) (r : Reads clients d k) (f : table.Fit k s) where
-  list-short : length (flat (take 32 (listFor s clients d k))) ≤ 128
+  list-short : length (flat (take maxList (listFor s clients d k))) ≤ listWidth
   list-short =
       let l : List Record = listFor s clients d k in
-      let a : length (flat (take 32 l)) ≡ length (take 32 l) * k = length-flat k (take 32 l) (wide-take k 32 l (wide-list k s (queryAt (shapeOf k) (clientIn narrow clients d)) f)) in
-      let b : length (take 32 l) ≤ 32 = rw length-take (omega arith) in
-      rw a (list-room (length (take 32 l)) k b (r .most))
+      let a : length (flat (take maxList l)) ≡ length (take maxList l) * k = length-flat k (take maxList l) (wide-take k maxList l (wide-list k s (queryAt (shapeOf k) (clientIn narrow clients d)) f)) in
+      let b : length (take maxList l) ≤ maxList = rw length-take (omega arith) in
+      rw a (list-room (length (take maxList l)) k b (r .most))
 
   list-wide : length (flat (listFor s clients d k)) ≡ length (listFor s clients d k) * k
   list-wide = length-flat k (listFor s clients d k) (wide-list k s (queryAt (shapeOf k) (clientIn narrow clients d)) f)
 
   -- what the gathering leaves, cols being the columns that the code read
-  pub gather-left : (cols : List Column) (t : List ℕ) → cols ≡ four (queryAt (shapeOf k) (clientIn narrow clients d))
-      → t ≡ written (take (8 + d * 157 + 29 + 128 - (8 + d * 157 + 29)) (drop (8 + d * 157 + 29) clients)) 0 (flat (take 32 (listOf (take k cols) (recordsIn k s))))
-      → putMid (8 + d * 157 + 29) (8 + d * 157 + 29 + 128 - (8 + d * 157 + 29)) clients t ≡ written clients (8 + d * 157 + 29) (flat (take 32 (listFor s clients d k)))
-  gather-left cols t e g =
+  -- at: where the client's list stands
+  pub gather-left : (cols : List Column) (t : List ℕ) (at : ℕ) → at ≡ clientOffset narrow d + heldListOffset narrow (shapeOf k)
+      → cols ≡ four (queryAt (shapeOf k) (clientIn narrow clients d))
+      → t ≡ written (take (at + listWidth - at) (drop at clients)) 0 (flat (take maxList (listOf (take k cols) (recordsIn k s))))
+      → putMid at (at + listWidth - at) clients t
+      ≡ written clients (clientOffset narrow d + heldListOffset narrow (shapeOf k)) (flat (take maxList (listFor s clients d k)))
+  gather-left cols t at a e g =
       let l = r .long in
       let b = r .below in
-      part-written clients (8 + d * 157 + 29) 128 (flat (take 32 (listFor s clients d k))) t (g ∙ rw (read-columns clients d k r cols e)) list-short (omega arith)
+      rw a
+      (part-written clients (clientOffset narrow d + heldListOffset narrow (shapeOf k)) listWidth (flat (take maxList (listFor s clients d k))) t
+      ((rw a at g) ∙ rw (read-columns clients d k r cols e)) list-short (omega arith))
 
   pub gather-count : (cols : List Column) (n : ℕ) → cols ≡ four (queryAt (shapeOf k) (clientIn narrow clients d)) → n ≡ gathered (listOf (take k cols) (recordsIn k s)) → n ≡ gathered (listFor s clients d k)
   gather-count cols n e g = g ∙ rw (read-columns clients d k r cols e)
 
   -- n, clients₁: what the gathering gives and leaves
-  module _ (n : ℕ) (clients₁ : List ℕ) (e : n ≡ gathered (listFor s clients d k)) (g : clients₁ ≡ written clients (8 + d * 157 + 29) (flat (take 32 (listFor s clients d k)))) where
+  module _ (n : ℕ) (clients₁ : List ℕ) (e : n ≡ gathered (listFor s clients d k)) (g : clients₁ ≡ written clients (clientOffset narrow d + heldListOffset narrow (shapeOf k)) (flat (take maxList (listFor s clients d k)))) where
     gathered-in : Client
-    gathered-in = written (clientIn narrow clients d) 29 (flat (take 32 (listFor s clients d k)))
+    gathered-in = written (clientIn narrow clients d) (heldListOffset narrow (shapeOf k)) (flat (take maxList (listFor s clients d k)))
 
-    gathered-long : length gathered-in ≡ 157
+    gathered-long : length gathered-in ≡ clientWidth narrow
     unfolding gathered-in
     gathered-long =
-        let l : length (clientIn narrow clients d) ≡ 157 = length-client clients d (fit-clients clients d k r) in
+        let l : length (clientIn narrow clients d) ≡ clientWidth narrow = length-client clients d (fit-clients clients d k r) in
         let h = list-short in
-        length-written (clientIn narrow clients d) 29 (flat (take 32 (listFor s clients d k))) (omega arith) ∙ l
+        length-written (clientIn narrow clients d) (heldListOffset narrow (shapeOf k)) (flat (take maxList (listFor s clients d k))) (omega arith) ∙ l
 
     gathered-is : clients₁ ≡ withClient narrow clients d gathered-in
     unfolding gathered-in
     gathered-is =
-        let v : List ℕ = flat (take 32 (listFor s clients d k)) in
-        let h : length v ≤ 128 = list-short in
-        g ∙ ap (λ (x : List ℕ). written x (8 + d * 157 + 29) v) (sym (with-self clients d (fit-clients clients d k r)))
-        ∙ with-words clients d (fit-clients clients d k r) (clientIn narrow clients d) (length-client clients d (fit-clients clients d k r)) 29 v (omega arith)
+        let v : List ℕ = flat (take maxList (listFor s clients d k)) in
+        let h : length v ≤ listWidth = list-short in
+        g ∙ ap (λ (x : List ℕ). written x (clientOffset narrow d + heldListOffset narrow (shapeOf k)) v) (sym (with-self clients d (fit-clients clients d k r)))
+        ∙ with-words clients d (fit-clients clients d k r) (clientIn narrow clients d) (length-client clients d (fit-clients clients d k r)) (heldListOffset narrow (shapeOf k)) v (omega arith)
 
-    word-kept : (j : ℕ) → j < 29 → getD (clientIn narrow clients₁ d) j 0 ≡ getD (clientIn narrow clients d) j 0
+    word-kept : (j : ℕ) → j < (heldListOffset narrow (shapeOf k)) → getD (clientIn narrow clients₁ d) j 0 ≡ getD (clientIn narrow clients d) j 0
     unfolding gathered-in
     word-kept j h =
-        let l : length (clientIn narrow clients d) ≡ 157 = length-client clients d (fit-clients clients d k r) in
+        let l : length (clientIn narrow clients d) ≡ clientWidth narrow = length-client clients d (fit-clients clients d k r) in
         ap (λ (x : List ℕ). getD (clientIn narrow x d) j 0) gathered-is ∙ ap (λ (x : Client). getD x j 0) (client-same clients d (fit-clients clients d k r) gathered-in gathered-long)
-        ∙ getD-before (clientIn narrow clients d) 29 (flat (take 32 (listFor s clients d k))) (omega arith) j 0 h
+        ∙ getD-before (clientIn narrow clients d) (heldListOffset narrow (shapeOf k)) (flat (take maxList (listFor s clients d k))) (omega arith) j 0 h
 
     pub steps-kept : made clients₁ d ≡ made clients d
     unfolding steps
@@ -138,28 +144,28 @@ module _ (s clients : List ℕ) (d k : ℕ) (r : Reads clients d k) (f : table.F
           table-is (mem s ns a clients) tray d (queryAt (shapeOf k) (clientIn narrow clients d)) (made clients d) h
           ∙ ap (λ (x : ℕ). tableResult (mem s ns a clients) tray d (listOf (queryAt (shapeOf k) (clientIn narrow clients d)) (recordsIn x s))) (sym (r .columns))
 
-      pub table-long : 32 < n → clients₂ ≡ withClient narrow clients₁ d (idle narrow) → (ns a : List ℕ)
+      pub table-long : maxList < n → clients₂ ≡ withClient narrow clients₁ d (idle narrow) → (ns a : List ℕ)
           → resultWith Long (mem s ns a clients₂) tray ≡ readResult (mem s ns a clients) tray d (queryAt (shapeOf k) (clientIn narrow clients d)) (made clients d)
       unfolding tableResult nowAt
-      table-long o u ns a = rw (table-at ns a, lt-ltb 32 (length (listFor s clients d k)) (over (listFor s clients d k) n e o), idle-again clients₂ u)
+      table-long o u ns a = rw (table-at ns a, lt-ltb maxList (length (listFor s clients d k)) (over (listFor s clients d k) n e o), idle-again clients₂ u)
 
-      module _ (o : n ≤ 32) where
+      module _ (o : n ≤ maxList) where
         many : length (listFor s clients d k) ≡ n
         many = counted (listFor s clients d k) n e o
 
-        room : n * k ≤ 128
+        room : n * k ≤ listWidth
         room = list-room n k o (r .most)
 
         long-flat : length (flat (listFor s clients d k)) ≡ n * k
         long-flat = list-wide ∙ ap (λ (x : ℕ). x * k) many
 
-        whole : clients₁ ≡ written clients (8 + d * 157 + 29) (flat (listFor s clients d k))
-        whole = let l = many in g ∙ rw (take-all 32 (listFor s clients d k) (omega arith))
+        whole : clients₁ ≡ written clients (clientOffset narrow d + heldListOffset narrow (shapeOf k)) (flat (listFor s clients d k))
+        whole = let l = many in g ∙ rw (take-all maxList (listFor s clients d k) (omega arith))
 
-        not-long : ltb 32 (length (listFor s clients d k)) ≡ false
-        not-long = let l = many in le-ltb 32 (length (listFor s clients d k)) (omega arith)
+        not-long : ltb maxList (length (listFor s clients d k)) ≡ false
+        not-long = let l = many in le-ltb maxList (length (listFor s clients d k)) (omega arith)
 
-        pub table-held : (b : Bool) → b ≡ sawPending (clientIn narrow clients₁ d) → not b ≡ true → clients₂ ≡ withClient narrow clients₁ d (listSet n k (clientIn narrow clients₁ d)) → (ns a : List ℕ)
+        pub table-held : (b : Bool) → b ≡ sawPending (clientIn narrow clients₁ d) → not b ≡ true → clients₂ ≡ withClient narrow clients₁ d (listSet n (shapeOf k) (clientIn narrow clients₁ d)) → (ns a : List ℕ)
             → resultWith Accepted (mem s ns a clients₂) tray ≡ readResult (mem s ns a clients) tray d (queryAt (shapeOf k) (clientIn narrow clients d)) (made clients d)
         unfolding tableResult nowAt client
         table-held true q p u ns a = absurd (let z : _≡_ {A = ℕ} 0 1 = cc in omega arith)
@@ -167,16 +173,16 @@ module _ (s clients : List ℕ) (d k : ℕ) (r : Reads clients d k) (f : table.F
             let w : clients₂ ≡ withClient narrow clients d (holding narrow (shapeOf k) (listFor s clients d k) (clientIn narrow clients d)) = u ∙ list-written clients d (fit-clients clients d k r) clients₁ n k (listFor s clients d k) whole many long-flat room in
             rw (table-at ns a, not-long, ← pending-kept, ← q, w, r .columns)
 
-        pub table-given : (b : Bool) (tray′ : List ℕ) → b ≡ sawPending (clientIn narrow clients₁ d) → not b ≡ false
-            → tray′ ≡ written tray 0 (take (8 + d * 157 + 29 + n * k - (8 + d * 157 + 29)) (drop (8 + d * 157 + 29) clients₁)) → clients₂ ≡ withClient narrow clients₁ d (idle narrow) → (ns a : List ℕ)
+        pub table-given : (b : Bool) (tray′ : List ℕ) (at : ℕ) → at ≡ clientOffset narrow d + heldListOffset narrow (shapeOf k)
+            → b ≡ sawPending (clientIn narrow clients₁ d) → not b ≡ false → tray′ ≡ written tray 0 (take (at + n * k - at) (drop at clients₁))
+            → clients₂ ≡ withClient narrow clients₁ d (idle narrow) → (ns a : List ℕ)
             → resultWith (Answered n false) (mem s ns a clients₂) tray′ ≡ readResult (mem s ns a clients) tray d (queryAt (shapeOf k) (clientIn narrow clients d)) (made clients d)
         unfolding tableResult answered nowAt client
-        table-given false tray′ q p v u ns a = absurd (let z : _≡_ {A = ℕ} 0 1 = cc in omega arith)
-        table-given true tray′ q p v u ns a =
-            let at : ℕ = 8 + d * 157 + 29 in
+        table-given false tray′ at o q p v u ns a = absurd (let z : _≡_ {A = ℕ} 0 1 = cc in omega arith)
+        table-given true tray′ at o q p v u ns a =
             let m : at + n * k - at ≡ n * k = omega arith in
             let x : take (at + n * k - at) (drop at clients₁) ≡ flat (listFor s clients d k) =
-            rw m (ap (λ (y : List ℕ). take (n * k) (drop at y)) whole
+            rw m (ap (λ (y : List ℕ). take (n * k) (drop at y)) (rw (sym o) at whole)
             ∙ ap (take (n * k)) (drop-of-written clients at (flat (listFor s clients d k)) (let l = r .long in let b = r .below in omega arith))
             ∙ take-at (flat (listFor s clients d k)) (drop (at + length (flat (listFor s clients d k))) clients) (n * k) long-flat) in
             rw (table-at ns a, not-long, ← pending-kept, ← q, many, v, x, idle-again clients₂ u)

@@ -4,6 +4,7 @@ use mathlib.Core.Path.{_≡_, refl}
 use mathlib.Core.List.{List}
 use Prim.Native.Nat.{ℕ}
 use borrow.Author.Tests.{eq-eqb}
+use native.Mathlib.Omega.{arith}
 use Rattle.rules.specs.Client.{kind, steps, queryAt}
 use Rattle.rules.specs.Layout.{reads}
 use Rattle.rules.specs.Memory.{Mem}
@@ -22,7 +23,7 @@ module _ (m : Mem) (tray : List ℕ) (d : ℕ) (e : stepCode m tray d ≡ 0) (x 
       let b = t .1 in
       let s = b .memories in
       record {
-        read = record { columns = refl; least = s .least; most = s .most; below = b .below; long = s .long .clients; sound = b .fine; busy = b .busy; kind = x };
+        read = record { columns = refl; least = s .least; most = s .most; below = b .below; long = (let l = s .long .clients in omega arith); sound = b .fine; busy = b .busy; kind = x };
         listed = record { columns = (s .least, s .most); long = s .long .table; few = s .records };
         nodes = record { long = s .long .nodes; few = s .nodes };
         fit = record { long = s .long .answers; few = s .answers };

@@ -15,10 +15,10 @@ use Rattle.rules.specs.Table.{listOf}
 use Rattle.rules.specs.Nodes.{ensured}
 use Rattle.rules.specs.Answers.{lengthIn, fetchPlace}
 use Rattle.rules.specs.Client.{kind, entryOf, queryAt, stepsInAll}
-use Rattle.rules.specs.Layout.{reads}
+use Rattle.query.specs.Shape.{shapeOf, narrow}
+use Rattle.rules.specs.Layout.{maxList, maxLooks, reads}
 use Rattle.rules.specs.Memory.{Mem, clientIn, storeIn, answersIn, recordsIn}
 use Rattle.rules.specs.Refusals.{columns, client}
-use Rattle.query.specs.Shape.{narrow, shapeOf}
 use Rattle.rules.specs.Steps.{lookResult, fetchResult, tableResult, fileResult, readResult}
 use Rattle.clients.specs.ClientContracts as client-contracts
 use Rattle.clients.proofs.ClientMemory.{length-client, part-at}
@@ -33,7 +33,7 @@ module _ (clients : List ℕ) (d k : ℕ) (r : Reads clients d k) where
   pub sound-read : Sound k (clientIn narrow clients d)
   sound-read = sound-client k (clientIn narrow clients d) (r .most) (r .sound) (r .busy)
 
-  pub few-looks : looks clients d k ≤ 16
+  pub few-looks : looks clients d k ≤ maxLooks
   few-looks = let l = length-query k (clientIn narrow clients d) in let m = r .most in read-count-most (queryAt (shapeOf k) (clientIn narrow clients d)) (omega arith)
 
   pub few-steps : made clients d < looks clients d k + 3
@@ -45,7 +45,7 @@ module _ (clients : List ℕ) (d k : ℕ) (r : Reads clients d k) where
   pub made-small : made clients d < 33
   made-small = let s = sound-read .step in let l = sound-read .last in omega arith
 
-  pub short-list : lengthIn (entryOf (clientIn narrow clients d)) ≤ 32
+  pub short-list : lengthIn (entryOf (clientIn narrow clients d)) ≤ maxList
   short-list = sound-read .list
 
   pub read-columns : (cols : List Column) → cols ≡ four (queryAt (shapeOf k) (clientIn narrow clients d)) → take k cols ≡ queryAt (shapeOf k) (clientIn narrow clients d)
@@ -57,12 +57,6 @@ module _ (clients : List ℕ) (d k : ℕ) (r : Reads clients d k) where
   looks-are cols n r′ e f g = g ∙ rw (f, read-columns cols e)
 
 -- the client's own entry, as a part of the memory
-pub entry-part : (s : List ℕ) (d : ℕ) → client-contracts.Fit s d → take (8 + d * 157 + 5 + 152 - (8 + d * 157 + 5)) (drop (8 + d * 157 + 5) s) ≡ entryOf (clientIn narrow s d)
-unfolding entryOf
-entry-part s d f =
-    let m : 8 + d * 157 + 5 + 152 - (8 + d * 157 + 5) ≡ 152 = omega arith in
-    rw m (sym (part-at s d 5 152 (omega arith)) ∙ take-all 152 (drop 5 (clientIn narrow s d)) (rw (length-drop, length-client s d f) (omega arith)))
-
 -- ---- which step it is
 module _ (m : Mem) (y : List ℕ) (d : ℕ) (q : Query) (i : ℕ) where
   pub look-is : i < readCount q → readResult m y d q i ≡ lookResult m y d i (labelWords (readNode q i)) (ensured (labelWords (readNode q i)) (storeIn (m .nodes)))

@@ -8,8 +8,8 @@ use lib.ListN.{length, getD}
 use Rattle.query.specs.Query.{readCount}
 use Rattle.rules.specs.Answers.{fetchPlace, someLong}
 use Rattle.rules.specs.Client.{Client, kind, steps, sawPending, entryOf, isIdle, isBad, queryAt}
-use Rattle.rules.specs.Layout.{reads}
-use Rattle.query.specs.Shape.{narrow, shapeOf}
+use Rattle.query.specs.Shape.{shapeOf, maxColumns, narrow}
+use Rattle.rules.specs.Layout.{maxClients, trayLeast, maxLooks, clientsEnd, reads}
 use Rattle.rules.specs.Memory.{shapeIn, clientIn, answersIn}
 use Rattle.nodes.specs.NodeContracts as nodes
 use Rattle.answers.specs.AnswerContracts as answers
@@ -20,9 +20,9 @@ use Rattle.table.specs.TableContracts as table
 pub record Reads (clients : List ℕ) (d k : ℕ) : Type 0 where
   pub columns : k ≡ shapeIn clients .columns
   pub least : 1 ≤ k
-  pub most : k ≤ 4
-  pub below : d < 12
-  pub long : 2000 ≤ length clients
+  pub most : k ≤ maxColumns
+  pub below : d < maxClients
+  pub long : clientsEnd narrow ≤ length clients
   pub sound : isBad narrow (shapeOf k) (clientIn narrow clients d) ≡ false
   pub busy : isIdle narrow (clientIn narrow clients d) ≡ false
   pub kind : kind (clientIn narrow clients d) ≡ reads
@@ -44,7 +44,7 @@ pub record Looks (ns clients : List ℕ) (d k : ℕ) : Type 0 where
 pub record Finds (filed clients : List ℕ) (d : ℕ) : Type 0 where
   pub fit : answers.Fit filed
   pub client : client-contracts.Fit clients d
-  pub few : made clients d ≤ 16
+  pub few : made clients d ≤ maxLooks
 
 unfoldable pub foundFor : List ℕ → Client → ℕ
 foundFor s c = cond (sawPending c) (getD s 0 0) (fetchPlace narrow (steps c) (entryOf c) (answersIn narrow s))
@@ -53,7 +53,7 @@ pub record Fetches (filed clients tray : List ℕ) (d k : ℕ) : Type 0 where
   pub read : Reads clients d k
   pub fit : answers.Fit filed
   pub short : someLong (answersIn narrow filed) ≡ false
-  pub room : 128 ≤ length tray
+  pub room : trayLeast ≤ length tray
   pub step : made clients d ≡ looks clients d k
 
 pub record Gathers (records clients : List ℕ) (d k : ℕ) : Type 0 where
@@ -63,13 +63,13 @@ pub record Gathers (records clients : List ℕ) (d k : ℕ) : Type 0 where
 pub record Lists (records clients tray : List ℕ) (d k : ℕ) : Type 0 where
   pub read : Reads clients d k
   pub fit : table.Fit k records
-  pub room : 128 ≤ length tray
+  pub room : trayLeast ≤ length tray
   pub step : made clients d ≡ looks clients d k + 1
 
 pub record Files (filed clients tray : List ℕ) (d k : ℕ) : Type 0 where
   pub read : Reads clients d k
   pub fit : answers.Fit filed
-  pub room : 128 ≤ length tray
+  pub room : trayLeast ≤ length tray
   pub step : made clients d ≡ looks clients d k + 2
 
 -- any of them
@@ -79,4 +79,4 @@ pub record Steps (records ns filed clients tray : List ℕ) (d k : ℕ) : Type 0
   pub nodes : nodes.Fit ns
   pub fit : answers.Fit filed
   pub short : someLong (answersIn narrow filed) ≡ false
-  pub room : 128 ≤ length tray
+  pub room : trayLeast ≤ length tray

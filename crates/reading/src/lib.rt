@@ -10,7 +10,8 @@ ghost use Rattle.rules.specs.Table.{listOf};
 ghost use Rattle.rules.specs.Client.{queryAt};
 ghost use Rattle.rules.specs.Memory.{mem, clientIn, recordsIn};
 ghost use Rattle.rules.specs.Outcome.{resultWith};
-ghost use Rattle.query.specs.Shape.{narrow, shapeOf};
+ghost use Rattle.query.specs.Shape.{shapeOf, narrow};
+ghost use Rattle.rules.specs.Layout.{maxList, clientOffset, heldListOffset};
 ghost use Rattle.rules.specs.Steps.{readResult};
 ghost use Rattle.table.specs.TableContracts.{gathered};
 ghost use Rattle.reading.specs.ReadContracts.{Reads, looks, made, Looks, Finds, foundFor, Fetches, Gathers, Lists, Files, Steps};
@@ -30,7 +31,7 @@ pub fn look_step(nodes: &mut [u32], clients: &mut [u32], d: usize, k: usize) -> 
     let label = columns::labels::read_label(cols, k, look);
     let sight = nodes::look(nodes, &label);
     let Sight::Seen { revision, pending } = sight else {
-        return Outcome::Refused(3);
+        return Outcome::Refused(Hall::REFUSED_UNSOUND);
     };
     clients::note(clients, d, look, revision, pending);
     Outcome::Accepted
@@ -42,13 +43,11 @@ fn find_filed(answers: &[u32], clients: &[u32], d: usize) -> usize
     ensures { λ r. ⌜ r ≡ foundFor (now (answers .entry)) (clientIn narrow (now (clients .entry)) d) ⌝ }
 {
     if clients::saw_pending(clients, d) {
-        return answers[0] as usize;
+        return answers[Hall::ANSWER_COUNT_OFFSET] as usize;
     }
     // A read that comes to its fetch has made one step for each of its nodes.
     let n = clients::steps_of(clients, d) as usize;
-    let at = 8 + d * 157 + 5;
-    let end = at + 152;
-    answers::fetch(answers, &clients[at..end], n)
+    answers::fetch(answers, clients::entry(clients, d), n)
 }
 
 // The fetch: a filed answer that is recent enough is answered with.
@@ -63,7 +62,7 @@ pub fn fetch_step(
     ensures { λ r. ⌜ ((t n : List ℕ) → resultWith r (mem t n (now (answers .entry)) (now (clients .exit))) (now (tray .exit)) ≡ readResult (mem t n (now (answers .entry)) (now (clients .entry))) (now (tray .entry)) d (queryAt (shapeOf k) (clientIn narrow (now (clients .entry)) d)) (made (now (clients .entry)) d)) ⌝ }
 {
     let i = find_filed(answers, clients, d);
-    if answers[0] as usize <= i {
+    if answers[Hall::ANSWER_COUNT_OFFSET] as usize <= i {
         clients::advance(clients, d);
         return Outcome::Accepted;
     }
@@ -79,11 +78,11 @@ pub fn fetch_step(
 fn gather_list(table: &[u32], clients: &mut [u32], d: usize, k: usize) -> usize
     requires { ⌜ Gathers (now table) (now clients) d k ⌝ }
     ensures { λ r. ⌜ r ≡ gathered (listOf (queryAt (shapeOf k) (clientIn narrow (now (clients .entry)) d)) (recordsIn k (now (table .entry)))) ⌝ }
-    ensures { λ _. ⌜ now (clients .exit) ≡ written (now (clients .entry)) (8 + d * 157 + 29) (flat (take 32 (listOf (queryAt (shapeOf k) (clientIn narrow (now (clients .entry)) d)) (recordsIn k (now (table .entry)))))) ⌝ }
+    ensures { λ _. ⌜ now (clients .exit) ≡ written (now (clients .entry)) (clientOffset narrow d + heldListOffset narrow (shapeOf k)) (flat (take maxList (listOf (queryAt (shapeOf k) (clientIn narrow (now (clients .entry)) d)) (recordsIn k (now (table .entry)))))) ⌝ }
 {
     let cols = clients::columns_at(clients, d, k);
-    let at = 8 + d * 157 + 29;
-    let end = at + 128;
+    let at = clients::list_at(d, k);
+    let end = at + Hall::LIST_WIDTH;
     table::gather(table, k, cols, &mut clients[at..end])
 }
 
@@ -107,7 +106,7 @@ pub fn table_step(
         clients::set_list(clients, d, n, k);
         return Outcome::Accepted;
     }
-    let at = 8 + d * 157 + 29;
+    let at = clients::list_at(d, k);
     let end = at + n * k;
     words::write(tray, 0, &clients[at..end]);
     clients::set_idle(clients, d);
@@ -128,9 +127,7 @@ pub fn file_step(
     requires { ⌜ Files (now answers) (now clients) (now tray) d k ⌝ }
     ensures { λ r. ⌜ ((t n : List ℕ) → resultWith r (mem t n (now (answers .exit)) (now (clients .exit))) (now (tray .exit)) ≡ readResult (mem t n (now (answers .entry)) (now (clients .entry))) (now (tray .entry)) d (queryAt (shapeOf k) (clientIn narrow (now (clients .entry)) d)) (made (now (clients .entry)) d)) ⌝ }
 {
-    let at = 8 + d * 157 + 5;
-    let end = at + 152;
-    answers::file(answers, &clients[at..end]);
+    answers::file(answers, clients::entry(clients, d));
     let count = clients::give_list(clients, d, k, tray);
     clients::set_idle(clients, d);
     Outcome::Answered {

@@ -1,18 +1,21 @@
 // The calls that are no step: begins, evictions and the renewal. Each takes memories of any contents, refuses by the checks' number and then
 // alters nothing, or does one change. The rules stand in rules (Calls).
+use hall::Hall;
 use rules::Outcome;
 ghost use mathlib.Core.Path.{_≡_};
-ghost use Prim.Native.Nat.{_≤_};
+ghost use Prim.Native.Nat.{_*_, _≤_};
 ghost use lib.ListN.{length};
 ghost use Rattle.query.specs.Encoding.{queryOf, keyWords};
 ghost use Rattle.rules.specs.Memory.{mem};
 ghost use Rattle.rules.specs.Outcome.{result};
 ghost use Rattle.rules.specs.Calls.{beginResult, evictAnswerResult, evictNodeResult, renewResult};
+ghost use Rattle.query.specs.Shape.{maxColumns};
+ghost use Rattle.rules.specs.Layout.{reads, inserts, deletes};
 
 // ---- Begins
 // The key of a query as it arrives.
-fn key_of(asked: &[u32]) -> [u32; 7]
-    requires { ⌜ length (now asked) ≤ 8 ⌝ }
+fn key_of(asked: &[u32]) -> [u32; Hall::KEY_WIDTH]
+    requires { ⌜ length (now asked) ≤ 2 * maxColumns ⌝ }
     ensures { λ r. ⌜ r ≡ keyWords (queryOf (now (asked .entry))) ⌝ }
 {
     let cols = columns::columns_of(asked);
@@ -49,9 +52,9 @@ pub fn begin_read(
     client: u32,
     asked: &[u32],
 ) -> Outcome
-    ensures { λ r. ⌜ result r (mem (now (table .exit)) (now (nodes .exit)) (now (answers .exit)) (now (clients .exit))) ≡ beginResult (mem (now (table .entry)) (now (nodes .entry)) (now (answers .entry)) (now (clients .entry))) 1 client (now (asked .entry)) ⌝ }
+    ensures { λ r. ⌜ result r (mem (now (table .exit)) (now (nodes .exit)) (now (answers .exit)) (now (clients .exit))) ≡ beginResult (mem (now (table .entry)) (now (nodes .entry)) (now (answers .entry)) (now (clients .entry))) reads client (now (asked .entry)) ⌝ }
 {
-    begin(table, nodes, answers, clients, 1, client, asked)
+    begin(table, nodes, answers, clients, Hall::READS, client, asked)
 }
 
 pub fn begin_insert(
@@ -62,9 +65,9 @@ pub fn begin_insert(
     client: u32,
     asked: &[u32],
 ) -> Outcome
-    ensures { λ r. ⌜ result r (mem (now (table .exit)) (now (nodes .exit)) (now (answers .exit)) (now (clients .exit))) ≡ beginResult (mem (now (table .entry)) (now (nodes .entry)) (now (answers .entry)) (now (clients .entry))) 2 client (now (asked .entry)) ⌝ }
+    ensures { λ r. ⌜ result r (mem (now (table .exit)) (now (nodes .exit)) (now (answers .exit)) (now (clients .exit))) ≡ beginResult (mem (now (table .entry)) (now (nodes .entry)) (now (answers .entry)) (now (clients .entry))) inserts client (now (asked .entry)) ⌝ }
 {
-    begin(table, nodes, answers, clients, 2, client, asked)
+    begin(table, nodes, answers, clients, Hall::INSERTS, client, asked)
 }
 
 pub fn begin_delete(
@@ -75,9 +78,9 @@ pub fn begin_delete(
     client: u32,
     asked: &[u32],
 ) -> Outcome
-    ensures { λ r. ⌜ result r (mem (now (table .exit)) (now (nodes .exit)) (now (answers .exit)) (now (clients .exit))) ≡ beginResult (mem (now (table .entry)) (now (nodes .entry)) (now (answers .entry)) (now (clients .entry))) 3 client (now (asked .entry)) ⌝ }
+    ensures { λ r. ⌜ result r (mem (now (table .exit)) (now (nodes .exit)) (now (answers .exit)) (now (clients .exit))) ≡ beginResult (mem (now (table .entry)) (now (nodes .entry)) (now (answers .entry)) (now (clients .entry))) deletes client (now (asked .entry)) ⌝ }
 {
-    begin(table, nodes, answers, clients, 3, client, asked)
+    begin(table, nodes, answers, clients, Hall::DELETES, client, asked)
 }
 
 // ---- Evictions

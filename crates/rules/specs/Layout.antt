@@ -29,9 +29,13 @@ maxList = 32
 abbrev pub maxPending : ℕ
 maxPending = 12
 
+-- the largest 32-bit number
+abbrev pub maxWord : ℕ
+maxWord = 4294967295
+
 -- "a counter at its largest to raise": a counter is one 32-bit number
 abbrev pub maxRevision : Form → ℕ
-maxRevision f = 4294967295
+maxRevision f = maxWord
 
 -- "a write begins while the floor or a counter is above 4,294,967,103"
 abbrev pub wornAbove : Form → Shape → ℕ
@@ -131,11 +135,17 @@ entryOffset = 5
 abbrev pub clientWidth : Form → ℕ
 clientWidth f = entryOffset + entryWidth f
 
--- where client d stands
+-- where client d stands; where the last ends
 abbrev pub clientOffset : Form → ℕ → ℕ
 clientOffset f d = header + d * clientWidth f
 
--- the parts of a client's own entry: the list's length, the revision noted by look j, the list
+abbrev pub clientsEnd : Form → ℕ
+clientsEnd f = clientOffset f maxClients
+
+-- the parts of a client's own entry: the values of its key, the list's length, the revision noted by look j, the list
+abbrev pub heldValuesOffset : ℕ
+heldValuesOffset = entryOffset + 1
+
 abbrev pub heldLengthOffset : ℕ
 heldLengthOffset = entryOffset + lengthOffset
 

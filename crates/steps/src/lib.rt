@@ -1,12 +1,10 @@
 // The two calls that move or end what is under way at a desk: one step, and the abandoning. Neither asks anything of its caller.
+use hall::Hall;
 ghost use mathlib.Core.Path.{_≡_};
 ghost use Rattle.rules.specs.Memory.{mem};
 ghost use Rattle.rules.specs.Outcome.{result, resultWith};
 ghost use Rattle.rules.specs.Calls.{stepResult, abandonResult};
 use rules::Outcome;
-
-// The kind of a client that reads.
-const READS: u32 = 1;
 
 // One step of the read or write that is under way at the client's desk.
 pub fn step(
@@ -24,9 +22,9 @@ pub fn step(
         return Outcome::Refused(code);
     }
     let d = client as usize;
-    let k = clients[0] as usize;
+    let k = clients[Hall::COLUMNS_OFFSET] as usize;
     let kind = clients::kind_of(clients, d);
-    if kind == READS {
+    if kind == Hall::READS {
         return reading::read_step(table, nodes, answers, clients, tray, d, k);
     }
     writing::write_step(table, nodes, clients, d, k)
@@ -47,9 +45,9 @@ pub fn abandon(
         return Outcome::Refused(code);
     }
     let d = client as usize;
-    let k = clients[0] as usize;
+    let k = clients[Hall::COLUMNS_OFFSET] as usize;
     let kind = clients::kind_of(clients, d);
-    if kind == READS {
+    if kind == Hall::READS {
         clients::set_idle(clients, d);
         return Outcome::Accepted;
     }

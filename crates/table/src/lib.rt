@@ -10,6 +10,7 @@ ghost use Rattle.table.specs.TableContracts.{Fit, gathered, spotOf, inse
 use hall::Hall;
 use query::Column;
 use words::Order;
+ghost use Rattle.rules.specs.Layout.{maxList, listWidth};
 
 // The most records that a table holds, and that a read lists.
 const RECORDS: usize = Hall::RECORDS as usize;
@@ -34,15 +35,15 @@ enum Spot {
 }
 
 // Writes the records in the query's subspace, at most 32, to `out`, and says how many there are, or 33 of more than 32.
-pub fn gather(table: &[u32], k: usize, cols: [Column; 4], out: &mut [u32]) -> usize
+pub fn gather(table: &[u32], k: usize, cols: [Column; Hall::COLUMN_SLOTS], out: &mut [u32]) -> usize
     requires { ⌜ Fit k (now table) ⌝ }
-    requires { ⌜ length (now out) ≡ 128 ⌝ }
+    requires { ⌜ length (now out) ≡ listWidth ⌝ }
     ensures { λ r. ⌜ r ≡ gathered (listOf (take k cols) (recordsIn k (now (table .entry)))) ⌝ }
-    ensures { λ _. ⌜ now (out .exit) ≡ written (now (out .entry)) 0 (flat (take 32 (listOf (take k cols) (recordsIn k (now (table .entry)))))) ⌝ }
+    ensures { λ _. ⌜ now (out .exit) ≡ written (now (out .entry)) 0 (flat (take maxList (listOf (take k cols) (recordsIn k (now (table .entry)))))) ⌝ }
 {
-    let n = table[0] as usize;
+    let n = table[Hall::RECORD_COUNT_OFFSET] as usize;
     let mut i = 0;
-    let mut at = 8;
+    let mut at = Hall::HEADER;
     let mut j = 0;
     let mut to = 0;
     while i < n {
@@ -68,9 +69,9 @@ fn seek(table: &[u32], rec: &[u32]) -> Spot
     ensures { λ r. ⌜ r ≡ spotOf (now (rec .entry)) (recordsIn (length (now (rec .entry))) (now (table .entry))) ⌝ }
 {
     let k = rec.len();
-    let n = table[0] as usize;
+    let n = table[Hall::RECORD_COUNT_OFFSET] as usize;
     let mut i = 0;
-    let mut at = 8;
+    let mut at = Hall::HEADER;
     let mut spot = 0;
     while i < n {
         let e = at + k;
@@ -100,15 +101,15 @@ pub fn insert(table: &mut [u32], rec: &[u32]) -> Inserted
     let Spot::At(i) = spot else {
         return Inserted::Present;
     };
-    let n = table[0] as usize;
+    let n = table[Hall::RECORD_COUNT_OFFSET] as usize;
     if RECORDS <= n {
         return Inserted::Full;
     }
     let k = rec.len();
-    let at = 8 + i * k;
-    let e = 8 + n * k;
+    let at = Hall::HEADER + i * k;
+    let e = Hall::HEADER + n * k;
     words::insert(table, at, e, rec);
-    table[0] = (n + 1) as u32;
+    table[Hall::RECORD_COUNT_OFFSET] = (n + 1) as u32;
     Inserted::Added
 }
 
@@ -123,16 +124,16 @@ fn settle(table: &mut [u32], from: usize, to: usize, k: usize)
 }
 
 // Takes out every record in the query's subspace, and says how many went. The others close up, and what they free is 0.
-pub fn delete(table: &mut [u32], k: usize, cols: [Column; 4]) -> usize
+pub fn delete(table: &mut [u32], k: usize, cols: [Column; Hall::COLUMN_SLOTS]) -> usize
     requires { ⌜ Fit k (now table) ⌝ }
     ensures { λ r. ⌜ r ≡ gone (take k cols) (recordsIn k (now (table .entry))) ⌝ }
     ensures { λ _. ⌜ now (table .exit) ≡ withRecords k (now (table .entry)) (effect (delete (take k cols)) (recordsIn k (now (table .entry)))) ⌝ }
 {
-    let n = table[0] as usize;
+    let n = table[Hall::RECORD_COUNT_OFFSET] as usize;
     let mut i = 0;
-    let mut from = 8;
+    let mut from = Hall::HEADER;
     let mut j = 0;
-    let mut to = 8;
+    let mut to = Hall::HEADER;
     while i < n {
         let e = from + k;
         if !columns::lies(cols, &table[from..e]) {
@@ -145,6 +146,6 @@ pub fn delete(table: &mut [u32], k: usize, cols: [Column; 4]) -> usize
     }
     let freed = from - to;
     words::clear(&mut table[to..from], freed);
-    table[0] = j as u32;
+    table[Hall::RECORD_COUNT_OFFSET] = j as u32;
     n - j
 }

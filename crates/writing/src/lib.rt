@@ -1,5 +1,6 @@
 // The steps of a write at its client: a mark for each of its nodes, the table, a raise for each; and the taking back of its marks.
 // The rules stand in rules (Steps, Calls), what a function takes for granted in specs/Writing.antt.
+use hall::Hall;
 ghost use mathlib.Core.Path.{_≡_};
 ghost use mathlib.Core.Bool.{true};
 ghost use mathlib.Core.List.{List};
@@ -10,11 +11,11 @@ ghost use Rattle.query.specs.Encoding.{namesAll, recordOf};
 ghost use Rattle.rules.specs.Table.{insert, effect};
 ghost use Rattle.rules.specs.Nodes.{releasedAll};
 ghost use Rattle.rules.specs.Client.{idle};
-ghost use Rattle.rules.specs.Layout.{inserts};
+ghost use Rattle.query.specs.Shape.{maxColumns, narrow};
+ghost use Rattle.rules.specs.Layout.{maxWord, inserts};
 ghost use Rattle.rules.specs.Memory.{mem, recordsIn, withRecords, storeIn, withStore, clientIn, withClient};
 ghost use Rattle.rules.specs.Outcome.{result, resultWith};
 ghost use Rattle.rules.specs.Steps.{endOf};
-ghost use Rattle.query.specs.Shape.{narrow};
 ghost use Rattle.rules.specs.Calls.{announcedLabels};
 ghost use Rattle.nodes.specs.NodeContracts;
 ghost use Rattle.clients.specs.ClientContracts;
@@ -43,7 +44,7 @@ pub fn announce_step(nodes: &mut [u32], clients: &mut [u32], d: usize, k: usize)
     let made = clients::steps_of(clients, d);
     let label = columns::labels::write_label(cols, k, made as usize);
     if !nodes::announce(nodes, &label) {
-        return Outcome::Refused(3);
+        return Outcome::Refused(Hall::REFUSED_UNSOUND);
     }
     clients::advance(clients, d);
     Outcome::Accepted
@@ -51,7 +52,7 @@ pub fn announce_step(nodes: &mut [u32], clients: &mut [u32], d: usize, k: usize)
 
 // ---- The table
 // Puts the record of a query that names every column into the table.
-fn insert_record(table: &mut [u32], cols: [Column; 4], k: usize) -> Report
+fn insert_record(table: &mut [u32], cols: [Column; Hall::COLUMN_SLOTS], k: usize) -> Report
     requires { ⌜ TableContracts.Fit k (now table) ⌝ }
     requires { ⌜ namesAll (take k cols) ≡ true ⌝ }
     ensures { λ r. ⌜ (r ≡ reported (insert (recordOf (take k cols))) (recordsIn k (now (table .entry)))) × (now (table .exit) ≡ withRecords k (now (table .entry)) (effect (insert (recordOf (take k cols))) (recordsIn k (now (table .entry))))) ⌝ }
@@ -76,12 +77,12 @@ fn insert_record(table: &mut [u32], cols: [Column; 4], k: usize) -> Report
 }
 
 // Makes the change of a write of this kind.
-fn change(table: &mut [u32], kind: u32, cols: [Column; 4], k: usize) -> Report
+fn change(table: &mut [u32], kind: u32, cols: [Column; Hall::COLUMN_SLOTS], k: usize) -> Report
     requires { ⌜ TableContracts.Fit k (now table) ⌝ }
     requires { ⌜ (kind ≡ inserts → namesAll (take k cols) ≡ true) ⌝ }
     ensures { λ r. ⌜ (r ≡ reported (writeOf kind (take k cols)) (recordsIn k (now (table .entry)))) × (now (table .exit) ≡ withRecords k (now (table .entry)) (effect (writeOf kind (take k cols)) (recordsIn k (now (table .entry))))) ⌝ }
 {
-    if kind == 2 {
+    if kind == Hall::INSERTS {
         return insert_record(table, cols, k);
     }
     let gone = table::delete(table, k, cols);
@@ -122,7 +123,7 @@ fn end(clients: &mut [u32], d: usize) -> Outcome
 
 // What a raise leaves of the client: the last one ends the write.
 fn after_raise(clients: &mut [u32], d: usize, last: bool) -> Outcome
-    requires { ⌜ ClientContracts.Fit (now clients) d × (stepAt (now clients) d < 4294967295) ⌝ }
+    requires { ⌜ ClientContracts.Fit (now clients) d × (stepAt (now clients) d < maxWord) ⌝ }
     ensures { λ r. ⌜ (r ≡ raiseEnd last (clientIn narrow (now (clients .entry)) d)) × (now (clients .exit) ≡ withClient narrow (now (clients .entry)) d (raiseLeft last (clientIn narrow (now (clients .entry)) d))) ⌝ }
 {
     if last {
@@ -145,7 +146,7 @@ pub fn raise_step(nodes: &mut [u32], clients: &mut [u32], d: usize, k: usize) ->
     let number = made - (count + 1);
     let label = columns::labels::write_label(cols, k, number as usize);
     if !nodes::raise(nodes, &label) {
-        return Outcome::Refused(3);
+        return Outcome::Refused(Hall::REFUSED_UNSOUND);
     }
     after_raise(clients, d, made == count + count)
 }
@@ -177,8 +178,14 @@ pub fn write_step(
 
 // ---- The taking back of marks
 // Whether each of the write's first n nodes has a pending write; where all have, `places` begins with their places.
-fn can_take_back(nodes: &[u32], cols: [Column; 4], k: usize, n: usize, places: &mut [usize]) -> bool
-    requires { ⌜ NodeContracts.Fit (now nodes) × ((k ≤ 4) × (n ≤ writeCount (take k cols))) ⌝ }
+fn can_take_back(
+    nodes: &[u32],
+    cols: [Column; Hall::COLUMN_SLOTS],
+    k: usize,
+    n: usize,
+    places: &mut [usize],
+) -> bool
+    requires { ⌜ NodeContracts.Fit (now nodes) × ((k ≤ maxColumns) × (n ≤ writeCount (take k cols))) ⌝ }
     requires { ⌜ n ≤ length (now places) ⌝ }
     ensures { λ r. ⌜ (r ≡ isFound (releasedAll (announcedLabels (take k cols) n) (storeIn (now (nodes .entry))))) × (r ≡ true → take n (now (places .exit)) ≡ placesOf (announcedLabels (take k cols) n) (storeIn (now (nodes .entry)))) ⌝ }
 {
@@ -219,7 +226,7 @@ pub fn take_back(nodes: &mut [u32], clients: &mut [u32], d: usize, k: usize) -> 
     let made = clients::steps_of(clients, d) as usize;
     let mut places = [0; 16];
     if !can_take_back(nodes, cols, k, made, &mut places) {
-        return Outcome::Refused(3);
+        return Outcome::Refused(Hall::REFUSED_UNSOUND);
     }
     take_off(nodes, &places[..made]);
     clients::set_idle(clients, d);

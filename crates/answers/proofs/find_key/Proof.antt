@@ -4,7 +4,9 @@ use Prim.Native.Nat.{_+_, _*_, _-_, _≤_}
 use lib.ListN.{drop}
 use Rattle.lists.specs.Lists.{place}
 use Rattle.rules.specs.Answers.{hasKeyOf, keyPlace}
+use Rattle.lists.specs.Lists.{header}
 use Rattle.query.specs.Shape.{narrow}
+use Rattle.rules.specs.Layout.{entryWidth}
 use Rattle.rules.specs.Memory.{answersIn}
 use Rattle.answers.proofs.AnswerScan.{scan-start, scan-found, scan-next, scan-none}
 use borrow.Author.Needs.{needs}
@@ -12,7 +14,7 @@ use Rattle.answers.proofs.find_key.Statement.{statement}
 use Rattle.answers.proofs.find_key.Tie as tie
 
 abbrev Inv-loop : tie.InvT-loop
-Inv-loop answers entry count at₀ i₀ at i = (i ≤ count) × ((at ≡ 8 + i * 152) × (place (hasKeyOf entry) (answersIn narrow answers) ≡ i + place (hasKeyOf entry) (drop i (answersIn narrow answers))))
+Inv-loop answers entry count at₀ i₀ at i = (i ≤ count) × ((at ≡ header + i * entryWidth narrow) × (place (hasKeyOf entry) (answersIn narrow answers) ≡ i + place (hasKeyOf entry) (drop i (answersIn narrow answers))))
 
 abbrev μ-loop : tie.MeasureT-loop
 μ-loop answers entry count at₀ i₀ at i = count - i

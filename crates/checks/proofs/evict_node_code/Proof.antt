@@ -1,11 +1,13 @@
--- `checks::evict_node_code` meets its contract: the memories' own number, then the place, then its pending writes. Assumes nothing.
+-- `checks::evict_node_code` meets its contract: one law for each way out. Assumes nothing.
 use mathlib.Core.Path.{sym, _∙_}
 use native.Mathlib.Omega.{arith}
+use Rattle.checks.proofs.SoundMemories.{nodes-fit, sound-memories}
 use Rattle.checks.proofs.CheckCodes.{node-out, node-none, node-pending, node-there}
-use Rattle.checks.proofs.SoundMemories.{sound-memories}
 use borrow.Author.Needs.{needs}
 use Rattle.checks.proofs.evict_node_code.Statement.{statement}
 use Rattle.checks.proofs.evict_node_code.Tie as tie
+use Rattle.checks.proofs.sound_code.Reads as sound-code-reads
+use Rattle.nodes.proofs.pending_at.Reads as pending-at-reads
 
 sound-code-requires : tie.Need-sound-code-requires
 sound-code-requires c κs = search needs
@@ -19,26 +21,22 @@ shared-slice-read-if2 c = omega (arith, sound-memories _ (sym (c .before .before
 returns-2 : tie.Need-returns-2
 returns-2 c = node-none _ _ (c .before .before .before .sound-code .ensures) _ (c .before .before .if1 .left) (c .if2 .taken)
 
-mul-if3 : tie.Need-mul-if3
-mul-if3 c = search needs
-
-add-if3 : tie.Need-add-if3
-add-if3 c = search needs
-
-add-if3-2 : tie.Need-add-if3-2
-add-if3-2 c = search needs
-
-mul-if3-2 : tie.Need-mul-if3-2
-mul-if3-2 c = search needs
-
-shared-slice-read-if3 : tie.Need-shared-slice-read-if3
-shared-slice-read-if3 c = omega (arith, sound-memories _ (sym (c .before .before .before .before .sound-code .ensures) ∙ c .before .before .before .if1 .left))
+pending-at-requires : tie.Need-pending-at-requires
+pending-at-requires c κs =
+    let i = c .before .before in
+    (nodes-fit _ (sound-memories _ (sym (i .before .sound-code .ensures) ∙ i .if1 .left)), search needs)
 
 returns-3 : tie.Need-returns-3
-returns-3 c = node-pending _ _ (c .before .before .before .before .before .sound-code .ensures) _ (c .before .before .before .before .if1 .left) (c .before .before .if2 .left) (c .if3 .taken)
+returns-3 c =
+    let p = c .before in
+    let i = p .before .before .before in
+    node-pending _ _ (i .before .sound-code .ensures) _ (i .if1 .left) (p .before .if2 .left) _ (p .pending-at .ensures) (c .if3 .taken)
 
 returns-4 : tie.Need-returns-4
-returns-4 c = node-there _ _ (c .before .before .before .before .before .sound-code .ensures) _ (c .before .before .before .before .if1 .left) (c .before .before .if2 .left) (c .if3 .left)
+returns-4 c =
+    let p = c .before in
+    let i = p .before .before .before in
+    node-there _ _ (i .before .sound-code .ensures) _ (i .if1 .left) (p .before .if2 .left) _ (p .pending-at .ensures) (c .if3 .left)
 
 pub evict-node-code-spec : {M : Type 1} → statement M
 evict-node-code-spec =
@@ -48,10 +46,6 @@ evict-node-code-spec =
     returns
     shared-slice-read-if2
     returns-2
-    mul-if3
-    add-if3
-    add-if3-2
-    mul-if3-2
-    shared-slice-read-if3
+    pending-at-requires
     returns-3
     returns-4)

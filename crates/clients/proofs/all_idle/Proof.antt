@@ -9,12 +9,13 @@ use Rattle.clients.proofs.ClientReads.{idle-next, idle-stops, idle-all}
 use borrow.Author.Needs.{needs}
 use Rattle.clients.proofs.all_idle.Statement.{statement}
 use Rattle.clients.proofs.all_idle.Tie as tie
+use Rattle.rules.specs.Layout.{maxClients}
 
 abbrev Inv-loop : tie.InvT-loop
-Inv-loop clients d₀ d = (d ≤ 12) × (allBelow d (idleAt clients) ≡ true)
+Inv-loop clients d₀ d = (d ≤ maxClients) × (allBelow d (idleAt clients) ≡ true)
 
 abbrev μ-loop : tie.MeasureT-loop
-μ-loop clients d₀ d = 12 - d
+μ-loop clients d₀ d = maxClients - d
 
 loop-holds : tie.Need-loop-holds Inv-loop μ-loop
 loop-holds c = (search needs, below-none _)

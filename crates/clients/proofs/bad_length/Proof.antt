@@ -5,12 +5,13 @@ use Rattle.clients.proofs.ClientReads.{length-read}
 use borrow.Author.Needs.{needs}
 use Rattle.clients.proofs.bad_length.Statement.{statement}
 use Rattle.clients.proofs.bad_length.Tie as tie
+use Rattle.rules.specs.Layout.{maxList}
 
 word-requires : tie.Need-word-requires
 word-requires c κs = search needs
 
 returns : tie.Need-returns
-returns c = ap (ltb 32) (c .word .ensures ∙ length-read _)
+returns c = ap (ltb maxList) (c .word .ensures ∙ length-read _)
 
 pub bad-length-spec : {M : Type 1} → statement M
 bad-length-spec = tie.close (tie.spec word-requires returns)

@@ -1,9 +1,14 @@
 -- `reading::find_filed` meets its contract: the count where a mark was seen, else what `fetch` finds. Assumes nothing.
 use mathlib.Core.Path.{refl}
+use Rattle.clients.proofs.ClientReads.{entry-length}
 use Rattle.reading.proofs.Filing.{found-pending, found-search}
 use borrow.Author.Needs.{needs}
 use Rattle.reading.proofs.find_filed.Statement.{statement}
 use Rattle.reading.proofs.find_filed.Tie as tie
+use Rattle.answers.proofs.fetch.Reads as fetch-reads
+use Rattle.clients.proofs.entry.Reads as entry-reads
+use Rattle.clients.proofs.saw_pending.Reads as saw-pending-reads
+use Rattle.clients.proofs.steps_of.Reads as steps-of-reads
 
 saw-pending-requires : tie.Need-saw-pending-requires
 saw-pending-requires c κs = search needs
@@ -23,35 +28,17 @@ steps-of-requires c κs = search needs
 cast-n : tie.Need-cast-n
 cast-n c = search needs
 
-mul-at : tie.Need-mul-at
-mul-at c = search needs
-
-add-at : tie.Need-add-at
-add-at c = search needs
-
-add-at-2 : tie.Need-add-at-2
-add-at-2 c = search needs
-
-add-end : tie.Need-add-end
-add-end c = search needs
-
-mul-fetch : tie.Need-mul-fetch
-mul-fetch c = search needs
-
-sub-fetch : tie.Need-sub-fetch
-sub-fetch c = search needs
-
-part-fetch-start : tie.Need-part-fetch-start
-part-fetch-start c = search needs
-
-part-fetch-end : tie.Need-part-fetch-end
-part-fetch-end c = search needs
+entry-requires : tie.Need-entry-requires
+entry-requires c κs = search needs
 
 fetch-requires : tie.Need-fetch-requires
-fetch-requires c κs = search needs
+fetch-requires c κs = (search needs, (entry-length _ _ _ (c .before .before .before .before .before .before .pre .client) (c .entry .ensures), search needs))
 
 returns-2 : tie.Need-returns-2
-returns-2 c = found-search _ _ _ _ _ _ (c .before .before .before .before .saw-pending .ensures) (c .before .before .before .if1 .left) (c .before .before .steps-of .ensures) (c .before .before .before .before .before .before .before .pre .client) (c .fetch .ensures)
+returns-2 c =
+    let s = c .before .before in
+    let w = s .before .before in
+    found-search _ _ _ _ _ _ _ (w .saw-pending .ensures) (s .before .if1 .left) (s .steps-of .ensures) (c .before .entry .ensures) (c .fetch .ensures)
 
 pub find-filed-spec : {M : Type 1} → statement M
 find-filed-spec =
@@ -63,13 +50,6 @@ find-filed-spec =
     returns
     steps-of-requires
     cast-n
-    mul-at
-    add-at
-    add-at-2
-    add-end
-    mul-fetch
-    sub-fetch
-    part-fetch-start
-    part-fetch-end
+    entry-requires
     fetch-requires
     returns-2)

@@ -3,18 +3,15 @@ use Rattle.reading.proofs.Listing.{gather-count, gather-left}
 use borrow.Author.Needs.{needs}
 use Rattle.reading.proofs.gather_list.Statement.{statement}
 use Rattle.reading.proofs.gather_list.Tie as tie
+use Rattle.clients.proofs.columns_at.Reads as columns-at-reads
+use Rattle.clients.proofs.list_at.Reads as list-at-reads
+use Rattle.table.proofs.gather.Reads as gather-reads
 
 columns-at-requires : tie.Need-columns-at-requires
 columns-at-requires c κs = search needs
 
-mul-at : tie.Need-mul-at
-mul-at c = search needs
-
-add-at : tie.Need-add-at
-add-at c = search needs
-
-add-at-2 : tie.Need-add-at-2
-add-at-2 c = search needs
+list-at-requires : tie.Need-list-at-requires
+list-at-requires c κs = search needs
 
 add-end : tie.Need-add-end
 add-end c = search needs
@@ -38,16 +35,21 @@ same-length : tie.Need-same-length
 same-length c = search needs
 
 returns : tie.Need-returns
-returns c = (gather-count _ _ _ _ (c .before .before .before .before .before .before .before .before .pre .read) (c .before .before .before .before .before .before .before .before .pre .fit) _ _ (c .before .before .before .before .columns-at .ensures) (c .before .before .gather .ensures .0), gather-left _ _ _ _ (c .before .before .before .before .before .before .before .before .pre .read) (c .before .before .before .before .before .before .before .before .pre .fit) _ _ (c .before .before .before .before .columns-at .ensures) (c .before .before .gather .ensures .1))
+returns c =
+    let g = c .before .before in
+    let l = g .before .before in
+    let p = l .before .before .before .before .before .pre in
+    let e = l .before .columns-at .ensures in (
+      gather-count _ _ _ _ (p .read) (p .fit) _ _ e (g .gather .ensures .0),
+      gather-left _ _ _ _ (p .read) (p .fit) _ _ _ (l .list-at .ensures) e (g .gather .ensures .1),
+    )
 
 pub gather-list-spec : {M : Type 1} → statement M
 gather-list-spec =
     tie.close
     (tie.spec
     columns-at-requires
-    mul-at
-    add-at
-    add-at-2
+    list-at-requires
     add-end
     mul-gather
     sub-gather
