@@ -71,7 +71,7 @@ pub fn fetch(answers: &[u32], entry: &[u32], n: usize) -> usize
 }
 
 // The place of the first entry that answers the same query, or the count where none does.
-pub fn find_key(answers: &[u32], entry: &[u32]) -> usize
+fn find_key(answers: &[u32], entry: &[u32]) -> usize
     requires { ⌜ Fit (now answers) × (keyWidth ≤ length (now entry)) ⌝ }
     ensures { λ r. ⌜ r ≡ keyPlace (now (entry .entry)) (answersIn narrow (now (answers .entry))) ⌝ }
 {
@@ -169,7 +169,7 @@ pub fn empty(answers: &mut [u32])
 }
 
 // Copies an entry's list, k numbers for each record, to the tray's start, and gives the number of its records.
-pub fn give_list(entry: &[u32], k: usize, tray: &mut [u32]) -> u32
+fn give_list(entry: &[u32], k: usize, tray: &mut [u32]) -> u32
     requires { ⌜ (length (now entry) ≡ entryWidth narrow) × ((lengthIn (now entry) ≤ maxList) × ((k ≤ maxColumns) × (trayLeast ≤ length (now tray)))) ⌝ }
     ensures { λ r. ⌜ Gave k (now (entry .entry)) (now (tray .entry)) r (now (tray .exit)) ⌝ }
 {

@@ -14,7 +14,7 @@ ghost use Rattle.checks.specs.CheckContracts.{soundCode, recordCode};
 
 // ---- The memories
 // Whether k, an entry count or a filed list's length is out of range. Reads each memory once.
-pub fn is_unsound(table: &[u32], nodes: &[u32], answers: &[u32], clients: &[u32]) -> bool
+fn is_unsound(table: &[u32], nodes: &[u32], answers: &[u32], clients: &[u32]) -> bool
     requires { ⌜ isShort narrow (shape (mem (now table) (now nodes) (now answers) (now clients))) (mem (now table) (now nodes) (now answers) (now clients)) ≡ false ⌝ }
     ensures { λ r. ⌜ r ≡ isUnsound (mem (now (table .entry)) (now (nodes .entry)) (now (answers .entry)) (now (clients .entry))) ⌝ }
 {
@@ -51,7 +51,7 @@ fn sound_code(table: &[u32], nodes: &[u32], answers: &[u32], clients: &[u32]) ->
 }
 
 // What a call finds at client d of long memories: 3 unsound, 4 no such client, 6 idle, 0 busy.
-pub fn at_client(table: &[u32], nodes: &[u32], answers: &[u32], clients: &[u32], d: u32) -> u32
+fn at_client(table: &[u32], nodes: &[u32], answers: &[u32], clients: &[u32], d: u32) -> u32
     requires { ⌜ isShort narrow (shape (mem (now table) (now nodes) (now answers) (now clients))) (mem (now table) (now nodes) (now answers) (now clients)) ≡ false ⌝ }
     ensures { λ r. ⌜ r ≡ atClient (mem (now (table .entry)) (now (nodes .entry)) (now (answers .entry)) (now (clients .entry))) d ⌝ }
 {

@@ -70,7 +70,7 @@ pub fn found_full(clients: &[u32], d: usize) -> bool
 }
 
 // Whether all of a client's numbers are 0.
-pub fn is_idle(clients: &[u32], d: usize) -> bool
+fn is_idle(clients: &[u32], d: usize) -> bool
     requires { ⌜ Fit (now clients) d ⌝ }
     ensures { λ r. ⌜ r ≡ isIdle narrow (clientIn narrow (now (clients .entry)) d) ⌝ }
 {
@@ -219,7 +219,7 @@ pub fn set_list(clients: &mut [u32], d: usize, n: usize, k: usize)
 
 // ---- Soundness
 // How many steps a client of this kind makes at the most.
-pub fn steps_in_all(kind: u32, cols: [Column; Hall::COLUMN_SLOTS], k: usize) -> u32
+fn steps_in_all(kind: u32, cols: [Column; Hall::COLUMN_SLOTS], k: usize) -> u32
     requires { ⌜ k ≤ maxColumns ⌝ }
     ensures { λ r. ⌜ r ≡ stepsInAll kind (take k cols) ⌝ }
 {

@@ -12,10 +12,10 @@ use query::Column;
 
 pub mod keys; // keys.rt: marks, values and keys
 pub mod labels; // labels.rt: the labels of nodes
-pub mod sheet; // sheet.rt: the fixed sheet
+mod sheet; // sheet.rt: the fixed sheet
 
 // Whether a column takes the value x.
-pub fn admits(col: Column, x: u32) -> bool
+fn admits(col: Column, x: u32) -> bool
     ensures { λ r. ⌜ r ≡ admits col x ⌝ }
 {
     let Column::Is(v) = col else {

@@ -163,7 +163,7 @@ impl Hall {
     pub const ENDED_FULL: u32 = 13;
 
     // The sizes are the rules'. The least lengths of the four memories are so by the calls below.
-    pub fn limits() -> Limits
+    fn limits() -> Limits
         ensures { λ r. ⌜ r ≡ limitsOf ⌝ }
     {
         Limits {
@@ -177,7 +177,7 @@ impl Hall {
     }
 
     // Empties the table, if it is long enough, and says whether it was.
-    pub fn clear_table(table: &mut [u32]) -> bool
+    fn clear_table(table: &mut [u32]) -> bool
         ensures { λ r. ⌜ (r ≡ isLong tableLeast (now (table .entry))) × (now (table .exit) ≡ tableCleared (now (table .entry))) ⌝ }
     {
         if table.len() < Hall::TABLE_LEAST {
@@ -188,7 +188,7 @@ impl Hall {
     }
 
     // Empties the nodes and sets the floor to 1.
-    pub fn clear_nodes(nodes: &mut [u32]) -> bool
+    fn clear_nodes(nodes: &mut [u32]) -> bool
         ensures { λ r. ⌜ (r ≡ isLong (nodesLeast narrow) (now (nodes .entry))) × (now (nodes .exit) ≡ nodesCleared (now (nodes .entry))) ⌝ }
     {
         if nodes.len() < Hall::NODES_LEAST {
@@ -200,7 +200,7 @@ impl Hall {
     }
 
     // Empties the answers.
-    pub fn clear_answers(answers: &mut [u32]) -> bool
+    fn clear_answers(answers: &mut [u32]) -> bool
         ensures { λ r. ⌜ ((sh : Shape) → (r ≡ isLong (answersLeast narrow sh) (now (answers .entry))) × (now (answers .exit) ≡ answersCleared sh (now (answers .entry)))) ⌝ }
     {
         if answers.len() < Hall::ANSWERS_LEAST {
@@ -211,7 +211,7 @@ impl Hall {
     }
 
     // Leaves every client idle and sets the number of columns to k.
-    pub fn clear_clients(clients: &mut [u32], k: u32) -> bool
+    fn clear_clients(clients: &mut [u32], k: u32) -> bool
         ensures { λ r. ⌜ (r ≡ isLong (clientsLeast narrow (shapeOf k)) (now (clients .entry))) × (now (clients .exit) ≡ clientsCleared (shapeOf k) (now (clients .entry))) ⌝ }
     {
         if clients.len() < Hall::CLIENTS_LEAST {

@@ -44,7 +44,7 @@ fn has_label(nodes: &[u32], at: usize, label: &[u32]) -> bool
 }
 
 // The place of the label's node, or the number of nodes where there is none.
-pub fn find(nodes: &[u32], label: &[u32]) -> usize
+fn find(nodes: &[u32], label: &[u32]) -> usize
     requires { ⌜ Fit (now nodes) × (length (now label) ≡ labelWidth) ⌝ }
     ensures { λ r. ⌜ r ≡ nodePlace (now (label .entry)) (storeIn (now (nodes .entry)) .nodes) ⌝ }
 {
@@ -60,7 +60,7 @@ pub fn find(nodes: &[u32], label: &[u32]) -> usize
 }
 
 // The place of the oldest node with no pending write, or the number of nodes where there is none.
-pub fn find_free(nodes: &[u32]) -> usize
+fn find_free(nodes: &[u32]) -> usize
     requires { ⌜ Fit (now nodes) ⌝ }
     ensures { λ r. ⌜ r ≡ oldestFree (storeIn (now (nodes .entry)) .nodes) ⌝ }
 {
@@ -102,7 +102,7 @@ pub fn evict(nodes: &mut [u32], i: usize)
 }
 
 // Adds the label's node last, with the floor as revision and no pending write.
-pub fn add(nodes: &mut [u32], label: &[u32])
+fn add(nodes: &mut [u32], label: &[u32])
     requires { ⌜ Fit (now nodes) × ((getD (now nodes) nodeCountOffset 0 < maxNodes) × (length (now label) ≡ labelWidth)) ⌝ }
     ensures { λ _. ⌜ now (nodes .exit) ≡ withStore (now (nodes .entry)) (added (now (label .entry)) (storeIn (now (nodes .entry)))) ⌝ }
 {

@@ -22,7 +22,7 @@ use rules::Outcome;
 const LIST: usize = Hall::LIST as usize;
 
 // A look: the next node's revision is noted, and whether writes are pending there.
-pub fn look_step(nodes: &mut [u32], clients: &mut [u32], d: usize, k: usize) -> Outcome
+fn look_step(nodes: &mut [u32], clients: &mut [u32], d: usize, k: usize) -> Outcome
     requires { ⌜ Looks (now nodes) (now clients) d k ⌝ }
     ensures { λ r. ⌜ ((t a y : List ℕ) → resultWith r (mem t (now (nodes .exit)) a (now (clients .exit))) y ≡ readResult (mem t (now (nodes .entry)) a (now (clients .entry))) y d (queryAt (shapeOf k) (clientIn narrow (now (clients .entry)) d)) (made (now (clients .entry)) d)) ⌝ }
 {
@@ -51,13 +51,7 @@ fn find_filed(answers: &[u32], clients: &[u32], d: usize) -> usize
 }
 
 // The fetch: a filed answer that is recent enough is answered with.
-pub fn fetch_step(
-    answers: &[u32],
-    clients: &mut [u32],
-    tray: &mut [u32],
-    d: usize,
-    k: usize,
-) -> Outcome
+fn fetch_step(answers: &[u32], clients: &mut [u32], tray: &mut [u32], d: usize, k: usize) -> Outcome
     requires { ⌜ Fetches (now answers) (now clients) (now tray) d k ⌝ }
     ensures { λ r. ⌜ ((t n : List ℕ) → resultWith r (mem t n (now (answers .entry)) (now (clients .exit))) (now (tray .exit)) ≡ readResult (mem t n (now (answers .entry)) (now (clients .entry))) (now (tray .entry)) d (queryAt (shapeOf k) (clientIn narrow (now (clients .entry)) d)) (made (now (clients .entry)) d)) ⌝ }
 {
@@ -87,13 +81,7 @@ fn gather_list(table: &[u32], clients: &mut [u32], d: usize, k: usize) -> usize
 }
 
 // The table step: the list is taken. Where it is too long the read ends; where a look saw a mark it is answered with and not filed.
-pub fn table_step(
-    table: &[u32],
-    clients: &mut [u32],
-    tray: &mut [u32],
-    d: usize,
-    k: usize,
-) -> Outcome
+fn table_step(table: &[u32], clients: &mut [u32], tray: &mut [u32], d: usize, k: usize) -> Outcome
     requires { ⌜ Lists (now table) (now clients) (now tray) d k ⌝ }
     ensures { λ r. ⌜ ((n a : List ℕ) → resultWith r (mem (now (table .entry)) n a (now (clients .exit))) (now (tray .exit)) ≡ readResult (mem (now (table .entry)) n a (now (clients .entry))) (now (tray .entry)) d (queryAt (shapeOf k) (clientIn narrow (now (clients .entry)) d)) (made (now (clients .entry)) d)) ⌝ }
 {
@@ -117,7 +105,7 @@ pub fn table_step(
 }
 
 // The list taken at the table step is filed with the noted revisions, and answered with.
-pub fn file_step(
+fn file_step(
     answers: &mut [u32],
     clients: &mut [u32],
     tray: &mut [u32],

@@ -6,6 +6,9 @@ ghost use Rattle.rules.specs.Outcome.{result, resultWith};
 ghost use Rattle.rules.specs.Calls.{stepResult, abandonResult};
 use rules::Outcome;
 
+// A reader's kind.
+const READS: u32 = Hall::READS;
+
 // One step of the read or write that is under way at the client's desk.
 pub fn step(
     table: &mut [u32],
@@ -24,7 +27,7 @@ pub fn step(
     let d = client as usize;
     let k = clients[Hall::COLUMNS_OFFSET] as usize;
     let kind = clients::kind_of(clients, d);
-    if kind == Hall::READS {
+    if kind == READS {
         return reading::read_step(table, nodes, answers, clients, tray, d, k);
     }
     writing::write_step(table, nodes, clients, d, k)
@@ -47,7 +50,7 @@ pub fn abandon(
     let d = client as usize;
     let k = clients[Hall::COLUMNS_OFFSET] as usize;
     let kind = clients::kind_of(clients, d);
-    if kind == Hall::READS {
+    if kind == READS {
         clients::set_idle(clients, d);
         return Outcome::Accepted;
     }

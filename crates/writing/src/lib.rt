@@ -34,7 +34,7 @@ struct Report {
 
 // ---- Marks
 // A mark at the write's next node. Refused where no node can be added or 12 writes are pending there.
-pub fn announce_step(nodes: &mut [u32], clients: &mut [u32], d: usize, k: usize) -> Outcome
+fn announce_step(nodes: &mut [u32], clients: &mut [u32], d: usize, k: usize) -> Outcome
     requires { ⌜ Writer (now clients) d k ⌝ }
     requires { ⌜ NodeContracts.Fit (now nodes) ⌝ }
     requires { ⌜ stepAt (now clients) d < countAt k (now clients) d ⌝ }
@@ -93,7 +93,7 @@ fn change(table: &mut [u32], kind: u32, cols: [Column; Hall::COLUMN_SLOTS], k: u
 }
 
 // The table step: the change is made, and the client keeps whether the table changed and whether it was full.
-pub fn write_table_step(table: &mut [u32], clients: &mut [u32], d: usize, k: usize) -> Outcome
+fn write_table_step(table: &mut [u32], clients: &mut [u32], d: usize, k: usize) -> Outcome
     requires { ⌜ Writer (now clients) d k ⌝ }
     requires { ⌜ TableContracts.Fit k (now table) ⌝ }
     requires { ⌜ stepAt (now clients) d ≡ countAt k (now clients) d ⌝ }
@@ -134,7 +134,7 @@ fn after_raise(clients: &mut [u32], d: usize, last: bool) -> Outcome
 }
 
 // A raise at the write's next node. Refused where the node is missing, has no pending write or cannot be raised.
-pub fn raise_step(nodes: &mut [u32], clients: &mut [u32], d: usize, k: usize) -> Outcome
+fn raise_step(nodes: &mut [u32], clients: &mut [u32], d: usize, k: usize) -> Outcome
     requires { ⌜ Writer (now clients) d k ⌝ }
     requires { ⌜ NodeContracts.Fit (now nodes) ⌝ }
     requires { ⌜ countAt k (now clients) d < stepAt (now clients) d ⌝ }
