@@ -14,8 +14,8 @@ use Rattle.laws.specs.Splice.{removed}
 use Rattle.laws.proofs.EntryLaws.{with-append, with-remove, with-replace, with-none}
 use Rattle.rules.specs.Answers.{Entry, lengthIn, listIn, keyPlace, filed}
 use Rattle.lists.specs.Lists.{header}
-use Rattle.query.specs.Shape.{narrow}
-use Rattle.rules.specs.Layout.{entryWidth}
+use Rattle.query.specs.Shape.{shapeOf, maxColumns, narrow}
+use Rattle.rules.specs.Layout.{maxAnswers, maxList, answerCountOffset, lengthOffset, listOffset, listWidth, entryWidth}
 use Rattle.rules.specs.Memory.{answersIn, withAnswers}
 use Rattle.answers.specs.AnswerContracts.{Fit, Gave}
 use Rattle.answers.proofs.AnswerScan.{count-is, part-is}
@@ -27,26 +27,26 @@ zeros-written s n = rw (length-replicate, append-assoc)
 
 module _ (s : List ℕ) (fit : Fit s) where
   -- ---- behind the last, out, out and behind the last, all out
-  pub appended : (t x : List ℕ) → t ≡ written s (8 + getD s 0 0 * entryWidth narrow) x → set t 0 (getD s 0 0 + 1) ≡ withAnswers narrow s (answersIn narrow s ++ (x ∷ []))
+  pub appended : (t x : List ℕ) → t ≡ written s (8 + getD s answerCountOffset 0 * entryWidth narrow) x → set t 0 (getD s answerCountOffset 0 + 1) ≡ withAnswers narrow s (answersIn narrow s ++ (x ∷ []))
   unfolding answersIn withAnswers
   appended t x e = rw e (sym (with-append 0 (entryWidth narrow) s (room s fit) x))
 
-  pub evicted : (t : List ℕ) (i : ℕ) → t ≡ removed s (header + i * entryWidth narrow) (entryWidth narrow) (8 + getD s 0 0 * entryWidth narrow) → i < getD s 0 0 → set t 0 (getD s 0 0 - 1) ≡ withAnswers narrow s (without i (answersIn narrow s))
+  pub evicted : (t : List ℕ) (i : ℕ) → t ≡ removed s (header + i * entryWidth narrow) (entryWidth narrow) (8 + getD s answerCountOffset 0 * entryWidth narrow) → i < getD s answerCountOffset 0 → set t 0 (getD s answerCountOffset 0 - 1) ≡ withAnswers narrow s (without i (answersIn narrow s))
   unfolding answersIn withAnswers
   evicted t i e h = rw e (sym (with-remove 0 (entryWidth narrow) s (room s fit) i h))
 
-  pub replaced : (t u x : List ℕ) (i : ℕ) → t ≡ removed s (header + i * entryWidth narrow) (entryWidth narrow) (8 + getD s 0 0 * entryWidth narrow) → u ≡ written t (8 + getD s 0 0 * entryWidth narrow - entryWidth narrow) x → i < getD s 0 0 → length x ≡ entryWidth narrow
+  pub replaced : (t u x : List ℕ) (i : ℕ) → t ≡ removed s (header + i * entryWidth narrow) (entryWidth narrow) (8 + getD s answerCountOffset 0 * entryWidth narrow) → u ≡ written t (8 + getD s answerCountOffset 0 * entryWidth narrow - entryWidth narrow) x → i < getD s answerCountOffset 0 → length x ≡ entryWidth narrow
       → u ≡ withAnswers narrow s (without i (answersIn narrow s) ++ (x ∷ []))
   unfolding answersIn withAnswers
   replaced t u x i e f h k =
-      let m : 8 + getD s 0 0 * entryWidth narrow - entryWidth narrow ≡ 8 + (getD s 0 0 - 1) * entryWidth narrow = omega arith in
+      let m : 8 + getD s answerCountOffset 0 * entryWidth narrow - entryWidth narrow ≡ 8 + (getD s answerCountOffset 0 - 1) * entryWidth narrow = omega arith in
       f ∙ rw (m, e) (sym (with-replace 0 (entryWidth narrow) s (room s fit) i x (omega arith) h k))
 
-  pub emptied : (t : List ℕ) → t ≡ replicate (getD s 0 0 * entryWidth narrow) 0 ++ drop (getD s 0 0 * entryWidth narrow) (take (length s - 8) (drop 8 s))
+  pub emptied : (t : List ℕ) → t ≡ replicate (getD s answerCountOffset 0 * entryWidth narrow) 0 ++ drop (getD s answerCountOffset 0 * entryWidth narrow) (take (length s - 8) (drop 8 s))
       → set (putMid 8 (length s - 8) s t) 0 0 ≡ withAnswers narrow s []
   unfolding withAnswers
   emptied t e =
-      let n : ℕ = getD s 0 0 * entryWidth narrow in
+      let n : ℕ = getD s answerCountOffset 0 * entryWidth narrow in
       let m : length (drop 8 s) ≤ length s - 8 = rw length-drop (omega arith) in
       let a : take (length s - 8) (drop 8 s) ≡ drop 8 s = take-all (length s - 8) (drop 8 s) m in
       let b : drop (length s - 8) (drop 8 s) ≡ [] = drop-of-length-le (drop 8 s) m in
@@ -57,39 +57,39 @@ module _ (s : List ℕ) (fit : Fit s) where
 
 -- ---- what is filed
 module _ (s : List ℕ) where
-  pub filed-same : (x : Entry) (i : ℕ) → i ≡ keyPlace x (answersIn narrow s) → i < getD s 0 0 → filed x (answersIn narrow s) ≡ without i (answersIn narrow s) ++ (x ∷ [])
+  pub filed-same : (x : Entry) (i : ℕ) → i ≡ keyPlace x (answersIn narrow s) → i < getD s answerCountOffset 0 → filed x (answersIn narrow s) ≡ without i (answersIn narrow s) ++ (x ∷ [])
   unfolding filed
   filed-same x i e h =
-      let l : length (answersIn narrow s) ≡ getD s 0 0 = count-is s in
+      let l : length (answersIn narrow s) ≡ getD s answerCountOffset 0 = count-is s in
       rw (← e, lt-ltb i (length (answersIn narrow s)) (omega arith))
 
-  pub filed-new : (x : Entry) (i : ℕ) → i ≡ keyPlace x (answersIn narrow s) → getD s 0 0 ≤ i → getD s 0 0 < 64 → filed x (answersIn narrow s) ≡ answersIn narrow s ++ (x ∷ [])
+  pub filed-new : (x : Entry) (i : ℕ) → i ≡ keyPlace x (answersIn narrow s) → getD s answerCountOffset 0 ≤ i → getD s answerCountOffset 0 < maxAnswers → filed x (answersIn narrow s) ≡ answersIn narrow s ++ (x ∷ [])
   unfolding filed
   filed-new x i e h k =
-      let l : length (answersIn narrow s) ≡ getD s 0 0 = count-is s in
-      rw (← e, le-ltb i (length (answersIn narrow s)) (omega arith), lt-ltb (length (answersIn narrow s)) 64 (omega arith))
+      let l : length (answersIn narrow s) ≡ getD s answerCountOffset 0 = count-is s in
+      rw (← e, le-ltb i (length (answersIn narrow s)) (omega arith), lt-ltb (length (answersIn narrow s)) maxAnswers (omega arith))
 
-  pub filed-full : (x : Entry) (i : ℕ) → i ≡ keyPlace x (answersIn narrow s) → getD s 0 0 ≤ i → 64 ≤ getD s 0 0 → filed x (answersIn narrow s) ≡ without 0 (answersIn narrow s) ++ (x ∷ [])
+  pub filed-full : (x : Entry) (i : ℕ) → i ≡ keyPlace x (answersIn narrow s) → getD s answerCountOffset 0 ≤ i → maxAnswers ≤ getD s answerCountOffset 0 → filed x (answersIn narrow s) ≡ without 0 (answersIn narrow s) ++ (x ∷ [])
   unfolding filed
   filed-full x i e h k =
-      let l : length (answersIn narrow s) ≡ getD s 0 0 = count-is s in
-      rw (← e, le-ltb i (length (answersIn narrow s)) (omega arith), le-ltb (length (answersIn narrow s)) 64 (omega arith))
+      let l : length (answersIn narrow s) ≡ getD s answerCountOffset 0 = count-is s in
+      rw (← e, le-ltb i (length (answersIn narrow s)) (omega arith), le-ltb (length (answersIn narrow s)) maxAnswers (omega arith))
 
 -- ---- what is given
-pub list-fits : (e : Entry) (k : ℕ) → lengthIn e ≤ 32 → k ≤ 4 → getD e 7 0 * k ≤ 128
+pub list-fits : (e : Entry) (k : ℕ) → lengthIn e ≤ maxList → k ≤ maxColumns → getD e lengthOffset 0 * k ≤ listWidth
 unfolding lengthIn
-list-fits e k h g = let a : getD e 7 0 * k ≤ 32 * k = mul-le-mul-right k h in omega arith
+list-fits e k h g = let a : getD e lengthOffset 0 * k ≤ maxList * k = mul-le-mul-right k h in omega arith
 
-pub gave : (k : ℕ) (e tray after : List ℕ) → after ≡ written tray 0 (take (24 + getD e 7 0 * k - 24) (drop 24 e)) → Gave k e tray (getD e 7 0) after
+pub gave : (k : ℕ) (e tray after : List ℕ) → after ≡ written tray 0 (take (listOffset narrow (shapeOf k) + getD e lengthOffset 0 * k - listOffset narrow (shapeOf k)) (drop (listOffset narrow (shapeOf k)) e)) → Gave k e tray (getD e lengthOffset 0) after
 unfolding lengthIn listIn
 gave k e tray after h =
-    let m : 24 + getD e 7 0 * k - 24 ≡ getD e 7 0 * k = omega arith in
+    let m : listOffset narrow (shapeOf k) + getD e lengthOffset 0 * k - listOffset narrow (shapeOf k) ≡ getD e lengthOffset 0 * k = omega arith in
     record { count = refl; list = rw m at h }
 
 -- the list of entry i, where it stands in the memory
-pub short-part : (s : List ℕ) (i : ℕ) → lengthIn (getD (answersIn narrow s) i []) ≤ 32 → i < getD s 0 0 → lengthIn (take (header + i * entryWidth narrow + entryWidth narrow - (header + i * entryWidth narrow)) (drop (header + i * entryWidth narrow) s)) ≤ 32
+pub short-part : (s : List ℕ) (i : ℕ) → lengthIn (getD (answersIn narrow s) i []) ≤ maxList → i < getD s answerCountOffset 0 → lengthIn (take (header + i * entryWidth narrow + entryWidth narrow - (header + i * entryWidth narrow)) (drop (header + i * entryWidth narrow) s)) ≤ maxList
 short-part s i h k = rw (part-is s (header + i * entryWidth narrow) i refl k) h
 
-pub gave-at : (s : List ℕ) (i k r : ℕ) (tray after : List ℕ) → Gave k (take (header + i * entryWidth narrow + entryWidth narrow - (header + i * entryWidth narrow)) (drop (header + i * entryWidth narrow) s)) tray r after → i < getD s 0 0
+pub gave-at : (s : List ℕ) (i k r : ℕ) (tray after : List ℕ) → Gave k (take (header + i * entryWidth narrow + entryWidth narrow - (header + i * entryWidth narrow)) (drop (header + i * entryWidth narrow) s)) tray r after → i < getD s answerCountOffset 0
     → Gave k (getD (answersIn narrow s) i []) tray r after
 gave-at s i k r tray after h g = rw (part-is s (header + i * entryWidth narrow) i refl g) at h

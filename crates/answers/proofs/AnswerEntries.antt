@@ -14,7 +14,7 @@ use Rattle.laws.proofs.RowLaws.{Wide, wide-nil, wide-snoc, wide-without, wide-a
 use Rattle.laws.proofs.EntryLaws.{length-entries, wide-entries, length-with, count-with, entries-with}
 use Rattle.rules.specs.Answers.{Entry, keyPlace, filed}
 use Rattle.query.specs.Shape.{narrow}
-use Rattle.rules.specs.Layout.{entryWidth}
+use Rattle.rules.specs.Layout.{maxAnswers, answerCountOffset, entryWidth}
 use Rattle.rules.specs.Memory.{answersIn, withAnswers}
 use Rattle.answers.specs.AnswerContracts.{Fit}
 use Rattle.answers.proofs.AnswerScan.{count-is}
@@ -22,18 +22,18 @@ use Rattle.answers.proofs.AnswerScan.{count-is}
 -- entries of 152 numbers, no more than are kept
 pub record Kept (es : List Entry) : Type 0 where
   pub wide : Wide (entryWidth narrow) es
-  pub few : length es ≤ 64
+  pub few : length es ≤ maxAnswers
 
 -- ---- what a fit memory holds
 module _ (s : List ℕ) (fit : Fit s) where
-  pub room : 8 + getD s 0 0 * entryWidth narrow ≤ length s
+  pub room : 8 + getD s answerCountOffset 0 * entryWidth narrow ≤ length s
   room = let a = fit .long in let b = fit .few in omega arith
 
   pub answers-kept : Kept (answersIn narrow s)
   unfolding answersIn
   answers-kept = let b = fit .few in let l = length-entries 0 (entryWidth narrow) s in record { wide = wide-entries 0 (entryWidth narrow) s room; few = omega arith }
 
-  pub answer-length : (i : ℕ) → i < getD s 0 0 → length (getD (answersIn narrow s) i []) ≡ entryWidth narrow
+  pub answer-length : (i : ℕ) → i < getD s answerCountOffset 0 → length (getD (answersIn narrow s) i []) ≡ entryWidth narrow
   unfolding answersIn
   answer-length i h = let l = length-entries 0 (entryWidth narrow) s in wide-at (entryWidth narrow) (entriesIn 0 (entryWidth narrow) s) i (wide-entries 0 (entryWidth narrow) s room) (omega arith)
 
@@ -66,7 +66,7 @@ module _ (s : List ℕ) (fit : Fit s) (es : List Entry) (kept : Kept es) where
 pub none-kept : Kept []
 none-kept = record { wide = wide-nil (entryWidth narrow); few = omega arith }
 
-snoc-kept : (x : Entry) (l : List Entry) → length x ≡ entryWidth narrow → Wide (entryWidth narrow) l → length l < 64 → Kept (l ++ (x ∷ []))
+snoc-kept : (x : Entry) (l : List Entry) → length x ≡ entryWidth narrow → Wide (entryWidth narrow) l → length l < maxAnswers → Kept (l ++ (x ∷ []))
 snoc-kept x l h w k = let a = length-append l (x ∷ []) in record { wide = wide-snoc (entryWidth narrow) l x w h; few = omega arith }
 
 module _ (es : List Entry) (kept : Kept es) where
@@ -78,19 +78,19 @@ module _ (es : List Entry) (kept : Kept es) where
 
   pub filed-kept : (x : Entry) → length x ≡ entryWidth narrow → Kept (filed x es)
   unfolding filed
-  filed-kept x h = go (ltb (keyPlace x es) (length es)) refl (ltb (length es) 64) refl
+  filed-kept x h = go (ltb (keyPlace x es) (length es)) refl (ltb (length es) maxAnswers) refl
     where
-      go : (a : Bool) → ltb (keyPlace x es) (length es) ≡ a → (b : Bool) → ltb (length es) 64 ≡ b
+      go : (a : Bool) → ltb (keyPlace x es) (length es) ≡ a → (b : Bool) → ltb (length es) maxAnswers ≡ b
           → Kept (cond a (without (keyPlace x es) es) (cond b es (without 0 es)) ++ (x ∷ []))
       go true e b f =
           let k = kept .few in
           let q : keyPlace x es < length es = ltb-true (keyPlace x es) (length es) e in
           let l = length-without (keyPlace x es) es q in
           snoc-kept x (without (keyPlace x es) es) h (wide-without (entryWidth narrow) (keyPlace x es) es (kept .wide)) (omega arith)
-      go false e true f = snoc-kept x es h (kept .wide) (ltb-true (length es) 64 f)
+      go false e true f = snoc-kept x es h (kept .wide) (ltb-true (length es) maxAnswers f)
       go false e false f =
           let k = kept .few in
-          let q : 64 ≤ length es = ltb-false (length es) 64 f in
+          let q : maxAnswers ≤ length es = ltb-false (length es) maxAnswers f in
           let l = length-without 0 es (omega arith) in
           snoc-kept x (without 0 es) h (wide-without (entryWidth narrow) 0 es (kept .wide)) (omega arith)
 
@@ -107,7 +107,7 @@ module _ (s : List ℕ) (fit : Fit s) where
   pub file-stays : (x : Entry) → length x ≡ entryWidth narrow → Stays s (filed x (answersIn narrow s))
   file-stays x h = stays s fit (filed x (answersIn narrow s)) (filed-kept (answersIn narrow s) (answers-kept s fit) x h)
 
-  pub evict-stays : (i : ℕ) → i < getD s 0 0 → Stays s (without i (answersIn narrow s))
+  pub evict-stays : (i : ℕ) → i < getD s answerCountOffset 0 → Stays s (without i (answersIn narrow s))
   evict-stays i h = let l = count-is s in stays s fit (without i (answersIn narrow s)) (without-kept (answersIn narrow s) (answers-kept s fit) i (omega arith))
 
   pub empty-stays : Stays s []

@@ -6,12 +6,13 @@ use Prim.Native.Nat.{ℕ, _≤_}
 use lib.ListN.{length, getD}
 use Rattle.lists.specs.Lists.{written}
 use Rattle.query.specs.Shape.{shapeOf, narrow}
+use Rattle.rules.specs.Layout.{maxAnswers, answerCountOffset, answersEnd}
 use Rattle.rules.specs.Answers.{Entry, lengthIn, listIn}
 
 -- an answers memory that is long enough, and holds no more answers than are kept
 pub record Fit (s : List ℕ) : Type 0 where
-  pub long : 10000 ≤ length s
-  pub few : getD s 0 0 ≤ 64
+  pub long : answersEnd narrow ≤ length s
+  pub few : getD s answerCountOffset 0 ≤ maxAnswers
 
 -- r is the number of records of e, and they stand from the tray's start on; what the tray had behind them stays
 pub record Gave (k : ℕ) (e : Entry) (tray : List ℕ) (r : ℕ) (after : List ℕ) : Type 0 where

@@ -24,7 +24,7 @@ module _ (m : Mem) (s : Sound m) where
   nodes-fit = record { long = s .long .nodes; few = s .nodes }
 
   pub answers-fit : answers.Fit (m .answers)
-  answers-fit = record { long = s .long .answers; few = s .answers }
+  answers-fit = record { long = (let l = s .long .answers in omega arith); few = s .answers }
 
   pub client-fit : (d : ℕ) → d < maxClients → client-contracts.Fit (m .clients) d
   client-fit d h = record { long = (let l = s .long .clients in omega arith); below = h }

@@ -21,7 +21,7 @@ use Rattle.rules.specs.Nodes.{labelIn, pending, revision, withPending, withRevi
 use Rattle.rules.specs.Answers.{Entry, keyIn, lengthIn, revisionIn, listIn, hasKeyOf, atLeast, serves, fetchPlace, keyPlace, filed, isLong, someLong}
 use Rattle.rules.specs.Client.{kind, steps, sawPending, entryOf, idle, isIdle, begun, queryAt, stepsInAll, isBad, stepped, noted, holding}
 use Rattle.query.specs.Shape.{shapeOf, narrow}
-use Rattle.rules.specs.Layout.{reads}
+use Rattle.rules.specs.Layout.{tableLeast, nodesLeast, answersLeast, clientsLeast, trayLeast, reads}
 use Rattle.rules.specs.Memory.{Mem, mem, recordsIn, storeIn, withStore, answersIn, withAnswers, clientIn, withClient, cleared, opened}
 use Rattle.rules.specs.Outcome.{number}
 use Rattle.rules.specs.Refusals.{columns, client, isShort, badColumns, badQuery, isUnsound, noClient, openCode, beginCode, atClient, stepCode}
@@ -37,7 +37,7 @@ use Rattle.demands.proofs.Moments.{asking}
 use Rattle.demands.proofs.Demand2Holds.{demand-2-gets}
 
 abbrev pub tray : List ℕ
-tray = replicate 128 9
+tray = replicate trayLeast 9
 
 -- calls 0 to 5: a read of 5, which files; 6 to 9: another, up to its fetch
 abbrev pub asked : List ℕ
@@ -49,7 +49,7 @@ played =
     ∷ beginRead 0 asked ∷ step 0 tray ∷ step 0 tray ∷ step 0 tray ∷ []
 
 abbrev pub lent : Mem
-lent = mem (replicate 8200 7) (replicate 8200 7) (replicate 10000 7) (replicate 2000 7)
+lent = mem (replicate tableLeast 7) (replicate (nodesLeast narrow) 7) (replicate (answersLeast narrow (shapeOf 1)) 7) (replicate (clientsLeast narrow (shapeOf 1)) 7)
 
 pub may-open : openCode lent 1 ≡ 0
 unfolding openCode isShort badColumns

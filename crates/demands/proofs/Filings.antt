@@ -38,6 +38,7 @@ use Rattle.demands.proofs.Moments.{asking, filing-there, files-there}
 use Rattle.demands.proofs.Taken.{step-taken, file-step, file-accepted}
 use Rattle.demands.proofs.Works.{Since}
 use Rattle.demands.proofs.Flags.{flagsAt, quiescent-then, quiescent-less, reading, since-key, on-client}
+use Rattle.rules.specs.Layout.{maxClients}
 
 -- ---- A step's reply
 pub step-reply : (h : History) (n d : ℕ) (tray : List ℕ) → callAt h n ≡ rules.step d tray → responseAt h n ≡ responseOf (shape (memAt h n)) (stepResult (memAt h n) tray d)
@@ -86,7 +87,7 @@ files-given s (evictAnswer i) a q k = absurd (false≢true k)
 files-given s (evictNode i) a q k = absurd (false≢true k)
 files-given s rules.renew a q k = absurd (false≢true k)
 
-low-client : (s : State) (d : ℕ) (q : Key) (ns : List ℕ) (l : Val) → StateInv s → s .clients d ≡ filing q ns l → d < 12
+low-client : (s : State) (d : ℕ) (q : Key) (ns : List ℕ) (l : Val) → StateInv s → s .clients d ≡ filing q ns l → d < maxClients
 low-client s d q ns l v e = byTest (leb 12 d)
     (λ t. absurd (not-idle (sym (v .high d (leb-true 12 d t)) ∙ e)))
     (λ t. leb-false 12 d t)

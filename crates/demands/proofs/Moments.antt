@@ -20,7 +20,7 @@ use Rattle.rules.specs.Nodes.{isPresent}
 use Rattle.rules.specs.Answers.{Entry}
 use Rattle.rules.specs.Client.{Client, kind, steps, isIdle, entryOf, queryAt, writeAt, sawPending}
 use Rattle.query.specs.Shape.{Shape, narrow}
-use Rattle.rules.specs.Layout.{reads}
+use Rattle.rules.specs.Layout.{maxClients, clientWidth, reads}
 use Rattle.rules.specs.Memory.{Mem, storeIn}
 use Rattle.rules.specs.Refusals.{shape, columns, client}
 use Rattle.revisions.proofs.EffectiveRevision.{NoDup, has}
@@ -90,7 +90,7 @@ key-is : (sh : Shape) (c : Client) (q : Query) → queryAt sh c ≡ q → keyOf 
 unfolding keyOf queryAt
 key-is sh c q e = λ i. record { asked = e i }
 
-revisions-length : (n : ℕ) (c : Client) → length c ≡ 157 → n ≤ 16 → length (revisionsIn n (entryOf c)) ≡ n
+revisions-length : (n : ℕ) (c : Client) → length c ≡ clientWidth narrow → n ≤ 16 → length (revisionsIn n (entryOf c)) ≡ n
 unfolding revisionsIn entryOf
 revisions-length n c w l =
     let a = length-drop 5 c in
@@ -170,7 +170,7 @@ reader-files m d q ns l g b r e =
     let z = ap readCount a in
     record { below = g .below; busy = b; reader = r; asks = a; made = omega arith }))
 
-pub files-there : (m : Mem) (d : ℕ) (q : Key) (ns : List ℕ) (l : Val) → Fits m → NoDup (storeIn (m .nodes) .nodes) → d < 12
+pub files-there : (m : Mem) (d : ℕ) (q : Key) (ns : List ℕ) (l : Val) → Fits m → NoDup (storeIn (m .nodes) .nodes) → d < maxClients
     → stateOf m .clients d ≡ filing q ns l → Reads m d (q .asked) (readCount (q .asked) + 2)
 files-there m d q ns l f once h e =
     let e′ : phaseOf (shape m) (client m d) ≡ filing q ns l = sym (client-at m d h) ∙ e in

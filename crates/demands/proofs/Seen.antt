@@ -14,7 +14,7 @@ use Rattle.query.specs.Query.{Query, Record, lies, writeCount}
 use Rattle.rules.specs.Table.{Table, Write, insert, delete, target, has, effect, noRoom}
 use Rattle.rules.specs.Client.{Client, kind, steps, isIdle, entryOf, sawPending, didChange, foundFull, writeAt}
 use Rattle.query.specs.Shape.{Shape, narrow}
-use Rattle.rules.specs.Layout.{reads}
+use Rattle.rules.specs.Layout.{maxClients, reads}
 use Rattle.rules.specs.Memory.{Mem}
 use Rattle.rules.specs.Refusals.{shape, columns, client}
 use Rattle.records.proofs.RecordSets.{has-insert, has-delete, no-room-same}
@@ -82,7 +82,7 @@ client-announces sh c w i v r e f = byTest (isIdle narrow c)
 
 -- no desk is about to undo it
 abbrev Quiescent : Bool → Record → State → Type 0
-Quiescent v r s = (d : ℕ) (w : Write) (i : ℕ) → d < 12 → s .clients d ≡ announcing w i → undoes v r w ≡ false
+Quiescent v r s = (d : ℕ) (w : Write) (i : ℕ) → d < maxClients → s .clients d ≡ announcing w i → undoes v r w ≡ false
 
 quiescent-there : (v : Bool) (r : Record) (m : Mem) → isUnopposed v r m ≡ true → Quiescent v r (stateOf m)
 unfolding isUnopposed

@@ -13,7 +13,7 @@ use lib.ListN.{length}
 use Rattle.laws.proofs.ListLaws.{below-at}
 use Rattle.laws.proofs.TestLaws.{byTest, clash}
 use Rattle.query.specs.Query.{Query}
-use Rattle.rules.specs.Layout.{maxList}
+use Rattle.rules.specs.Layout.{maxClients, maxList}
 use Rattle.rules.specs.Table.{Write, listOf, effect}
 use Rattle.rules.specs.History as rules
 use Rattle.machine.proofs.Sharing.{effect-list}
@@ -37,7 +37,7 @@ use Rattle.demands.proofs.Moments.{asking, quiet-there}
 use Rattle.demands.proofs.Demand3Holds.{table-is}
 
 -- ---- A query's list
-not-open : (s : State) (q : Query) (d : ℕ) (w : Write) (i : ℕ) → quiet s (asking q) ≡ true → d < 12 → s .clients d ≡ announcing w i → touches (asking q) w ≡ false
+not-open : (s : State) (q : Query) (d : ℕ) (w : Write) (i : ℕ) → quiet s (asking q) ≡ true → d < maxClients → s .clients d ≡ announcing w i → touches (asking q) w ≡ false
 unfolding quiet opens
 not-open s q d w i e l k =
     let z = not-true (opens (s .clients d) (asking q)) (below-at 12 (λ d. not (opens (s .clients d) (asking q))) d e l) in

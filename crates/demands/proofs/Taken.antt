@@ -17,7 +17,7 @@ use Rattle.rules.specs.declared.Outcome.the-variants.{Answered}
 use Rattle.rules.specs.Answers.{Entry, lengthIn, listIn, fetchPlace}
 use Rattle.rules.specs.Client.{kind, entryOf, sawPending}
 use Rattle.query.specs.Shape.{Shape, narrow}
-use Rattle.rules.specs.Layout.{reads}
+use Rattle.rules.specs.Layout.{entryWidth, reads}
 use Rattle.rules.specs.Memory.{Mem, answersIn}
 use Rattle.rules.specs.Outcome.{StepResult}
 use Rattle.rules.specs.Refusals.{shape, columns, client, stepCode}
@@ -28,7 +28,7 @@ use Rattle.machine.proofs.Sums.{in-at}
 use Rattle.machine.proofs.Keys.{Val}
 use Rattle.machine.proofs.Machine as machine
 use Rattle.machine.proofs.Trace.{isRefused}
-use Rattle.refinement.proofs.Abstraction.{responseIn, responseOf, valueIn, Fits}
+use Rattle.refinement.proofs.Abstraction.{answers-room, responseIn, responseOf, valueIn, Fits}
 use Rattle.refinement.proofs.MemoryReads.{wide-answers, wide-in}
 use Rattle.refinement.proofs.StepFrame.{length-list}
 use Rattle.demands.specs.Demand2.{Reads}
@@ -100,7 +100,7 @@ fetch-gave m tray d i e f a = byTest (not (sawPending (client m d)) && ltb i (le
     let x = getD es i [] in
     let h = ltb-true i (length es) (and-right (not (sawPending (client m d))) _ t) in
     let j = in-at [] es i h in
-    let w = wide-in 152 (wide-answers (m .answers) (f .answers-long) (f .answers)) j in
+    let w = wide-in (entryWidth narrow) (wide-answers (m .answers) (answers-room m f) (f .answers)) j in
     let l = length-list (shape m) x w (list-room (lengthIn x) (columns m) (f .kept x j .short) (f .few)) in
     let z = list-given (shape m) tray x e l (rw t at a) in
     rw t (record { out = ap (λ n. Answered n true) (z .0); tray = ap (written tray 0) (z .1) }))

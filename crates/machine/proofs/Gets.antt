@@ -29,6 +29,7 @@ use Rattle.machine.proofs.StateInv.{StateInv, fit-at}
 use Rattle.machine.proofs.Trace.{isRefused}
 use Rattle.machine.proofs.Quiescence.{Quiescent, quiescent, keyAt, filesAt, begins, files, clientOf, quiescent-next, Still, Settled, QuiescenceInv, Steady}
 use Rattle.machine.proofs.Quiescence.{same-client, turned, begun, FileTurn, old, new, Turn, turn-keeps, none-pending, still-moves, quiescent-quiet}
+use Rattle.rules.specs.Layout.{maxClients}
 
 -- ---- Calls by what they change
 -- no desk changes, and the file loses at most
@@ -134,7 +135,7 @@ file-case s d q ns l v e a i = elim (in-filed q ns l (s .filed) (v .one) i) [
 ]
 
 -- ---- The raises: only a label that is owed is lifted
-raised-steady : (s : State) (t : Store) (d : ℕ) (w : Write) (j : ℕ) (c f : Bool) → StateInv s → d < 12 → s .clients d ≡ raising w j c f
+raised-steady : (s : State) (t : Store) (d : ℕ) (w : Write) (j : ℕ) (c f : Bool) → StateInv s → d < maxClients → s .clients d ≡ raising w j c f
     → Raised true (getD (writeLabels w) j [] ∷ []) (s .store) t → Steady s (with-store s t)
 unfolding with-store owes owing
 raised-steady s t d w j c f v l e m q a b z =

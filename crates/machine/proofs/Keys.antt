@@ -16,6 +16,7 @@ use Rattle.query.specs.declared.Column.{Column}
 use Rattle.query.specs.declared.Column.the-variants.{Is, Wildcard}
 use Rattle.query.specs.Query.{Query, Record, Meet, readNode, writeNode, readCount, writeCount, readNodes, writeNodes}
 use Rattle.query.specs.Encoding.{labelWords}
+use Rattle.query.specs.Shape.{maxColumns}
 use Rattle.rules.specs.Layout.{maxList}
 use Rattle.rules.specs.Table.{Table, Write, target, listOf, effect}
 use Rattle.machine.proofs.Sums.{Words, In}
@@ -133,11 +134,11 @@ pub length-writeLabels : (w : Write) → length (writeLabels w) ≡ writeCount (
 unfolding writeLabels writeNodes
 length-writeLabels w = length-map labelWords (writeNodes (target w)) ∙ length-listed (writeNode (target w)) 0 (writeCount (target w))
 
-pub read-few : (q : Key) (k : ℕ) → width q ≡ k → k ≤ 4 → length (readLabels q) ≤ 16
+pub read-few : (q : Key) (k : ℕ) → width q ≡ k → k ≤ maxColumns → length (readLabels q) ≤ 16
 unfolding width
 read-few q k e l = rw (length-readLabels q) (read-count-most (q .asked) (omega arith))
 
-pub write-few : (w : Write) (k : ℕ) → widthOf w ≡ k → k ≤ 4 → length (writeLabels w) ≤ 16
+pub write-few : (w : Write) (k : ℕ) → widthOf w ≡ k → k ≤ maxColumns → length (writeLabels w) ≤ 16
 unfolding widthOf
 write-few w k e l = rw (length-writeLabels w) (write-count-most (target w) (omega arith))
 

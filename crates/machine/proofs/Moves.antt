@@ -13,6 +13,7 @@ use lib.ListN.{length, getD, length-append, List·getD-append}
 use lib.Seq.{getD-append-seam}
 use Rattle.laws.proofs.TestLaws.{byTest, clash, or-left, or-right}
 use Rattle.query.specs.Shape.{Shape}
+use Rattle.rules.specs.Layout.{maxClients}
 use Rattle.rules.specs.Table.{Write, effect}
 use Rattle.rules.specs.Nodes.{Store}
 use Rattle.revisions.proofs.EffectiveRevision.{effective, pendingOf, tally, Grew}
@@ -100,7 +101,7 @@ behind-moves m q ns saw r b (inr z) = inr (
 
 -- ---- A move by a change of one desk
 pub record MoveAt (s t : State) (d : ℕ) (x : Phase) : Type 0 where
-  pub low : d < 12
+  pub low : d < maxClients
   pub clients : t .clients ≡ upd (s .clients) d x
   pub shape : t .shape ≡ s .shape
   pub lists : (q : Key) → width q ≡ s .shape .columns → (valueOf q (t .tab) ≡ valueOf q (s .tab)) ⊎ ((j : ℕ) × (j < length (readLabels q)) × Owed t (node q j))
@@ -162,7 +163,7 @@ pub same-lists : (s t : State) → t .tab ≡ s .tab → (q : Key) → width q �
 same-lists s t e q f = inl (ap (valueOf q) e)
 
 -- a desk that owes nothing becomes one that holds no list; table and answers stay
-pub quiet-move : (s t : State) (d : ℕ) (x : Phase) → d < 12 → t .clients ≡ upd (s .clients) d x → t .tab ≡ s .tab → t .filed ≡ s .filed → t .shape ≡ s .shape
+pub quiet-move : (s t : State) (d : ℕ) (x : Phase) → d < maxClients → t .clients ≡ upd (s .clients) d x → t .tab ≡ s .tab → t .filed ≡ s .filed → t .shape ≡ s .shape
     → ((p : Words) → effective (s .store) p ≤ effective (t .store) p) → ((p : Words) → tally p (owes (s .clients d)) ≡ 0) → isFiling x ≡ false → MoveAt s t d x
 quiet-move s t d x l e a f c m o n = record {
   low = l;
@@ -200,14 +201,14 @@ out-move s t g = record {
 }
 
 -- a write's table step: a list is as it was, or the write owes a node of its key
-shares-owed : (s : State) (d : ℕ) (w : Write) (c f : Bool) (q : Key) → d < 12 → s .clients d ≡ raising w 0 c f → Shares q w
+shares-owed : (s : State) (d : ℕ) (w : Write) (c f : Bool) (q : Key) → d < maxClients → s .clients d ≡ raising w 0 c f → Shares q w
     → (j : ℕ) × (j < length (readLabels q)) × Owed s (node q j)
 unfolding owes owing node
 shares-owed s d w c f q l e z =
     let i = in-place [] (z .1) in
     (i .0, i .1, (d, l, rw (i .2, e) (tally-in (z .0) (writeLabels w) (z .2))))
 
-pub wrote-lists : (s t : State) (d : ℕ) (w : Write) (c f : Bool) (q : Key) → width q ≡ widthOf w → d < 12 → t .clients d ≡ raising w 0 c f
+pub wrote-lists : (s t : State) (d : ℕ) (w : Write) (c f : Bool) (q : Key) → width q ≡ widthOf w → d < maxClients → t .clients d ≡ raising w 0 c f
     → t .tab ≡ effect w (s .tab)
     → (valueOf q (t .tab) ≡ valueOf q (s .tab)) ⊎ ((j : ℕ) × (j < length (readLabels q)) × Owed t (node q j))
 wrote-lists s t d w c f q z l e m = elim (effect-value w q (s .tab) z)

@@ -21,6 +21,7 @@ use Rattle.machine.proofs.Sums.{upd-other, In, here, there}
 use Rattle.machine.proofs.Keys.{writeLabels}
 use Rattle.machine.proofs.Machine.{State, Phase, idle, looking, tabling, filing, announcing, raising}
 use Rattle.machine.proofs.Transition.{isReader}
+use Rattle.rules.specs.Layout.{maxClients}
 
 -- ---- What a desk holds and owes
 unfoldable pub holds : Phase → List Words
@@ -51,7 +52,7 @@ held-of f p = sumBelow 12 (λ d. tally p (holds (f d)))
 
 -- some desk owes it
 abbrev pub Owed : State → Words → Type 0
-Owed s p = (d : ℕ) × (d < 12) × (0 < tally p (owes (s .clients d)))
+Owed s p = (d : ℕ) × (d < maxClients) × (0 < tally p (owes (s .clients d)))
 
 -- ---- Tallies
 tally-append : (q : Words) (ps rs : List Words) → tally q (ps ++ rs) ≡ tally q ps + tally q rs
@@ -91,7 +92,7 @@ tally-pos p (r ∷ ps) h = byTest (same r p)
 
 -- ---- Over the desks
 -- one desk changes
-pub held-upd : (f : ℕ → Phase) (d : ℕ) (x : Phase) (p : Words) → d < 12
+pub held-upd : (f : ℕ → Phase) (d : ℕ) (x : Phase) (p : Words) → d < maxClients
     → held-of (upd f d x) p + tally p (holds (f d)) ≡ held-of f p + tally p (holds x)
 unfolding held-of
 held-upd f d x p l =

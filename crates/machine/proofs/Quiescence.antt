@@ -12,6 +12,7 @@ use lib.ListN.{length, getD, take, drop}
 use Rattle.laws.proofs.ListLaws.{and-left, and-right, below-at}
 use Rattle.laws.proofs.TestLaws.{byTest, clash}
 use Rattle.query.specs.Shape.{Shape}
+use Rattle.rules.specs.Layout.{maxClients}
 use Rattle.lists.specs.Lists.{allBelow}
 use Rattle.rules.specs.Table.{Write}
 use Rattle.revisions.proofs.EffectiveRevision.{effective, pendingOf, has, tally}
@@ -36,7 +37,7 @@ opens (raising w j c f) q = touches q w
 
 -- no write that touches the key is open
 unfoldable pub quiet : State → Key → Bool
-quiet s q = allBelow 12 (λ d. not (opens (s .clients d) q))
+quiet s q = allBelow maxClients (λ d. not (opens (s .clients d) q))
 
 -- no node of the key was put out on the way from s to t
 unfoldable pub kept : State → State → Key → Bool
@@ -146,7 +147,7 @@ not-held q p (filing r ns l) i e = refl
 not-held q p (announcing w j) i e = no-tally q w p (take j (writeLabels w)) (λ k. in-take j (writeLabels w) k) i e
 not-held q p (raising w j c f) i e = no-tally q w p (drop j (writeLabels w)) (λ k. in-drop j (writeLabels w) k) i e
 
-quiet-held : (s : State) (q : Key) → quiet s q ≡ true → (j : ℕ) → j < length (readLabels q) → (d : ℕ) → d < 12
+quiet-held : (s : State) (q : Key) → quiet s q ≡ true → (j : ℕ) → j < length (readLabels q) → (d : ℕ) → d < maxClients
     → tally (node q j) (holds (s .clients d)) ≡ 0
 unfolding quiet node
 quiet-held s q e j l d k =
@@ -158,7 +159,7 @@ none-pending s q v e j l =
     sym (v .held (node q j)) ∙ sumBelow-none 12 (λ d. tally (node q j) (holds (s .clients d))) (λ d k. quiet-held s q e j l d k)
 
 abbrev pub Unowed : State → Words → Type 0
-Unowed s p = (d : ℕ) → d < 12 → tally p (owes (s .clients d)) ≡ 0
+Unowed s p = (d : ℕ) → d < maxClients → tally p (owes (s .clients d)) ≡ 0
 
 unowed : (s : State) (q : Key) → quiet s q ≡ true → (j : ℕ) → j < length (readLabels q) → Unowed s (node q j)
 unowed s q e j l d k = let a = quiet-held s q e j l d k in let b = owes-held (node q j) (s .clients d) in omega arith

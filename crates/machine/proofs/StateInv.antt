@@ -11,6 +11,7 @@ use borrow.Author.Tests.{eqb-true, eqb-false}
 use lib.ListN.{length, getD, take, drop, drop-of-length-le}
 use Rattle.laws.proofs.TestLaws.{byTest}
 use Rattle.query.specs.Shape.{Shape, maxColumns}
+use Rattle.rules.specs.Layout.{maxClients}
 use Rattle.rules.specs.Table.{Write, effect, changes, noRoom}
 use Rattle.rules.specs.Nodes.{Store, store}
 use Rattle.revisions.proofs.EffectiveRevision.{effective, pendingOf, pendingIn, NoDup, tally, Raised}
@@ -135,7 +136,7 @@ anew-inv s t v k =
 
 -- ---- The outcomes that have much in common
 -- a desk that owes nothing becomes one that holds no list; table and answers stay
-quiet-at : {c : Call} (s : State) (t : Store) (d : ℕ) (x : Phase) → StateInv s → d < 12 → ((p : Words) → effective (s .store) p ≤ effective t p)
+quiet-at : {c : Call} (s : State) (t : Store) (d : ℕ) (x : Phase) → StateInv s → d < maxClients → ((p : Words) → effective (s .store) p ≤ effective t p)
     → ((p : Words) → tally p (owes (s .clients d)) ≡ 0) → isFiling x ≡ false
     → NoDup (t .nodes) → Fit (s .shape) (effective t) x → ((p : Words) → tally p (holds x) + pendingOf (s .store) p ≡ tally p (holds (s .clients d)) + pendingOf t p)
     → Kept s c (at-client (with-store s t) d x)
@@ -144,7 +145,7 @@ quiet-at s t d x v l m o n u f k = at {t = at-client (with-store s t) d x} d x (
     { move = quiet-move s (at-client (with-store s t) d x) d x l refl refl refl refl m o n; once = u; fit = f; pendings = k; one = v .one })
 
 -- a reader's step that leaves the nodes alone
-reader-at : {c : Call} (s : State) (d : ℕ) (x : Phase) → StateInv s → d < 12 → isReader (s .clients d) ≡ true → isFiling x ≡ false
+reader-at : {c : Call} (s : State) (d : ℕ) (x : Phase) → StateInv s → d < maxClients → isReader (s .clients d) ≡ true → isFiling x ≡ false
     → Fit (s .shape) (effective (s .store)) x → ((p : Words) → tally p (holds x) ≡ 0)
     → Kept s c (at-client s d x)
 unfolding at-client with-store
@@ -166,7 +167,7 @@ look-fit sh e f q ns saw saw′ l m o =
           rw (grown-old ns c j b′) (let a = o .2 j b′ in let y = m (node q j) in omega arith)),
     )
 
-raise-at : {y : Call} (s : State) (t : Store) (d : ℕ) (w : Write) (j : ℕ) (c f : Bool) (x : Phase) → StateInv s → d < 12 → s .clients d ≡ raising w j c f
+raise-at : {y : Call} (s : State) (t : Store) (d : ℕ) (w : Write) (j : ℕ) (c f : Bool) (x : Phase) → StateInv s → d < maxClients → s .clients d ≡ raising w j c f
     → isFiling x ≡ false
     → Raised true (getD (writeLabels w) j [] ∷ []) (s .store) t
     → ((p : Words) → tally p (owes x) ≡ tally p (drop (suc j) (writeLabels w))) → ((p : Words) → tally p (holds x) ≡ tally p (drop (suc j) (writeLabels w)))

@@ -11,6 +11,7 @@ use lib.ListN.{length, getD, take}
 use Rattle.rules.specs.Table.{Write, effect, changes, noRoom}
 use Rattle.rules.specs.Nodes.{Store, store, isWorn}
 use Rattle.query.specs.Shape.{narrow}
+use Rattle.rules.specs.Layout.{maxClients}
 use Rattle.rules.specs.History.{isAccepted}
 use Rattle.revisions.proofs.EffectiveRevision.{has, effective, pendingOf, Grew, Announced, Raised}
 use Rattle.machine.proofs.Sums.{In}
@@ -32,37 +33,37 @@ pub data Transition (s : State) : Call → Response → State → Type 0 where
   -- refused
   nothing : {c : Call} {n : ℕ} → isAccepted n ≡ false → Transition s c (refused n) s
   -- begins
-  began : {d : ℕ} {q : Key} → d < 12 → s .clients d ≡ idle → width q ≡ s .shape .columns → Transition s (begin-read d q) went (at-client s d (looking q [] false))
-  began-write : {d : ℕ} {w : Write} → d < 12 → s .clients d ≡ idle → widthOf w ≡ s .shape .columns → isWorn narrow (s .shape) (s .store) ≡ false
+  began : {d : ℕ} {q : Key} → d < maxClients → s .clients d ≡ idle → width q ≡ s .shape .columns → Transition s (begin-read d q) went (at-client s d (looking q [] false))
+  began-write : {d : ℕ} {w : Write} → d < maxClients → s .clients d ≡ idle → widthOf w ≡ s .shape .columns → isWorn narrow (s .shape) (s .store) ≡ false
       → Transition s (begin-write d w) went (at-client s d (announcing w 0))
   -- a read: look, fetch, table, file
-  looked : {d : ℕ} {q : Key} {ns : List ℕ} {saw : Bool} {t : Store} → d < 12 → s .clients d ≡ looking q ns saw → length ns < length (readLabels q)
+  looked : {d : ℕ} {q : Key} {ns : List ℕ} {saw : Bool} {t : Store} → d < maxClients → s .clients d ≡ looking q ns saw → length ns < length (readLabels q)
       → Grew (s .store) t → has (t .nodes) (node q (length ns)) ≡ true
       → Transition s (step d) went (at-client (with-store s t) d (looking q (ns ++ (effective t (node q (length ns)) ∷ [])) (saw || ltb 0 (pendingOf t (node q (length ns))))))
-  missed : {d : ℕ} {q : Key} {ns : List ℕ} {saw : Bool} → d < 12 → s .clients d ≡ looking q ns saw → length (readLabels q) ≤ length ns
+  missed : {d : ℕ} {q : Key} {ns : List ℕ} {saw : Bool} → d < maxClients → s .clients d ≡ looking q ns saw → length (readLabels q) ≤ length ns
       → (saw ≡ true) ⊎ ((a : Ans) → In a (s .filed) → holds-for q ns a ≡ false) → Transition s (step d) went (at-client s d (tabling q ns saw))
-  hit : {d : ℕ} {q : Key} {ns : List ℕ} {a : Ans} → d < 12 → s .clients d ≡ looking q ns false → length (readLabels q) ≤ length ns
+  hit : {d : ℕ} {q : Key} {ns : List ℕ} {a : Ans} → d < maxClients → s .clients d ≡ looking q ns false → length (readLabels q) ≤ length ns
       → In a (s .filed) → holds-for q ns a ≡ true → Transition s (step d) (answered (a .list) true) (at-client s d idle)
-  too-long : {d : ℕ} {q : Key} {ns : List ℕ} {saw : Bool} → d < 12 → s .clients d ≡ tabling q ns saw → short (valueOf q (s .tab)) ≡ false
+  too-long : {d : ℕ} {q : Key} {ns : List ℕ} {saw : Bool} → d < maxClients → s .clients d ≡ tabling q ns saw → short (valueOf q (s .tab)) ≡ false
       → Transition s (step d) long (at-client s d idle)
-  listed : {d : ℕ} {q : Key} {ns : List ℕ} → d < 12 → s .clients d ≡ tabling q ns true → short (valueOf q (s .tab)) ≡ true
+  listed : {d : ℕ} {q : Key} {ns : List ℕ} → d < maxClients → s .clients d ≡ tabling q ns true → short (valueOf q (s .tab)) ≡ true
       → Transition s (step d) (answered (valueOf q (s .tab)) false) (at-client s d idle)
-  took : {d : ℕ} {q : Key} {ns : List ℕ} → d < 12 → s .clients d ≡ tabling q ns false → short (valueOf q (s .tab)) ≡ true
+  took : {d : ℕ} {q : Key} {ns : List ℕ} → d < maxClients → s .clients d ≡ tabling q ns false → short (valueOf q (s .tab)) ≡ true
       → Transition s (step d) went (at-client s d (filing q ns (valueOf q (s .tab))))
-  filed : {d : ℕ} {q : Key} {ns : List ℕ} {l : Val} → d < 12 → s .clients d ≡ filing q ns l
+  filed : {d : ℕ} {q : Key} {ns : List ℕ} {l : Val} → d < maxClients → s .clients d ≡ filing q ns l
       → Transition s (step d) (answered l false) (at-client (with-filed s (filed-in q ns l (s .filed))) d idle)
   -- a write: mark, table, raise
-  announced : {d : ℕ} {w : Write} {i : ℕ} {t : Store} → d < 12 → s .clients d ≡ announcing w i → i < length (writeLabels w)
+  announced : {d : ℕ} {w : Write} {i : ℕ} {t : Store} → d < maxClients → s .clients d ≡ announcing w i → i < length (writeLabels w)
       → Announced (getD (writeLabels w) i []) (s .store) t → Transition s (step d) went (at-client (with-store s t) d (announcing w (suc i)))
-  wrote : {d : ℕ} {w : Write} {i : ℕ} → d < 12 → s .clients d ≡ announcing w i → length (writeLabels w) ≤ i
+  wrote : {d : ℕ} {w : Write} {i : ℕ} → d < maxClients → s .clients d ≡ announcing w i → length (writeLabels w) ≤ i
       → Transition s (step d) went (at-client (with-tab s (effect w (s .tab))) d (raising w 0 (changes w (s .tab)) (noRoom w (s .tab))))
-  raised : {d : ℕ} {w : Write} {j : ℕ} {c f : Bool} {t : Store} → d < 12 → s .clients d ≡ raising w j c f → suc j < length (writeLabels w)
+  raised : {d : ℕ} {w : Write} {j : ℕ} {c f : Bool} {t : Store} → d < maxClients → s .clients d ≡ raising w j c f → suc j < length (writeLabels w)
       → Raised true (getD (writeLabels w) j [] ∷ []) (s .store) t → Transition s (step d) went (at-client (with-store s t) d (raising w (suc j) c f))
-  last : {d : ℕ} {w : Write} {j : ℕ} {c f : Bool} {t : Store} → d < 12 → s .clients d ≡ raising w j c f → length (writeLabels w) ≤ suc j
+  last : {d : ℕ} {w : Write} {j : ℕ} {c f : Bool} {t : Store} → d < maxClients → s .clients d ≡ raising w j c f → length (writeLabels w) ≤ suc j
       → Raised true (getD (writeLabels w) j [] ∷ []) (s .store) t → Transition s (step d) (write-end c f) (at-client (with-store s t) d idle)
   -- abandonings
-  abandoned-read : {d : ℕ} → d < 12 → isReader (s .clients d) ≡ true → Transition s (abandon d) went (at-client s d idle)
-  abandoned-write : {d : ℕ} {w : Write} {i : ℕ} {t : Store} → d < 12 → s .clients d ≡ announcing w i → Raised false (take i (writeLabels w)) (s .store) t
+  abandoned-read : {d : ℕ} → d < maxClients → isReader (s .clients d) ≡ true → Transition s (abandon d) went (at-client s d idle)
+  abandoned-write : {d : ℕ} {w : Write} {i : ℕ} {t : Store} → d < maxClients → s .clients d ≡ announcing w i → Raised false (take i (writeLabels w)) (s .store) t
       → Transition s (abandon d) went (at-client (with-store s t) d idle)
   -- puttings out, renewals
   evicted-answer : {i : ℕ} → i < length (s .filed) → Transition s (evict-answer i) went (with-filed s (cut i (s .filed)))

@@ -15,8 +15,10 @@ use Rattle.laws.proofs.ListLaws.{eq-same, ne-same}
 use Rattle.laws.proofs.TestLaws.{byTest}
 use Rattle.laws.proofs.SearchLaws.{place-start, place-found, place-next, place-none}
 use Rattle.rules.specs.Nodes.{Words, Node, pending, revision, labelIn, hasLabel, isFree, isHigh, isWorn}
-use Rattle.rules.specs.Layout.{wornAbove}
-use Rattle.query.specs.Shape.{narrow, Shape}
+use Rattle.lists.specs.Lists.{header}
+use Rattle.query.specs.Encoding.{labelWidth}
+use Rattle.query.specs.Shape.{Shape, narrow}
+use Rattle.rules.specs.Layout.{wornAbove, floorOffset, nodeCountOffset, pendingOffset, revisionOffset, nodeWidth}
 use Rattle.rules.specs.Memory.{storeIn}
 use Rattle.nodes.proofs.NodeStores.{five, count-nodes, floor-in, node-word, node-at}
 
@@ -50,10 +52,10 @@ module _ (s : List ℕ) (at : ℕ) (p : Words) where
   label-differs n = sym (ne-same (take 5 (drop at s)) p (λ e. n (or-none _ _ (xor-none _ _ (first-same e)) (xor-none _ _ (word-same 1 (omega arith) e)))))
 
   -- five that agree
-  label-agrees : at + 5 ≤ length s → length p ≡ 5 → getD s at 0 ≡ getD p 0 0 → getD s (at + 1) 0 ≡ getD p 1 0 → getD s (at + 2) 0 ≡ getD p 2 0
+  label-agrees : at + 5 ≤ length s → length p ≡ labelWidth → getD s at 0 ≡ getD p 0 0 → getD s (at + 1) 0 ≡ getD p 1 0 → getD s (at + 2) 0 ≡ getD p 2 0
       → getD s (at + 3) 0 ≡ getD p 3 0 → getD s (at + 4) 0 ≡ getD p 4 0 → same (take 5 (drop at s)) p ≡ true
   label-agrees h k a b c d e =
-      let l : length (take 5 (drop at s)) ≡ 5 = length-take-le 5 (drop at s) (rw length-drop (omega arith)) in
+      let l : length (take 5 (drop at s)) ≡ labelWidth = length-take-le 5 (drop at s) (rw length-drop (omega arith)) in
       let z : at + 0 ≡ at = omega arith in
       let q : getD (take 5 (drop at s)) 0 0 ≡ getD s at 0 = word-at 0 (omega arith) ∙ ap (λ (i : ℕ). getD s i 0) z in
       eq-same (take 5 (drop at s)) p
@@ -61,7 +63,7 @@ module _ (s : List ℕ) (at : ℕ) (p : Words) where
       ∙ rw (q, word-at 1 (omega arith), word-at 2 (omega arith), word-at 3 (omega arith), word-at 4 (omega arith), a, b, c, d, e) (sym (five p k)))
 
   -- the first two agree, so the last three decide
-  pub label-decided : at + 5 ≤ length s → length p ≡ 5 → bitOr (bitXor (getD s at 0) (getD p 0 0)) (bitXor (getD s (at + 1) 0) (getD p 1 0)) ≡ 0
+  pub label-decided : at + 5 ≤ length s → length p ≡ labelWidth → bitOr (bitXor (getD s at 0) (getD p 0 0)) (bitXor (getD s (at + 1) 0) (getD p 1 0)) ≡ 0
       → eqb (bitOr (bitOr (bitXor (getD s (at + 2) 0) (getD p 2 0)) (bitXor (getD s (at + 3) 0) (getD p 3 0))) (bitXor (getD s (at + 4) 0) (getD p 4 0))) 0
       ≡ same (take 5 (drop at s)) p
   label-decided h k f =
@@ -77,34 +79,34 @@ module _ (s : List ℕ) (at : ℕ) (p : Words) where
       (or-none x y (or-none _ _ (xor-none _ _ (word-same 2 (omega arith) r)) (xor-none _ _ (word-same 3 (omega arith) r))) (xor-none _ _ (word-same 4 (omega arith) r))))))
 
 -- ---- the tests of a node, in the memory's numbers
-module _ (s : List ℕ) (i : ℕ) (h : i < getD s 1 0) where
-  pub label-test : (p : Words) → hasLabel p (getD (storeIn s .nodes) i []) ≡ same (take 5 (drop (8 + i * 8) s)) p
+module _ (s : List ℕ) (i : ℕ) (h : i < getD s nodeCountOffset 0) where
+  pub label-test : (p : Words) → hasLabel p (getD (storeIn s .nodes) i []) ≡ same (take 5 (drop (header + i * nodeWidth) s)) p
   unfolding hasLabel labelIn
-  label-test p = ap (λ (n : Node). same (take 5 n) p) (node-at s i h) ∙ ap (λ (n : Node). same n p) (take-take 5 8 (drop (8 + i * 8) s) (omega arith))
+  label-test p = ap (λ (n : Node). same (take 5 n) p) (node-at s i h) ∙ ap (λ (n : Node). same n p) (take-take 5 8 (drop (header + i * nodeWidth) s) (omega arith))
 
-  pub pending-at : pending (getD (storeIn s .nodes) i []) ≡ getD s (8 + i * 8 + 5) 0
+  pub pending-at : pending (getD (storeIn s .nodes) i []) ≡ getD s (header + i * nodeWidth + pendingOffset) 0
   unfolding pending
   pending-at = node-word s i 5 h (omega arith)
 
-  pub revision-at : revision (getD (storeIn s .nodes) i []) ≡ getD s (8 + i * 8 + 6) 0
+  pub revision-at : revision (getD (storeIn s .nodes) i []) ≡ getD s (header + i * nodeWidth + revisionOffset) 0
   unfolding revision
   revision-at = node-word s i 6 h (omega arith)
 
-  pub free-test : getD s (8 + i * 8 + 5) 0 ≡ 0 → isFree (getD (storeIn s .nodes) i []) ≡ true
+  pub free-test : getD s (header + i * nodeWidth + pendingOffset) 0 ≡ 0 → isFree (getD (storeIn s .nodes) i []) ≡ true
   unfolding isFree
   free-test e = eq-eqb (pending (getD (storeIn s .nodes) i [])) 0 (pending-at ∙ e)
 
-  pub busy-test : (getD s (8 + i * 8 + 5) 0 ≡ 0 → ⊥) → isFree (getD (storeIn s .nodes) i []) ≡ false
+  pub busy-test : (getD s (header + i * nodeWidth + pendingOffset) 0 ≡ 0 → ⊥) → isFree (getD (storeIn s .nodes) i []) ≡ false
   unfolding isFree
   busy-test n = ne-eqb (pending (getD (storeIn s .nodes) i [])) 0 (λ e. n (sym pending-at ∙ e))
 
-  pub high-test : (sh : Shape) → wornAbove narrow sh < getD s (8 + i * 8 + 6) 0 → isHigh narrow sh (getD (storeIn s .nodes) i []) ≡ true
+  pub high-test : (sh : Shape) → wornAbove narrow sh < getD s (header + i * nodeWidth + revisionOffset) 0 → isHigh narrow sh (getD (storeIn s .nodes) i []) ≡ true
   unfolding isHigh
-  high-test sh k = rw revision-at (lt-ltb (wornAbove narrow sh) (getD s (8 + i * 8 + 6) 0) k)
+  high-test sh k = rw revision-at (lt-ltb (wornAbove narrow sh) (getD s (header + i * nodeWidth + revisionOffset) 0) k)
 
-  pub low-test : (sh : Shape) → getD s (8 + i * 8 + 6) 0 ≤ wornAbove narrow sh → isHigh narrow sh (getD (storeIn s .nodes) i []) ≡ false
+  pub low-test : (sh : Shape) → getD s (header + i * nodeWidth + revisionOffset) 0 ≤ wornAbove narrow sh → isHigh narrow sh (getD (storeIn s .nodes) i []) ≡ false
   unfolding isHigh
-  low-test sh k = rw revision-at (le-ltb (wornAbove narrow sh) (getD s (8 + i * 8 + 6) 0) k)
+  low-test sh k = rw revision-at (le-ltb (wornAbove narrow sh) (getD s (header + i * nodeWidth + revisionOffset) 0) k)
 
 -- ---- the search for the first node that passes a test q: before place i none does
 unfoldable pub Past : (Node → Bool) → List ℕ → ℕ → Type 0
@@ -115,37 +117,37 @@ module _ (q : Node → Bool) (s : List ℕ) where
   unfolding Past
   scan-start = place-start q (storeIn s .nodes)
 
-  pub scan-found : (i : ℕ) → Past q s i → i < getD s 1 0 → q (getD (storeIn s .nodes) i []) ≡ true → i ≡ place q (storeIn s .nodes)
+  pub scan-found : (i : ℕ) → Past q s i → i < getD s nodeCountOffset 0 → q (getD (storeIn s .nodes) i []) ≡ true → i ≡ place q (storeIn s .nodes)
   unfolding Past
-  scan-found i p h e = let l : length (storeIn s .nodes) ≡ getD s 1 0 = count-nodes s in sym (place-found q (storeIn s .nodes) i [] p (omega arith) e)
+  scan-found i p h e = let l : length (storeIn s .nodes) ≡ getD s nodeCountOffset 0 = count-nodes s in sym (place-found q (storeIn s .nodes) i [] p (omega arith) e)
 
-  pub scan-next : (i : ℕ) → Past q s i → i < getD s 1 0 → q (getD (storeIn s .nodes) i []) ≡ false → Past q s (i + 1)
+  pub scan-next : (i : ℕ) → Past q s i → i < getD s nodeCountOffset 0 → q (getD (storeIn s .nodes) i []) ≡ false → Past q s (i + 1)
   unfolding Past
-  scan-next i p h e = let l : length (storeIn s .nodes) ≡ getD s 1 0 = count-nodes s in place-next q (storeIn s .nodes) i [] p (omega arith) e
+  scan-next i p h e = let l : length (storeIn s .nodes) ≡ getD s nodeCountOffset 0 = count-nodes s in place-next q (storeIn s .nodes) i [] p (omega arith) e
 
-  pub scan-none : (i : ℕ) → Past q s i → i ≤ getD s 1 0 → getD s 1 0 ≤ i → i ≡ place q (storeIn s .nodes)
+  pub scan-none : (i : ℕ) → Past q s i → i ≤ getD s nodeCountOffset 0 → getD s nodeCountOffset 0 ≤ i → i ≡ place q (storeIn s .nodes)
   unfolding Past
   scan-none i p h k =
-      let l : length (storeIn s .nodes) ≡ getD s 1 0 = count-nodes s in
+      let l : length (storeIn s .nodes) ≡ getD s nodeCountOffset 0 = count-nodes s in
       let e : place q (storeIn s .nodes) ≡ length (storeIn s .nodes) = place-none q (storeIn s .nodes) i p (omega arith) (omega arith) in
       omega arith
 
 -- ---- whether the floor or a revision is too high
 module _ (sh : Shape) (s : List ℕ) where
-  pub worn-floor : wornAbove narrow sh < getD s 0 0 → true ≡ isWorn narrow sh (storeIn s)
+  pub worn-floor : wornAbove narrow sh < getD s floorOffset 0 → true ≡ isWorn narrow sh (storeIn s)
   unfolding isWorn storeIn
-  worn-floor h = rw (lt-ltb (wornAbove narrow sh) (getD s 0 0) h)
+  worn-floor h = rw (lt-ltb (wornAbove narrow sh) (getD s floorOffset 0) h)
 
-  pub worn-node : (i : ℕ) → Past (isHigh narrow sh) s i → i < getD s 1 0 → wornAbove narrow sh < getD s (8 + i * 8 + 6) 0 → true ≡ isWorn narrow sh (storeIn s)
+  pub worn-node : (i : ℕ) → Past (isHigh narrow sh) s i → i < getD s nodeCountOffset 0 → wornAbove narrow sh < getD s (header + i * nodeWidth + revisionOffset) 0 → true ≡ isWorn narrow sh (storeIn s)
   unfolding isWorn
   worn-node i p h k =
-      let l : length (storeIn s .nodes) ≡ getD s 1 0 = count-nodes s in
+      let l : length (storeIn s .nodes) ≡ getD s nodeCountOffset 0 = count-nodes s in
       let e : i ≡ place (isHigh narrow sh) (storeIn s .nodes) = scan-found (isHigh narrow sh) s i p h (high-test s i h sh k) in
       rw (lt-ltb (place (isHigh narrow sh) (storeIn s .nodes)) (length (storeIn s .nodes)) (omega arith)) (sym (or-true (ltb (wornAbove narrow sh) (storeIn s .floor))))
 
-  pub worn-not : (i : ℕ) → Past (isHigh narrow sh) s i → i ≤ getD s 1 0 → getD s 1 0 ≤ i → getD s 0 0 ≤ wornAbove narrow sh → false ≡ isWorn narrow sh (storeIn s)
+  pub worn-not : (i : ℕ) → Past (isHigh narrow sh) s i → i ≤ getD s nodeCountOffset 0 → getD s nodeCountOffset 0 ≤ i → getD s floorOffset 0 ≤ wornAbove narrow sh → false ≡ isWorn narrow sh (storeIn s)
   unfolding isWorn
   worn-not i p h k f =
-      let l : length (storeIn s .nodes) ≡ getD s 1 0 = count-nodes s in
+      let l : length (storeIn s .nodes) ≡ getD s nodeCountOffset 0 = count-nodes s in
       let e : i ≡ place (isHigh narrow sh) (storeIn s .nodes) = scan-none (isHigh narrow sh) s i p h k in
-      rw (le-ltb (place (isHigh narrow sh) (storeIn s .nodes)) (length (storeIn s .nodes)) (omega arith), floor-in s, le-ltb (wornAbove narrow sh) (getD s 0 0) f)
+      rw (le-ltb (place (isHigh narrow sh) (storeIn s .nodes)) (length (storeIn s .nodes)) (omega arith), floor-in s, le-ltb (wornAbove narrow sh) (getD s floorOffset 0) f)

@@ -16,6 +16,7 @@ use Rattle.laws.proofs.ListLaws.{same-refl, length-without}
 use Rattle.laws.proofs.SearchLaws.{place-le}
 use Rattle.laws.proofs.RowLaws.{wide-nil, wide-set, wide-without, wide-snoc, wide-at}
 use Rattle.rules.specs.Nodes.{Words, Node, Store, store, labelIn, pending, revision, withPending, withRevision, hasLabel, nodePlace, isPresent, nodeOf, withNode, evictNode, added, oldestFree, makeRoom, addedIn, ensured, announcedIn, announced, isPending, released, raised, releasedAll}
+use Rattle.query.specs.Encoding.{labelWidth}
 use Rattle.query.specs.Shape.{narrow}
 use Rattle.rules.specs.Layout.{maxNodes, maxPending, maxRevision}
 use Rattle.nodes.specs.NodeContracts.{releasedAt}
@@ -99,22 +100,22 @@ pub sized-evict : (i : ℕ) (t : Store) → Sized t → Sized (evictNode i t)
 unfolding evictNode
 sized-evict i t z =
     let h : length (without i (t .nodes)) ≤ length (t .nodes) = without-le i (t .nodes) in
-    let k : length (t .nodes) ≤ 1024 = z .few in
+    let k : length (t .nodes) ≤ maxNodes = z .few in
     record { wide = wide-without 8 i (t .nodes) (z .wide); few = omega arith }
 
 -- the node that a label gets
 fresh : Words → ℕ → Node
 fresh p f = p ++ (0 ∷ f ∷ 0 ∷ [])
 
-fresh-length : (p : Words) (f : ℕ) → length p ≡ 5 → length (fresh p f) ≡ 8
+fresh-length : (p : Words) (f : ℕ) → length p ≡ labelWidth → length (fresh p f) ≡ 8
 unfolding fresh
 fresh-length p f h = rw (length-append, h)
 
-fresh-label : (p : Words) (f : ℕ) → length p ≡ 5 → hasLabel p (fresh p f) ≡ true
+fresh-label : (p : Words) (f : ℕ) → length p ≡ labelWidth → hasLabel p (fresh p f) ≡ true
 unfolding fresh hasLabel labelIn
 fresh-label p f h = rw (take-at p (0 ∷ f ∷ 0 ∷ []) 5 h) (same-refl p)
 
-fresh-pending : (p : Words) (f : ℕ) → length p ≡ 5 → pending (fresh p f) ≡ 0
+fresh-pending : (p : Words) (f : ℕ) → length p ≡ labelWidth → pending (fresh p f) ≡ 0
 unfolding fresh pending
 fresh-pending p f h = getD-at p 0 (f ∷ 0 ∷ []) 0 5 h
 
@@ -128,13 +129,13 @@ snoc-length l n = length-append l (n ∷ [])
 pub added-more : (p : Words) (t : Store) → length (added p t .nodes) ≡ length (t .nodes) + 1
 added-more p t = rw (added-is p t) (snoc-length (t .nodes) (fresh p (t .floor)))
 
-pub sized-added : (p : Words) (t : Store) → length p ≡ 5 → length (t .nodes) < 1024 → Sized t → Sized (added p t)
+pub sized-added : (p : Words) (t : Store) → length p ≡ labelWidth → length (t .nodes) < maxNodes → Sized t → Sized (added p t)
 sized-added p t h k z =
     let l : length (t .nodes ++ (fresh p (t .floor) ∷ [])) ≡ length (t .nodes) + 1 = snoc-length (t .nodes) (fresh p (t .floor)) in
     rw (added-is p t) (record { wide = wide-snoc 8 (t .nodes) (fresh p (t .floor)) (z .wide) (fresh-length p (t .floor) h); few = omega arith })
 
 -- the label's node is the last
-module _ (p : Words) (t : Store) (h : length p ≡ 5) (e : nodePlace p (t .nodes) ≡ length (t .nodes)) where
+module _ (p : Words) (t : Store) (h : length p ≡ labelWidth) (e : nodePlace p (t .nodes) ≡ length (t .nodes)) where
   pub added-place : nodePlace p (added p t .nodes) ≡ length (t .nodes)
   unfolding nodePlace
   added-place = rw (added-is p t) (place-snoc (hasLabel p) (t .nodes) (fresh p (t .floor)) e (fresh-label p (t .floor) h))
@@ -162,14 +163,14 @@ evict-absent : (p : Words) (i : ℕ) (t : Store) → i < length (t .nodes) → n
 unfolding evictNode nodePlace
 evict-absent p i t h e = place-without (hasLabel p) (t .nodes) i [] h e
 
-evict-few : (i : ℕ) (t : Store) → i < length (t .nodes) → length (t .nodes) ≤ 1024 → length (evictNode i t .nodes) < 1024
+evict-few : (i : ℕ) (t : Store) → i < length (t .nodes) → length (t .nodes) ≤ maxNodes → length (evictNode i t .nodes) < maxNodes
 unfolding evictNode
 evict-few i t h k = let l : length (without i (t .nodes)) ≡ length (t .nodes) - 1 = length-without i (t .nodes) h in omega arith
 
 -- what a store with room is, from the store t that it is made of
 pub record Room (t u : Store) : Type 0 where
   pub sized : Sized u
-  pub few : length (u .nodes) < 1024
+  pub few : length (u .nodes) < maxNodes
   pub absent : (p : Words) → isPresent p t ≡ false → nodePlace p (u .nodes) ≡ length (u .nodes)
 
 pub made-room : (t u : Store) → Sized t → makeRoom t ≡ some u → Room t u
@@ -194,11 +195,11 @@ pub record Present (p : Words) (t u : Store) : Type 0 where
   pub below : nodePlace p (u .nodes) < length (u .nodes)
   pub either : (u ≡ t) ⊎ (pending (nodeOf p u) ≡ 0)
 
-added-present : (p : Words) (t u : Store) → length p ≡ 5 → nodePlace p (u .nodes) ≡ length (u .nodes) → Room t u → Present p t (added p u)
+added-present : (p : Words) (t u : Store) → length p ≡ labelWidth → nodePlace p (u .nodes) ≡ length (u .nodes) → Room t u → Present p t (added p u)
 added-present p t u h e r =
     record { sized = sized-added p u h (r .few) (r .sized); below = added-below p u h e; either = inr (added-pending p u h e) }
 
-pub made-present : (p : Words) (t u : Store) → length p ≡ 5 → Sized t → ensured p t ≡ some u → Present p t u
+pub made-present : (p : Words) (t u : Store) → length p ≡ labelWidth → Sized t → ensured p t ≡ some u → Present p t u
 unfolding ensured isPresent addedIn
 made-present p t u h z = go (isPresent p t) refl (makeRoom t) refl
   where
@@ -213,7 +214,7 @@ made-present p t u h z = go (isPresent p t) refl (makeRoom t) refl
         rw (← l) (added-present p t r h (m .absent p e) m)
 
 -- ---- the operations that may find no way
-pub sized-announced : (p : Words) (t u : Store) → length p ≡ 5 → Sized t → announced p t ≡ some u → Sized u
+pub sized-announced : (p : Words) (t u : Store) → length p ≡ labelWidth → Sized t → announced p t ≡ some u → Sized u
 unfolding announced announcedIn withPending
 sized-announced p t u h z = go (ensured p t) refl
   where

@@ -6,7 +6,9 @@ use Prim.Native.Nat.{ℕ, _<_}
 use native.Mathlib.Omega.{arith}
 use lib.ListN.{length, getD}
 use Rattle.rules.specs.Nodes.{Words, Store, store, evictNode, added, ensured, announced, raised, releasedAll}
+use Rattle.query.specs.Encoding.{labelWidth}
 use Rattle.query.specs.Shape.{narrow}
+use Rattle.rules.specs.Layout.{maxNodes, nodeCountOffset}
 use Rattle.rules.specs.Memory.{storeIn, withStore}
 use Rattle.nodes.specs.NodeContracts.{Fit, tried, looked, releasedAt}
 use Rattle.nodes.proofs.NodeStores.{Sized, Keeps, count-nodes, sized-in, keeps-store}
@@ -20,14 +22,14 @@ module _ (s : List ℕ) (f : Fit s) where
   pub keeps-evict : (i : ℕ) → Keeps s (withStore s (evictNode i (storeIn s)))
   keeps-evict i = keeps-store s (evictNode i (storeIn s)) f (sized-evict i (storeIn s) (sized-in s f))
 
-  pub keeps-added : (p : Words) → length p ≡ 5 → getD s 1 0 < 1024 → Keeps s (withStore s (added p (storeIn s)))
+  pub keeps-added : (p : Words) → length p ≡ labelWidth → getD s nodeCountOffset 0 < maxNodes → Keeps s (withStore s (added p (storeIn s)))
   keeps-added p h k =
-      let l : length (storeIn s .nodes) ≡ getD s 1 0 = count-nodes s in
+      let l : length (storeIn s .nodes) ≡ getD s nodeCountOffset 0 = count-nodes s in
       keeps-store s (added p (storeIn s)) f (sized-added p (storeIn s) h (omega arith) (sized-in s f))
 
-  pub keeps-released-at : (i : ℕ) → i < getD s 1 0 → Keeps s (withStore s (releasedAt i (storeIn s)))
+  pub keeps-released-at : (i : ℕ) → i < getD s nodeCountOffset 0 → Keeps s (withStore s (releasedAt i (storeIn s)))
   keeps-released-at i h =
-      let l : length (storeIn s .nodes) ≡ getD s 1 0 = count-nodes s in
+      let l : length (storeIn s .nodes) ≡ getD s nodeCountOffset 0 = count-nodes s in
       keeps-store s (releasedAt i (storeIn s)) f (sized-released-at i (storeIn s) (omega arith) (sized-in s f))
 
   pub keeps-empty : Keeps s (withStore s (store 1 []))
@@ -39,7 +41,7 @@ module _ (s : List ℕ) (f : Fit s) where
   keeps-tried none h = keeps-self
   keeps-tried (some t) h = keeps-store s t f (h t refl)
 
-  pub keeps-announced : (p : Words) → length p ≡ 5 → Keeps s (tried s (announced p (storeIn s)) .mem)
+  pub keeps-announced : (p : Words) → length p ≡ labelWidth → Keeps s (tried s (announced p (storeIn s)) .mem)
   keeps-announced p h = keeps-tried (announced p (storeIn s)) (λ t e. sized-announced p (storeIn s) t h (sized-in s f) e)
 
   pub keeps-raised : (p : Words) → Keeps s (tried s (raised narrow p (storeIn s)) .mem)
@@ -53,6 +55,6 @@ module _ (s : List ℕ) (f : Fit s) where
   looked-mem p none = refl
   looked-mem p (some t) = refl
 
-  pub keeps-looked : (p : Words) → length p ≡ 5 → Keeps s (looked p s (ensured p (storeIn s)) .mem)
+  pub keeps-looked : (p : Words) → length p ≡ labelWidth → Keeps s (looked p s (ensured p (storeIn s)) .mem)
   keeps-looked p h =
       rw (looked-mem p (ensured p (storeIn s))) (keeps-tried (ensured p (storeIn s)) (λ t e. made-present p (storeIn s) t h (sized-in s f) e .sized))

@@ -10,11 +10,13 @@ use Rattle.nodes.specs.declared.Sight.{Sight}
 use Rattle.nodes.specs.declared.Sight.the-variants.{Seen, Stuck}
 use Rattle.nodes.specs.declared.Spot.{Spot}
 use Rattle.nodes.specs.declared.Spot.the-variants.{At, Nowhere}
+use Rattle.query.specs.Shape.{narrow}
+use Rattle.rules.specs.Layout.{maxNodes, nodesLeast, nodeCountOffset}
 
 -- a memory long enough, with at most as many nodes as there may be: its first 8,200 numbers hold all of them
 pub record Fit (s : List ℕ) : Type 0 where
-  pub long : 8200 ≤ length s
-  pub few : getD s 1 0 ≤ 1024
+  pub long : nodesLeast narrow ≤ length s
+  pub few : getD s nodeCountOffset 0 ≤ maxNodes
 
 -- ---- an operation that may find no way: whether it did, and the memory it leaves; where it did not, the memory as it was
 pub record Tried : Type 0 where

@@ -1,16 +1,17 @@
 -- Which state of the machine the four memories stand for, which call and which result; and what memories that a history leaves keep to.
--- Leans on rules and machine. Definitions only. Assumes nothing.
+-- Leans on rules and machine. Assumes nothing.
 use mathlib.Core.Path.{_≡_}
 use mathlib.Core.Bool.{Bool, true, false, cond}
 use mathlib.Core.List.{List, map}
 use Prim.Native.Nat.{ℕ, _+_, _-_, _*_, _≤_, _<_}
 use lib.Dec.{eqb, ltb, leb}
 use lib.ListN.{length, getD, take, drop}
+use native.Mathlib.Omega.{arith}
 use Rattle.query.specs.Query.{readCount, writeCount}
 use Rattle.query.specs.Encoding.{queryOf, recordOf, queryIn, isKey}
 use Rattle.query.specs.Shape.{Shape, maxColumns, narrow}
 use Rattle.rules.specs.Layout.{maxRecords, maxNodes, maxAnswers, maxClients, maxList, tableLeast, nodesLeast, answersLeast, clientsLeast}
-use Rattle.rules.specs.Layout.{reads}
+use Rattle.rules.specs.Layout.{answersEnd, reads}
 use Rattle.rules.specs.declared.Outcome.{Outcome}
 use Rattle.rules.specs.declared.Outcome.the-variants.{Refused, Accepted, Answered, Long, Ended, Full}
 use Rattle.rules.specs.Table.{Write, insert, delete, target}
@@ -121,3 +122,7 @@ pub record Fits (m : Mem) : Type 0 where
   pub answers : getD (m .answers) 0 0 ≤ maxAnswers
   pub kept : (e : Entry) → In e (answersIn narrow (m .answers)) → Kept (shape m) e
   pub sound : (d : ℕ) → d < maxClients → isBad narrow (shape m) (client m d) ≡ false
+
+-- such an answers memory has room for every entry
+pub answers-room : (m : Mem) → Fits m → answersEnd narrow ≤ length (m .answers)
+answers-room m f = let l = f .answers-long in omega arith

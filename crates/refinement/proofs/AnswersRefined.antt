@@ -17,7 +17,7 @@ use Rattle.laws.proofs.RowLaws.{Wide, wide-without, wide-snoc}
 use Rattle.query.specs.Query.{readCount}
 use Rattle.query.specs.Encoding.{queryIn, isKey, keyWords}
 use Rattle.query.specs.Shape.{Shape, narrow}
-use Rattle.rules.specs.Layout.{maxAnswers}
+use Rattle.rules.specs.Layout.{maxAnswers, entryWidth}
 use Rattle.rules.specs.Answers.{Entry, keyIn, revisionIn, hasKeyOf, atLeast, serves, keyPlace, filed}
 use Rattle.machine.proofs.Sums.{In, here, there, in-append}
 use Rattle.machine.proofs.Keys.{Key, sameKey, sameKey-eq, sameKey-refl, readLabels, length-readLabels}
@@ -144,12 +144,12 @@ in-room x es e =
     (λ t. rw t (λ i. in-without (keyPlace x es) es i))
     (λ t. rw t (byTest (ltb (length es) maxAnswers) (λ u. rw u (λ i. i)) (λ u. rw u (λ i. in-without 0 es i))))
 
-wide-room : (x : Entry) (es : List Entry) → Wide 152 es → Wide 152 (roomFor x es)
+wide-room : (x : Entry) (es : List Entry) → Wide (entryWidth narrow) es → Wide (entryWidth narrow) (roomFor x es)
 unfolding roomFor
 wide-room x es w =
     byTest (ltb (keyPlace x es) (length es))
-    (λ t. rw t (wide-without 152 (keyPlace x es) es w))
-    (λ t. rw t (byTest (ltb (length es) maxAnswers) (λ u. rw u w) (λ u. rw u (wide-without 152 0 es w))))
+    (λ t. rw t (wide-without (entryWidth narrow) (keyPlace x es) es w))
+    (λ t. rw t (byTest (ltb (length es) maxAnswers) (λ u. rw u w) (λ u. rw u (wide-without (entryWidth narrow) 0 es w))))
 
 length-room : (x : Entry) (es : List Entry) → length es ≤ maxAnswers → length (roomFor x es) < maxAnswers
 unfolding roomFor
@@ -164,8 +164,8 @@ length-room x es h =
 pub in-filed : (x : Entry) (es : List Entry) (e : Entry) → In e (filed x es) → In e es ⊎ (e ≡ x)
 in-filed x es e i = elim (in-append (roomFor x es) (rw (filed-room x es) at i)) [ inl j ↦ inl (in-room x es e j) | inr j ↦ inr j ]
 
-pub wide-filed : (x : Entry) (es : List Entry) → Wide 152 es → length x ≡ 152 → Wide 152 (filed x es)
-wide-filed x es w l = rw (filed-room x es) (wide-snoc 152 (roomFor x es) x (wide-room x es w) l)
+pub wide-filed : (x : Entry) (es : List Entry) → Wide (entryWidth narrow) es → length x ≡ entryWidth narrow → Wide (entryWidth narrow) (filed x es)
+wide-filed x es w l = rw (filed-room x es) (wide-snoc (entryWidth narrow) (roomFor x es) x (wide-room x es w) l)
 
 pub length-filed : (x : Entry) (es : List Entry) → length es ≤ maxAnswers → length (filed x es) ≤ maxAnswers
 length-filed x es h = let z = length-append (roomFor x es) (x ∷ []) in let y = length-room x es h in rw (filed-room x es) (omega arith)

@@ -20,6 +20,7 @@ use Rattle.query.proofs.EncodingLaws.{key-words-length}
 use Rattle.rules.specs.Answers.{Entry, keyIn, lengthIn, listIn}
 use Rattle.rules.specs.Client.{Client, kind, steps, sawPending, didChange, foundFull, entryOf, begun, stepped, flag, noted, holding, wrote}
 use Rattle.query.specs.Shape.{Shape, maxColumns, narrow}
+use Rattle.rules.specs.Layout.{listOffset, listWidth, entryWidth, clientWidth, notedOffset, heldListOffset}
 use Rattle.rules.proofs.ClientLaws.{list-room}
 use Rattle.refinement.proofs.Abstraction.{valueIn, revisionsIn}
 
@@ -58,7 +59,7 @@ pub record Next (c t : Client) : Type 0 where
   pub kinds : kind t ≡ kind c
   pub keys : keyIn (entryOf t) ≡ keyIn (entryOf c)
   pub one : steps t ≡ steps c + 1
-  pub wide : length t ≡ 157
+  pub wide : length t ≡ clientWidth narrow
 
 -- a flag as it is kept
 flag-read : (b : Bool) → not (eqb (flag b) 0) ≡ b
@@ -66,13 +67,13 @@ unfolding flag
 flag-read true = refl
 flag-read false = refl
 
-module _ (c : Client) (w : length c ≡ 157) where
+module _ (c : Client) (w : length c ≡ clientWidth narrow) where
   -- a number in front of the entry
   entry-front : (i x : ℕ) → i < 5 → entryOf (set c i x) ≡ entryOf c
   unfolding entryOf
   entry-front i x h = drop-set-lt 5 c i x h
 
-  pub length-entry : length (entryOf c) ≡ 152
+  pub length-entry : length (entryOf c) ≡ entryWidth narrow
   unfolding entryOf
   length-entry = rw length-drop (omega arith)
 
@@ -103,13 +104,13 @@ module _ (c : Client) (w : length c ≡ 157) where
 
   -- a look: revision r, p pending writes
   module _ (j r p : ℕ) (h : j < 16) where
-    looked-at : 13 + j ≡ 5 + (8 + j)
+    looked-at : notedOffset narrow j ≡ 5 + (8 + j)
     looked-at = omega arith
 
     pub noted-entry : entryOf (noted narrow j r p c) ≡ set (entryOf c) (8 + j) r
     unfolding noted entryOf stepped
     noted-entry =
-        drop-set-lt 5 (set (set c 1 (steps c + 1)) (13 + j) r) 2 (cond (eqb p 0) (getD c 2 0) 1) (omega arith)
+        drop-set-lt 5 (set (set c 1 (steps c + 1)) (notedOffset narrow j) r) 2 (cond (eqb p 0) (getD c 2 0) 1) (omega arith)
         ∙ ap (λ (i : ℕ). drop 5 (set (set c 1 (steps c + 1)) i r)) looked-at
         ∙ drop-set-add 5 (set c 1 (steps c + 1)) (8 + j) r
         ∙ ap (λ (e : Entry). set e (8 + j) r) (drop-set-lt 5 c 1 _ (omega arith))
@@ -120,10 +121,10 @@ module _ (c : Client) (w : length c ≡ 157) where
         let x : ℕ = getD c 1 0 + 1 in
         let z : ℕ = cond (eqb p 0) (getD c 2 0) 1 in
         record {
-          kinds = three-other c 1 x (13 + j) r 2 z 0 (λ e. omega arith) (λ e. omega arith) (λ e. omega arith);
+          kinds = three-other c 1 x (notedOffset narrow j) r 2 z 0 (λ e. omega arith) (λ e. omega arith) (λ e. omega arith);
           keys = ap (take 7) noted-entry ∙ take-set-le 7 (entryOf c) (8 + j) r (omega arith);
-          one = three-first c 1 x (13 + j) r 2 z (λ e. omega arith) (λ e. omega arith) (omega arith);
-          wide = three-length c 1 x (13 + j) r 2 z ∙ w;
+          one = three-first c 1 x (notedOffset narrow j) r 2 z (λ e. omega arith) (λ e. omega arith) (omega arith);
+          wide = three-length c 1 x (notedOffset narrow j) r 2 z ∙ w;
         }
 
     pub noted-revisions : revisionsIn (suc j) (entryOf (noted narrow j r p c)) ≡ revisionsIn j (entryOf c) ++ (r ∷ [])
@@ -145,7 +146,7 @@ module _ (c : Client) (w : length c ≡ 157) where
     pub noted-saw : sawPending (noted narrow j r p c) ≡ (sawPending c || ltb 0 p)
     unfolding noted sawPending stepped
     noted-saw =
-        ap (λ (x : ℕ). not (eqb x 0)) (three-last c 1 (steps c + 1) (13 + j) r 2 (cond (eqb p 0) (getD c 2 0) 1) (omega arith)) ∙ saw-or (getD c 2 0)
+        ap (λ (x : ℕ). not (eqb x 0)) (three-last c 1 (steps c + 1) (notedOffset narrow j) r 2 (cond (eqb p 0) (getD c 2 0) 1) (omega arith)) ∙ saw-or (getD c 2 0)
 
   -- a write past its table step
   module _ (changed full : Bool) where
@@ -185,44 +186,44 @@ padded-front n x a r h = rw append-assoc (take-at a (replicate (n - length a) 0 
 counted : Client → ℕ → Entry
 counted c n = set (entryOf c) 7 n
 
-module _ (c : Client) (w : length c ≡ 157) (sh : Shape) (l : List Record) (wl : Wide (sh .columns) l) (few : sh .columns ≤ maxColumns) (short : length l ≤ 32) where
-  length-list : length (padded 128 (flat l)) ≡ 128
-  length-list = let a = length-flat (sh .columns) l wl in let b = list-room (length l) (sh .columns) short few in length-padded 128 (flat l) (omega arith)
+module _ (c : Client) (w : length c ≡ clientWidth narrow) (sh : Shape) (l : List Record) (wl : Wide (sh .columns) l) (few : sh .columns ≤ maxColumns) (short : length l ≤ 32) where
+  length-list : length (padded listWidth (flat l)) ≡ listWidth
+  length-list = let a = length-flat (sh .columns) l wl in let b = list-room (length l) (sh .columns) short few in length-padded listWidth (flat l) (omega arith)
 
-  length-counted : length (counted c (length l)) ≡ 152
+  length-counted : length (counted c (length l)) ≡ entryWidth narrow
   unfolding counted
   length-counted = length-set (entryOf c) 7 (length l) ∙ length-entry c w
 
-  holding-entry : entryOf (holding narrow sh l c) ≡ written (counted c (length l)) 24 (padded 128 (flat l))
+  holding-entry : entryOf (holding narrow sh l c) ≡ written (counted c (length l)) (listOffset narrow sh) (padded listWidth (flat l))
   unfolding holding entryOf stepped counted
   holding-entry =
-      drop-written-add 5 24 (set (set c 1 (steps c + 1)) 12 (length l)) (padded 128 (flat l)) (rw (length-set, length-set, w) (omega arith))
-      ∙ ap (λ (e : Entry). written e 24 (padded 128 (flat l)))
+      drop-written-add 5 (listOffset narrow sh) (set (set c 1 (steps c + 1)) 12 (length l)) (padded listWidth (flat l)) (rw (length-set, length-set, w) (omega arith))
+      ∙ ap (λ (e : Entry). written e (listOffset narrow sh) (padded listWidth (flat l)))
       (drop-set-add 5 (set c 1 (steps c + 1)) 7 (length l) ∙ ap (λ (e : Entry). set e 7 (length l)) (drop-set-lt 5 c 1 (steps c + 1) (omega arith)))
 
   holding-front : (i : ℕ) → i < 5 → getD (holding narrow sh l c) i 0 ≡ getD (stepped c) i 0
   unfolding holding
   holding-front i h =
-      getD-before (set (stepped c) 12 (length l)) 29 (padded 128 (flat l)) (rw (length-set, stepped-next c w .wide) (omega arith)) i 0 (omega arith)
+      getD-before (set (stepped c) 12 (length l)) (heldListOffset narrow sh) (padded listWidth (flat l)) (rw (length-set, stepped-next c w .wide) (omega arith)) i 0 (omega arith)
       ∙ getD-set-other (stepped c) 12 i (length l) 0 (λ e. omega arith)
 
-  long-counted : 24 ≤ length (counted c (length l))
+  long-counted : listOffset narrow sh ≤ length (counted c (length l))
   long-counted = let a = length-counted in omega arith
 
   holding-key : keyIn (entryOf (holding narrow sh l c)) ≡ keyIn (entryOf c)
   unfolding keyIn counted
   holding-key =
       ap (take 7) holding-entry
-      ∙ take-written (counted c (length l)) 24 (padded 128 (flat l)) long-counted 7 (omega arith)
+      ∙ take-written (counted c (length l)) (listOffset narrow sh) (padded listWidth (flat l)) long-counted 7 (omega arith)
       ∙ take-set-le 7 (entryOf c) 7 (length l) (omega arith)
 
-  holding-wide : length (holding narrow sh l c) ≡ 157
+  holding-wide : length (holding narrow sh l c) ≡ clientWidth narrow
   unfolding holding
   holding-wide =
       let a = stepped-next c w .wide in
       let b = length-set (stepped c) 12 (length l) in
       let d = length-list in
-      length-written (set (stepped c) 12 (length l)) 29 (padded 128 (flat l)) (omega arith) ∙ b ∙ a
+      length-written (set (stepped c) 12 (length l)) (heldListOffset narrow sh) (padded listWidth (flat l)) (omega arith) ∙ b ∙ a
 
   pub holding-next : Next c (holding narrow sh l c)
   unfolding kind steps
@@ -237,13 +238,13 @@ module _ (c : Client) (w : length c ≡ 157) (sh : Shape) (l : List Record) (wl 
   unfolding revisionsIn counted
   holding-revisions n h =
       let e : 8 + n - 8 ≡ n = omega arith in
-      let v : List ℕ = padded 128 (flat l) in
-      let a : take n (drop 8 (written (counted c (length l)) 24 v)) ≡ drop 8 (take (8 + n) (written (counted c (length l)) 24 v)) =
-      rw (drop-take 8 (8 + n) (written (counted c (length l)) 24 v), e) in
+      let v : List ℕ = padded listWidth (flat l) in
+      let a : take n (drop 8 (written (counted c (length l)) (listOffset narrow sh) v)) ≡ drop 8 (take (8 + n) (written (counted c (length l)) (listOffset narrow sh) v)) =
+      rw (drop-take 8 (8 + n) (written (counted c (length l)) (listOffset narrow sh) v), e) in
       let b : drop 8 (take (8 + n) (counted c (length l))) ≡ take n (drop 8 (counted c (length l))) = rw (drop-take 8 (8 + n) (counted c (length l)), e) in
       ap (λ (x : Entry). take n (drop 8 x)) holding-entry
       ∙ a
-      ∙ ap (drop 8) (take-written (counted c (length l)) 24 v long-counted (8 + n) (omega arith))
+      ∙ ap (drop 8) (take-written (counted c (length l)) (listOffset narrow sh) v long-counted (8 + n) (omega arith))
       ∙ b
       ∙ ap (take n) (drop-set-lt 8 (entryOf c) 7 (length l) (omega arith))
 
@@ -251,26 +252,26 @@ module _ (c : Client) (w : length c ≡ 157) (sh : Shape) (l : List Record) (wl 
   unfolding lengthIn counted
   holding-length =
       ap (λ (x : Entry). getD x 7 0) holding-entry
-      ∙ getD-before (counted c (length l)) 24 (padded 128 (flat l)) long-counted 7 0 (omega arith)
+      ∙ getD-before (counted c (length l)) (listOffset narrow sh) (padded listWidth (flat l)) long-counted 7 0 (omega arith)
       ∙ getD-set-same (entryOf c) 7 (length l) 0 (let z = length-entry c w in omega arith)
 
   holding-list : listIn narrow sh (entryOf (holding narrow sh l c)) ≡ flat l
   unfolding listIn
   holding-list =
       rw holding-length (
-      ap (λ (x : Entry). take (length l * sh .columns) (drop 24 x)) holding-entry
-      ∙ ap (take (length l * sh .columns)) (drop-of-written (counted c (length l)) 24 (padded 128 (flat l)) long-counted)
-      ∙ padded-front 128 (length l * sh .columns) (flat l) (drop (24 + length (padded 128 (flat l))) (counted c (length l))) (length-flat (sh .columns) l wl))
+      ap (λ (x : Entry). take (length l * sh .columns) (drop (listOffset narrow sh) x)) holding-entry
+      ∙ ap (take (length l * sh .columns)) (drop-of-written (counted c (length l)) (listOffset narrow sh) (padded listWidth (flat l)) long-counted)
+      ∙ padded-front listWidth (length l * sh .columns) (flat l) (drop (listOffset narrow sh + length (padded listWidth (flat l))) (counted c (length l))) (length-flat (sh .columns) l wl))
 
   pub holding-value : valueIn sh (entryOf (holding narrow sh l c)) ≡ record { count = length l; numbers = flat l }
   unfolding valueIn
   holding-value = λ i. record { count = holding-length i; numbers = holding-list i }
 
 -- ---- As a begin leaves it
-module _ (x : ℕ) (q : Query) (h : length q ≤ 4) where
+module _ (x : ℕ) (q : Query) (h : length q ≤ maxColumns) where
   begun-word : (j : ℕ) → getD (begun narrow x q) j 0 ≡ getD (x ∷ 0 ∷ 0 ∷ 0 ∷ 0 ∷ keyWords q) j 0
   unfolding begun
-  begun-word j = getD-padded 157 (x ∷ 0 ∷ 0 ∷ 0 ∷ 0 ∷ keyWords q) j
+  begun-word j = getD-padded (clientWidth narrow) (x ∷ 0 ∷ 0 ∷ 0 ∷ 0 ∷ keyWords q) j
 
   pub begun-kind : kind (begun narrow x q) ≡ x
   unfolding kind
@@ -284,9 +285,9 @@ module _ (x : ℕ) (q : Query) (h : length q ≤ 4) where
   unfolding sawPending
   begun-saw = rw (begun-word 2)
 
-  pub begun-wide : length (begun narrow x q) ≡ 157
+  pub begun-wide : length (begun narrow x q) ≡ clientWidth narrow
   unfolding begun
-  begun-wide = let a = key-words-length q (omega arith) in length-padded 157 (x ∷ 0 ∷ 0 ∷ 0 ∷ 0 ∷ keyWords q) (omega arith)
+  begun-wide = let a = key-words-length q (omega arith) in length-padded (clientWidth narrow) (x ∷ 0 ∷ 0 ∷ 0 ∷ 0 ∷ keyWords q) (omega arith)
 
   pub begun-key : keyIn (entryOf (begun narrow x q)) ≡ keyWords q
   unfolding keyIn entryOf begun padded

@@ -15,7 +15,7 @@ use Rattle.query.specs.Encoding.{recordOf, namesAll, queryIn}
 use Rattle.query.proofs.NodeLists.{named-most}
 use Rattle.query.proofs.EncodingLaws.{query-in-key, key-is-key}
 use Rattle.query.specs.Shape.{Shape, maxColumns, narrow}
-use Rattle.rules.specs.Layout.{maxList, reads, inserts, deletes}
+use Rattle.rules.specs.Layout.{maxList, clientWidth, reads, inserts, deletes}
 use Rattle.rules.specs.Table.{Write, insert, delete, target}
 use Rattle.rules.specs.Answers.{Entry, lengthIn}
 use Rattle.rules.specs.Client.{Client, kind, steps, sawPending, didChange, foundFull, entryOf, isIdle, queryAt, writeAt, stepsInAll, isBad, begun}
@@ -33,9 +33,9 @@ pub idle-is : isIdle narrow (rules.idle narrow) ≡ true
 unfolding isIdle
 idle-is = same-refl (rules.idle narrow)
 
-pub idle-wide : length (rules.idle narrow) ≡ 157
+pub idle-wide : length (rules.idle narrow) ≡ clientWidth narrow
 unfolding rules.idle
-idle-wide = length-replicate {A = ℕ} 157 0
+idle-wide = length-replicate {A = ℕ} (clientWidth narrow) 0
 
 pub idle-phase : (sh : Shape) → phaseOf sh (rules.idle narrow) ≡ idle
 unfolding phaseOf
@@ -51,7 +51,7 @@ busy-not-idle sh c b = byTest (isIdle narrow c) (λ e. absurd (let z = idle-kind
 -- ---- What a call leaves at a desk: a sound client, which stands for x
 pub record Left (sh : Shape) (t : Client) (x : Phase) : Type 0 where
   pub sound : isBad narrow sh t ≡ false
-  pub wide : length t ≡ 157
+  pub wide : length t ≡ clientWidth narrow
   pub phase : phaseOf sh t ≡ x
 
 pub idle-left : (sh : Shape) → Left sh (rules.idle narrow) idle

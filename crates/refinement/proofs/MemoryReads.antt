@@ -13,16 +13,18 @@ use Rattle.laws.proofs.EntryLaws.{length-entries, wide-entries, entries-header,
 use Rattle.rules.specs.Table.{Table}
 use Rattle.rules.specs.Nodes.{Node, Store}
 use Rattle.rules.specs.Answers.{Entry}
-use Rattle.query.specs.Shape.{narrow}
+use Rattle.lists.specs.Lists.{header}
+use Rattle.query.specs.Shape.{maxColumns, narrow}
+use Rattle.rules.specs.Layout.{maxRecords, maxNodes, maxAnswers, tableLeast, nodesLeast, entryWidth, answersEnd}
 use Rattle.rules.specs.Memory.{recordsIn, withRecords, storeIn, withStore, answersIn, withAnswers}
 use Rattle.revisions.proofs.NodeRows.{Each, AllRows}
 use Rattle.machine.proofs.Sums.{In, here, there}
 
 -- ---- Records
-pub records-room : (k n : ℕ) → k ≤ 4 → n ≤ 2048 → 8 + n * k ≤ 8200
-records-room k n h g = let a : n * k ≤ 2048 * k = mul-le-mul-right k g in omega arith
+pub records-room : (k n : ℕ) → k ≤ maxColumns → n ≤ maxRecords → header + n * k ≤ tableLeast
+records-room k n h g = let a : n * k ≤ maxRecords * k = mul-le-mul-right k g in omega arith
 
-module _ (k : ℕ) (s : List ℕ) (few : k ≤ 4) (long : 8200 ≤ length s) (count : getD s 0 0 ≤ 2048) where
+module _ (k : ℕ) (s : List ℕ) (few : k ≤ maxColumns) (long : tableLeast ≤ length s) (count : getD s 0 0 ≤ maxRecords) where
   records-fit : 8 + getD s 0 0 * k ≤ length s
   records-fit = let a = records-room k (getD s 0 0) few count in omega arith
 
@@ -34,7 +36,7 @@ module _ (k : ℕ) (s : List ℕ) (few : k ≤ 4) (long : 8200 ≤ length s) (co
   unfolding recordsIn
   length-records = length-entries 0 k s
 
-  module _ (t : Table) (wt : Wide k t) (most : length t ≤ 2048) where
+  module _ (t : Table) (wt : Wide k t) (most : length t ≤ maxRecords) where
     room-records : 8 + length t * k ≤ length s
     room-records = let a = records-room k (length t) few most in omega arith
 
@@ -61,7 +63,7 @@ unfolding Each Wide
 wide-each [] h = tt
 wide-each (n ∷ ns) h = (h .0, wide-each ns (h .1))
 
-module _ (s : List ℕ) (long : 8200 ≤ length s) (count : getD s 1 0 ≤ 1024) where
+module _ (s : List ℕ) (long : nodesLeast narrow ≤ length s) (count : getD s 1 0 ≤ maxNodes) where
   pub rows-nodes : AllRows (storeIn s .nodes)
   unfolding storeIn
   rows-nodes = wide-each (entriesIn 1 8 s) (wide-entries 1 8 s (omega arith))
@@ -70,7 +72,7 @@ module _ (s : List ℕ) (long : 8200 ≤ length s) (count : getD s 1 0 ≤ 1024)
   unfolding storeIn
   length-nodes = length-entries 1 8 s
 
-  module _ (t : Store) (r : AllRows (t .nodes)) (most : length (t .nodes) ≤ 1024) where
+  module _ (t : Store) (r : AllRows (t .nodes)) (most : length (t .nodes) ≤ maxNodes) where
     nodes-there : length (withEntries 1 8 s (t .nodes)) ≡ length s
     nodes-there = length-with 1 8 s (t .nodes) (rows-wide (t .nodes) r) (omega arith) (omega arith)
 
@@ -99,27 +101,27 @@ module _ (s : List ℕ) (long : 8200 ≤ length s) (count : getD s 1 0 ≤ 1024)
         ∙ count-with 1 8 s (t .nodes) (rows-wide (t .nodes) r) (omega arith) (omega arith) (omega arith)
 
 -- ---- Filed answers
-module _ (s : List ℕ) (long : 10000 ≤ length s) (count : getD s 0 0 ≤ 64) where
-  pub wide-answers : Wide 152 (answersIn narrow s)
+module _ (s : List ℕ) (long : answersEnd narrow ≤ length s) (count : getD s 0 0 ≤ maxAnswers) where
+  pub wide-answers : Wide (entryWidth narrow) (answersIn narrow s)
   unfolding answersIn
-  wide-answers = wide-entries 0 152 s (omega arith)
+  wide-answers = wide-entries 0 (entryWidth narrow) s (omega arith)
 
   pub length-answers : length (answersIn narrow s) ≡ getD s 0 0
   unfolding answersIn
-  length-answers = length-entries 0 152 s
+  length-answers = length-entries 0 (entryWidth narrow) s
 
-  module _ (es : List Entry) (we : Wide 152 es) (most : length es ≤ 64) where
+  module _ (es : List Entry) (we : Wide (entryWidth narrow) es) (most : length es ≤ maxAnswers) where
     pub answers-with : answersIn narrow (withAnswers narrow s es) ≡ es
     unfolding answersIn withAnswers
-    answers-with = entries-with 0 152 s es we (omega arith) (omega arith) (omega arith)
+    answers-with = entries-with 0 (entryWidth narrow) s es we (omega arith) (omega arith) (omega arith)
 
     pub length-with-answers : length (withAnswers narrow s es) ≡ length s
     unfolding withAnswers
-    length-with-answers = length-with 0 152 s es we (omega arith) (omega arith)
+    length-with-answers = length-with 0 (entryWidth narrow) s es we (omega arith) (omega arith)
 
     pub count-answers : getD (withAnswers narrow s es) 0 0 ≡ length es
     unfolding withAnswers
-    count-answers = count-with 0 152 s es we (omega arith) (omega arith) (omega arith)
+    count-answers = count-with 0 (entryWidth narrow) s es we (omega arith) (omega arith) (omega arith)
 
 -- one of them has its width
 pub wide-in : (w : ℕ) {e : List ℕ} {es : List (List ℕ)} → Wide w es → In e es → length e ≡ w

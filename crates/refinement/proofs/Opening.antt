@@ -10,7 +10,7 @@ use lib.Seq.{take-at, drop-at, getD-set-same, getD-set-other, drop-set-lt}
 use Rattle.laws.proofs.TestLaws.{byTest}
 use Rattle.lists.specs.Lists.{rows, entriesIn}
 use Rattle.query.specs.Shape.{Shape, shapeOf, maxColumns, narrow}
-use Rattle.rules.specs.Layout.{maxClients, tableLeast, nodesLeast, answersLeast, clientsLeast}
+use Rattle.rules.specs.Layout.{maxClients, tableLeast, nodesLeast, answersLeast, clientsLeast, entryWidth, clientWidth, clientOffset}
 use Rattle.rules.specs.Nodes.{store}
 use Rattle.rules.specs.Client as rules
 use Rattle.rules.specs.Memory.{Mem, recordsIn, storeIn, answersIn, clientIn, cleared, opened}
@@ -63,10 +63,10 @@ module _ (m : Mem) (sh : Shape) (l : Long m) where
       let b = l .clients in
       getD-set-same (cleared (clientsLeast narrow sh) (m .clients)) 0 (sh .columns) 0 (omega arith)
 
-  opened-client : (d : ℕ) → d < 12 → client (opened narrow sh m) d ≡ rules.idle narrow
+  opened-client : (d : ℕ) → d < maxClients → client (opened narrow sh m) d ≡ rules.idle narrow
   unfolding client clientIn opened rules.idle
   opened-client d h =
-      rw (drop-set-lt (8 + d * 157) (cleared (clientsLeast narrow sh) (m .clients)) 0 (sh .columns) (omega arith)) (cleared-part (clientsLeast narrow sh) (m .clients) (8 + d * 157) 157 (omega arith))
+      rw (drop-set-lt (clientOffset narrow d) (cleared (clientsLeast narrow sh) (m .clients)) 0 (sh .columns) (omega arith)) (cleared-part (clientsLeast narrow sh) (m .clients) (clientOffset narrow d) (clientWidth narrow) (omega arith))
 
   no-records : getD (opened narrow sh m .table) 0 0 ≡ 0
   unfolding opened
@@ -89,7 +89,7 @@ module _ (m : Mem) (sh : Shape) (l : Long m) where
 
   none-filed : answersIn narrow (opened narrow sh m .answers) ≡ []
   unfolding answersIn
-  none-filed = no-entries 0 152 (opened narrow sh m .answers) no-answers
+  none-filed = no-entries 0 (entryWidth narrow) (opened narrow sh m .answers) no-answers
 
   opened-lengths : Long (opened narrow sh m)
   unfolding opened

@@ -16,7 +16,7 @@ use Rattle.query.specs.Query.{Query, writeNode, writeNodes, writeCount}
 use Rattle.query.specs.Encoding.{queryOf, recordOf, labelWords}
 use Rattle.query.proofs.EncodingLaws.{is-query-length}
 use Rattle.query.specs.Shape.{Shape, narrow}
-use Rattle.rules.specs.Layout.{maxClients, reads, inserts, deletes}
+use Rattle.rules.specs.Layout.{maxClients, entryWidth, reads, inserts, deletes}
 use Rattle.rules.specs.declared.Outcome.the-variants.{Accepted}
 use Rattle.rules.specs.Table.{Write, insert, delete, target}
 use Rattle.rules.specs.Nodes.{Words, Store, store, evictNode, releasedAll}
@@ -39,7 +39,7 @@ use Rattle.machine.proofs.Sums.{in-none}
 use Rattle.machine.proofs.Keys.{writeLabels, width, widthOf}
 use Rattle.machine.proofs.Machine.{Phase, idle, State, begin-read, begin-write, abandon, evict-answer, evict-node, renew, with-store, with-filed, cut}
 use Rattle.machine.proofs.Transition as steps-of
-use Rattle.refinement.proofs.Abstraction.{looksOf, ansOf, readerOf, phaseOf, busyPhase, phasesOf, filedOf, stateOf, responseIn, Fits}
+use Rattle.refinement.proofs.Abstraction.{answers-room, looksOf, ansOf, readerOf, phaseOf, busyPhase, phasesOf, filedOf, stateOf, responseIn, Fits}
 use Rattle.refinement.proofs.ClientPhases.{Left, idle-left, busy-phase, announcing-phase, write-target, target-insert, target-delete, begun-busy, begun-reads, begun-insert, begun-delete, begun-writes}
 use Rattle.refinement.proofs.ClientParts.{begun-wide}
 use Rattle.refinement.proofs.MemoryReads.{rows-nodes, length-nodes, wide-answers, length-answers}
@@ -186,12 +186,12 @@ evicted-simulated : (m : Mem) (i : ℕ) → Fits m → i < getD (m .answers) 0 0
 unfolding untrayed responseIn stateOf filedOf cut
 evicted-simulated m i f h =
     let es : List Entry = answersIn narrow (m .answers) in
-    let n = length-answers (m .answers) (f .answers-long) (f .answers) in
+    let n = length-answers (m .answers) (answers-room m f) (f .answers) in
     let y = f .answers in
     let l = length-without i es (omega arith) in
     let z = length-map es (ansOf (shape m)) in
     simulated Accepted []
-    (at-filed m f (without i es) (wide-without 152 i es (wide-answers (m .answers) (f .answers-long) (f .answers))) (omega arith) (λ e j. f .kept e (in-without i es j)))
+    (at-filed m f (without i es) (wide-without (entryWidth narrow) i es (wide-answers (m .answers) (answers-room m f) (f .answers))) (omega arith) (λ e j. f .kept e (in-without i es j)))
     (rw (map-without (ansOf (shape m)) i es) (steps-of.evicted-answer {i = i} (omega arith)))
 
 pub evict-answer-simulated : (m : Mem) (i : ℕ) → Fits m → Simulated m (evict-answer i) (untrayed (evictAnswerResult m i))
@@ -210,7 +210,7 @@ evict-node-simulated m i f once = unless-simulated m _ (evictNodeCode m i) _ f (
     simulated Accepted [] (at-store m f (evictNode i (storeIn (m .nodes))) (k .1) (omega arith)) (steps-of.evicted-node (omega arith) (k .0)))
 
 -- ---- Renewals
-all-idle : (m : Mem) → ((d : ℕ) → d < 12 → isIdle narrow (client m d) ≡ true) → (d : ℕ) → stateOf m .clients d ≡ idle
+all-idle : (m : Mem) → ((d : ℕ) → d < maxClients → isIdle narrow (client m d) ≡ true) → (d : ℕ) → stateOf m .clients d ≡ idle
 unfolding stateOf phasesOf
 all-idle m h d = byTest (ltb d maxClients) (λ t. rw t (idle-at (shape m) (client m d) (h d (ltb-true d maxClients t)))) (λ t. rw t)
 
@@ -218,7 +218,7 @@ renewed-after : (m : Mem) → Fits m → After m (renewed m) (with-filed (with-s
 unfolding renewed storeBack Each
 renewed-after m f =
     let a = at-store m f (store 1 []) tt (omega arith) in
-    let b = at-filed (storeBack m (store 1 [])) (a .fits) [] (wide-nil 152) (omega arith) (λ e i. in-none i) in
+    let b = at-filed (storeBack m (store 1 [])) (a .fits) [] (wide-nil (entryWidth narrow)) (omega arith) (λ e i. in-none i) in
     record { state = b .state ∙ ap (λ (s : State). with-filed s []) (a .state); fits = b .fits; same = b .same ∙ a .same }
 
 pub renew-simulated : (m : Mem) → Fits m → Simulated m renew (untrayed (renewResult m))

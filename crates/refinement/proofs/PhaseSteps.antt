@@ -13,7 +13,7 @@ use Rattle.query.specs.Query.{Record, writeCount}
 use Rattle.query.proofs.NodeLists.{read-count-most}
 use Rattle.query.proofs.EncodingLaws.{query-in-length}
 use Rattle.query.specs.Shape.{Shape, maxColumns, narrow}
-use Rattle.rules.specs.Layout.{maxList, reads}
+use Rattle.rules.specs.Layout.{maxList, clientWidth, reads}
 use Rattle.rules.specs.Table.{Write, target}
 use Rattle.rules.specs.Answers.{Entry, keyIn}
 use Rattle.rules.specs.Client.{Client, kind, steps, sawPending, didChange, foundFull, entryOf, queryAt, writeAt, stepsInAll, stepped, noted, holding, wrote}
@@ -41,7 +41,7 @@ raising-eq : {w v : Write} {i j : ℕ} {a b c d : Bool} → w ≡ v → i ≡ j 
 raising-eq e f g h = λ i. raising (e i) (f i) (g i) (h i)
 
 -- ---- A read
-module _ (sh : Shape) (c : Client) (w : length c ≡ 157) (few : sh .columns ≤ maxColumns) (b : Busy sh c) (r : kind c ≡ reads) where
+module _ (sh : Shape) (c : Client) (w : length c ≡ clientWidth narrow) (few : sh .columns ≤ maxColumns) (b : Busy sh c) (r : kind c ≡ reads) where
   -- a look
   pub noted-left : (x p : ℕ) → steps c < looksOf sh (entryOf c)
       → Left sh (noted narrow (steps c) x p c) (looking (keyOf sh (entryOf c)) (revisionsIn (steps c) (entryOf c) ++ (x ∷ [])) (sawPending c || ltb 0 p))
@@ -107,7 +107,7 @@ module _ (sh : Shape) (c : Client) (w : length c ≡ 157) (few : sh .columns ≤
       }
 
 -- ---- A write
-module _ (sh : Shape) (c : Client) (w : length c ≡ 157) (b : Busy sh c) (r : kind c ≡ reads → ⊥) where
+module _ (sh : Shape) (c : Client) (w : length c ≡ clientWidth narrow) (b : Busy sh c) (r : kind c ≡ reads → ⊥) where
   write-nodes : writeCount (target (writeAt sh c)) ≡ writeCount (queryAt sh c)
   write-nodes = ap writeCount (write-target sh c b)
 

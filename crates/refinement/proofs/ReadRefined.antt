@@ -18,19 +18,18 @@ use Rattle.query.specs.Query.{Query, Record, readNode, readCount, lies}
 use Rattle.query.specs.Encoding.{labelWords, queryIn}
 use Rattle.query.proofs.NodeLists.{read-node-length}
 use Rattle.query.proofs.EncodingLaws.{label-words-length, query-in-length}
-use Rattle.rules.specs.Layout.{maxList}
+use Rattle.query.specs.Shape.{narrow}
+use Rattle.rules.specs.Layout.{maxList, entryWidth, reads}
 use Rattle.rules.specs.declared.Outcome.the-variants.{Accepted, Long}
 use Rattle.rules.specs.Table.{listOf}
 use Rattle.rules.specs.Nodes.{Words, Store, nodeOf, revision, pending}
 use Rattle.rules.specs.Answers.{Entry, keyIn, lengthIn, listIn, serves, fetchPlace, filed}
 use Rattle.rules.specs.Client.{kind, sawPending, queryAt, stepped, noted, holding}
-use Rattle.rules.specs.Layout.{reads}
 use Rattle.rules.specs.Client as rules
 use Rattle.rules.specs.Memory.{Mem, withFiled, recordsIn, storeIn, answersIn, withAnswers}
 use Rattle.rules.specs.Refusals.{columns, client}
 use Rattle.rules.proofs.ClientLaws.{list-room}
 use Rattle.rules.specs.Outcome.{resultWith}
-use Rattle.query.specs.Shape.{narrow}
 use Rattle.rules.specs.Refusals.{shape}
 use Rattle.rules.specs.Steps.{nowAt, answered, lookResult, fetchResult, tableResult, fileResult, readResult}
 use Rattle.revisions.proofs.EffectiveRevision.{has, effective, pendingOf}
@@ -40,7 +39,7 @@ use Rattle.machine.proofs.Keys.{Key, valueOf, short, readLabels}
 use Rattle.machine.proofs.Machine.{idle, looking, tabling, filing, Ans, step, node, at-client, with-filed, holds-for, filed-in}
 use Rattle.machine.proofs.Machine as machine
 use Rattle.machine.proofs.Transition as transition
-use Rattle.refinement.proofs.Abstraction.{keyOf, valueIn, revisionsIn, looksOf, ansOf, filedOf, stateOf, responseIn, Kept}
+use Rattle.refinement.proofs.Abstraction.{answers-room, keyOf, valueIn, revisionsIn, looksOf, ansOf, filedOf, stateOf, responseIn, Kept}
 use Rattle.refinement.proofs.ClientParts.{length-entry}
 use Rattle.refinement.proofs.ClientPhases.{Left, idle-left, looking-eq, looking-phase, tabling-phase, filing-phase}
 use Rattle.refinement.proofs.PhaseSteps.{looks-most, noted-left, missed-left, holding-left}
@@ -147,7 +146,7 @@ module _ (m : Mem) (tray : List ℕ) (d : ℕ) (g : Going m d) (r : kind (client
       let es : List Entry = answersIn narrow (m .answers) in
       let f = g .fits in
       let j : In (getD es i []) es = in-at [] es i h in
-      let w = wide-in 152 (wide-answers (m .answers) (f .answers-long) (f .answers)) j in
+      let w = wide-in (entryWidth narrow) (wide-answers (m .answers) (answers-room m f) (f .answers)) j in
       let kept = f .kept (getD es i []) j in
       let z : serves narrow (looksOf (shape m) x) x (getD es i []) ≡ true = rw is (place-at (serves narrow (looksOf (shape m) x) x) es [] (rw is at h)) in
       answered-simulated tray (listIn narrow (shape m) (getD es i [])) d (lengthIn (getD es i [])) true (as-it-was m f) (g .below)
@@ -234,9 +233,9 @@ module _ (m : Mem) (tray : List ℕ) (d : ℕ) (g : Going m d) (r : kind (client
       let f = g .fits in
       let x : Entry = entryAt m d in
       let es : List Entry = answersIn narrow (m .answers) in
-      let n = length-answers (m .answers) (f .answers-long) (f .answers) in
+      let n = length-answers (m .answers) (answers-room m f) (f .answers) in
       let y = f .answers in
-      at-filed m f (filed x es) (wide-filed x es (wide-answers (m .answers) (f .answers-long) (f .answers)) (length-entry (client m d) (g .wide)))
+      at-filed m f (filed x es) (wide-filed x es (wide-answers (m .answers) (answers-room m f) (f .answers)) (length-entry (client m d) (g .wide)))
       (length-filed x es (omega arith)) kept-filed
 
   filed-is : map (ansOf (shape m)) (filed (entryAt m d) (answersIn narrow (m .answers)))

@@ -11,7 +11,7 @@ use lib.ListN.{length}
 use Rattle.laws.proofs.TestLaws.{byTest}
 use Rattle.laws.proofs.RowLaws.{Wide}
 use Rattle.query.specs.Shape.{Shape, shapeOf, narrow}
-use Rattle.rules.specs.Layout.{maxRecords, maxNodes, maxAnswers, maxClients}
+use Rattle.rules.specs.Layout.{maxRecords, maxNodes, maxAnswers, maxClients, entryWidth, clientWidth, clientOffset}
 use Rattle.rules.specs.declared.Outcome.{Outcome}
 use Rattle.rules.specs.Table.{Table}
 use Rattle.rules.specs.Nodes.{Store}
@@ -27,7 +27,7 @@ use Rattle.revisions.proofs.NodeRows.{AllRows}
 use Rattle.machine.proofs.Sums.{In, upd, upd-same, upd-other}
 use Rattle.machine.proofs.Machine.{Phase, State, Call, at-client, with-store, with-filed, with-tab}
 use Rattle.machine.proofs.Transition.{Transition}
-use Rattle.refinement.proofs.Abstraction.{ansOf, phasesOf, filedOf, stateOf, responseIn, responseOf, Kept, Fits}
+use Rattle.refinement.proofs.Abstraction.{answers-room, ansOf, phasesOf, filedOf, stateOf, responseIn, responseOf, Kept, Fits}
 use Rattle.refinement.proofs.ClientPhases.{Left}
 use Rattle.refinement.proofs.MemoryReads.{records-with, length-with-records, count-records}
 use Rattle.refinement.proofs.MemoryReads.{store-with, length-with-store, count-nodes, answers-with, length-with-answers, count-answers}
@@ -56,8 +56,8 @@ state-eq : {s t : State} → s .shape ≡ t .shape → s .tab ≡ t .tab → s .
 state-eq a b c d e = λ i. record { shape = a i; tab = b i; store = c i; filed = d i; clients = e i }
 
 -- ---- A client
-module _ (m : Mem) (f : Fits m) (d : ℕ) (h : d < 12) (c : Client) (x : Phase) (l : Left (shape m) c x) where
-  room : 8 + d * 157 + 157 ≤ length (m .clients)
+module _ (m : Mem) (f : Fits m) (d : ℕ) (h : d < maxClients) (c : Client) (x : Phase) (l : Left (shape m) c x) where
+  room : clientOffset narrow d + clientWidth narrow ≤ length (m .clients)
   room = let z = f .clients-long in omega arith
 
   now-columns : columns (nowAt m d c) ≡ columns m
@@ -157,9 +157,9 @@ module _ (m : Mem) (f : Fits m) (t : Table) (w : Wide (columns m) t) (most : len
   }
 
 -- ---- The filed answers
-module _ (m : Mem) (f : Fits m) (es : List Entry) (w : Wide 152 es) (most : length es ≤ maxAnswers) (all : (e : Entry) → In e es → Kept (shape m) e) where
+module _ (m : Mem) (f : Fits m) (es : List Entry) (w : Wide (entryWidth narrow) es) (most : length es ≤ maxAnswers) (all : (e : Entry) → In e es → Kept (shape m) e) where
   answers-back : answersIn narrow (withAnswers narrow (m .answers) es) ≡ es
-  answers-back = answers-with (m .answers) (f .answers-long) (f .answers) es w most
+  answers-back = answers-with (m .answers) (answers-room m f) (f .answers) es w most
 
   pub at-filed : After m (withFiled m (withAnswers narrow (m .answers) es)) (with-filed (stateOf m) (map (ansOf (shape m)) es))
   unfolding stateOf with-filed filedOf phasesOf client
@@ -168,13 +168,13 @@ module _ (m : Mem) (f : Fits m) (es : List Entry) (w : Wide 152 es) (most : leng
     fits = record {
       table-long = f .table-long;
       nodes-long = f .nodes-long;
-      answers-long = let z = length-with-answers (m .answers) (f .answers-long) (f .answers) es w most in let y = f .answers-long in omega arith;
+      answers-long = let z = length-with-answers (m .answers) (answers-room m f) (f .answers) es w most in let y = f .answers-long in omega arith;
       clients-long = f .clients-long;
       some = f .some;
       few = f .few;
       records = f .records;
       nodes = f .nodes;
-      answers = let z = count-answers (m .answers) (f .answers-long) (f .answers) es w most in omega arith;
+      answers = let z = count-answers (m .answers) (answers-room m f) (f .answers) es w most in omega arith;
       kept = λ e i. all e (rw answers-back at i);
       sound = f .sound;
     };
@@ -182,7 +182,7 @@ module _ (m : Mem) (f : Fits m) (es : List Entry) (w : Wide 152 es) (most : leng
   }
 
 -- ---- A client after another change
-pub then-now : {m n : Mem} {s : State} → After m n s → (d : ℕ) → d < 12 → (c : Client) (x : Phase) → Left (shape m) c x → After m (nowAt n d c) (at-client s d x)
+pub then-now : {m n : Mem} {s : State} → After m n s → (d : ℕ) → d < maxClients → (c : Client) (x : Phase) → Left (shape m) c x → After m (nowAt n d c) (at-client s d x)
 then-now {m} {n} a d h c x l =
     let b = at-now n (a .fits) d h c x (rw (a .same) l) in
     record { state = b .state ∙ ap (λ (t : State). at-client t d x) (a .state); fits = b .fits; same = b .same ∙ a .same }

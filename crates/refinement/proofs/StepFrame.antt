@@ -14,7 +14,7 @@ use Rattle.query.specs.Query.{Query, readNode, writeNode, readNodes, writeNodes
 use Rattle.query.specs.Encoding.{labelWords, queryIn}
 use Rattle.query.proofs.NodeLists.{read-nodes-count, write-nodes-count, read-nodes-at, write-nodes-at}
 use Rattle.query.specs.Shape.{Shape, narrow}
-use Rattle.rules.specs.Layout.{maxClients}
+use Rattle.rules.specs.Layout.{maxClients, listOffset, listWidth, entryWidth, clientWidth}
 use Rattle.rules.specs.declared.Outcome.the-variants.{Answered}
 use Rattle.rules.specs.Table.{Write, target}
 use Rattle.rules.specs.Answers.{Entry, keyIn, lengthIn, listIn}
@@ -64,15 +64,15 @@ askedAt m d = queryAt (shape m) (client m d)
 pub record Going (m : Mem) (d : ℕ) : Type 0 where
   pub fits : Fits m
   pub once : NoDup (storeIn (m .nodes) .nodes)
-  pub below : d < 12
+  pub below : d < maxClients
   pub busy : Busy (shape m) (client m d)
-  pub wide : length (client m d) ≡ 157
+  pub wide : length (client m d) ≡ clientWidth narrow
 
-wide-at-client : (m : Mem) → Fits m → (d : ℕ) → d < 12 → length (client m d) ≡ 157
+wide-at-client : (m : Mem) → Fits m → (d : ℕ) → d < maxClients → length (client m d) ≡ clientWidth narrow
 unfolding client
 wide-at-client m f d h = client-wide (m .clients) d (let z = f .clients-long in omega arith)
 
-pub going : (m : Mem) → Fits m → NoDup (storeIn (m .nodes) .nodes) → (d : ℕ) → d < 12 → isIdle narrow (client m d) ≡ false → Going m d
+pub going : (m : Mem) → Fits m → NoDup (storeIn (m .nodes) .nodes) → (d : ℕ) → d < maxClients → isIdle narrow (client m d) ≡ false → Going m d
 going m f once d h e = record {
   fits = f;
   once = once;
@@ -81,7 +81,7 @@ going m f once d h e = record {
   wide = wide-at-client m f d h;
 }
 
-pub client-at : (m : Mem) (d : ℕ) → d < 12 → stateOf m .clients d ≡ phaseOf (shape m) (client m d)
+pub client-at : (m : Mem) (d : ℕ) → d < maxClients → stateOf m .clients d ≡ phaseOf (shape m) (client m d)
 unfolding stateOf phasesOf
 client-at m d h = rw (lt-ltb d maxClients h)
 
@@ -103,13 +103,13 @@ write-node w i h =
     getD-map labelWords (writeNodes (target w)) i [] [] (omega arith) ∙ ap labelWords (write-nodes-at (target w) i h)
 
 -- ---- The tray
-pub answered-simulated : {m n : Mem} {s : State} {c : Call} (tray l : List ℕ) (d x : ℕ) (cached : Bool) → After m n s → d < 12 → length l ≡ x * columns m
+pub answered-simulated : {m n : Mem} {s : State} {c : Call} (tray l : List ℕ) (d x : ℕ) (cached : Bool) → After m n s → d < maxClients → length l ≡ x * columns m
     → Transition (stateOf m) c (answered (record { count = x; numbers = l }) cached) (at-client s d idle) → Simulated m c (rules-steps.answered n tray d x l cached)
 unfolding rules-steps.answered responseIn
 answered-simulated {m} tray l d x cached a h e y =
     simulated (Answered x cached) (written tray 0 l) (then-now a d h (rules.idle narrow) idle (idle-left (shape m))) (rw (written-read tray l (x * columns m) e) y)
 
 -- an entry's list
-pub length-list : (sh : Shape) (e : Entry) → length e ≡ 152 → lengthIn e * sh .columns ≤ 128 → length (listIn narrow sh e) ≡ lengthIn e * sh .columns
+pub length-list : (sh : Shape) (e : Entry) → length e ≡ entryWidth narrow → lengthIn e * sh .columns ≤ listWidth → length (listIn narrow sh e) ≡ lengthIn e * sh .columns
 unfolding listIn
-length-list sh e w h = length-take-le (lengthIn e * sh .columns) (drop 24 e) (rw length-drop (omega arith))
+length-list sh e w h = length-take-le (lengthIn e * sh .columns) (drop (listOffset narrow sh) e) (rw length-drop (omega arith))

@@ -110,6 +110,10 @@ listWidth = maxList * maxColumns
 abbrev pub entryWidth : Form → ℕ
 entryWidth f = revisionsOffset + maxLooks * revisionWidth f + listWidth
 
+-- where the last entry ends
+abbrev pub answersEnd : Form → ℕ
+answersEnd f = header + maxAnswers * entryWidth f
+
 -- ---- A client (the paper's desk): its kind, how many steps it has made, three flags, then an entry
 abbrev pub kindOffset : ℕ
 kindOffset = 0

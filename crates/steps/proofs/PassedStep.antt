@@ -4,15 +4,16 @@ use mathlib.Core.List.{List}
 use Prim.Native.Nat.{ℕ, _≤_}
 use lib.ListN.{length, getD}
 use borrow.Author.Tests.{eq-eqb, ne-eqb}
+use native.Mathlib.Omega.{arith}
 use Rattle.rules.specs.declared.Outcome.the-variants.{Refused, Accepted}
 use Rattle.rules.specs.Client.{kind, steps, idle, queryAt}
-use Rattle.rules.specs.Layout.{reads}
+use Rattle.query.specs.Shape.{shapeOf, narrow}
+use Rattle.rules.specs.Layout.{clientsEnd, reads}
 use Rattle.rules.specs.Memory.{Mem, clientIn, withClients, withClient}
 use Rattle.rules.specs.Outcome.{result, resultWith}
 use Rattle.rules.specs.Refusals.{columns, client, stepCode, abandonCode}
 use Rattle.rules.specs.Steps.{nowAt, readResult, progress}
 use Rattle.rules.specs.Calls.{unless, stepResult, abandoned, abandonResult}
-use Rattle.query.specs.Shape.{narrow, shapeOf}
 use Rattle.rules.proofs.PassedChecks.{Busy, step-passed, abandon-passed, steps-before}
 use Rattle.checks.proofs.SoundMemories.{nodes-fit, client-fit}
 use Rattle.clients.specs.ClientContracts as client-contracts
@@ -24,8 +25,8 @@ use Rattle.writing.specs.WriteContracts.{Writer, stepAt, countAt, stepOf, backO
 
 -- ---- A busy client
 module _ (m : Mem) (d : ℕ) (b : Busy m d) where
-  pub clients-long : 2000 ≤ length (m .clients)
-  clients-long = b .memories .long .clients
+  pub clients-long : clientsEnd narrow ≤ length (m .clients)
+  clients-long = let l = b .memories .long .clients in omega arith
 
   pub busy-fit : client-contracts.Fit (m .clients) d
   busy-fit = client-fit m (b .memories) d (b .below)
@@ -43,7 +44,7 @@ module _ (m : Mem) (d : ℕ) (b : Busy m d) where
     least = b .memories .least;
     most = b .memories .most;
     below = b .below;
-    long = b .memories .long .clients;
+    long = clients-long;
     sound = b .fine;
     busy = b .busy;
     writes = w;

@@ -25,7 +25,7 @@ use Rattle.rules.specs.Client.{Client, steps, idle, queryAt}
 use Rattle.rules.specs.Memory.{Mem, mem, storeIn, withStore, clientIn, withClient}
 use Rattle.rules.specs.Outcome.{result}
 use Rattle.rules.specs.Steps.{nowAt, storeBack}
-use Rattle.query.specs.Shape.{narrow, shapeOf}
+use Rattle.query.specs.Shape.{shapeOf, maxColumns, narrow}
 use Rattle.rules.specs.Calls.{announcedLabels, takenBack}
 use Rattle.columns.specs.ColumnContracts.{four}
 use Rattle.nodes.specs.NodeContracts as contracts
@@ -156,7 +156,7 @@ pub kept-all : (q : Query) (s : Store) (l₀ l : List ℕ) (j n : ℕ) → Kept 
 kept-all q s l₀ l j n x e = rw (← e) (x .are)
 
 -- at most 16 nodes
-few-nodes : (k : ℕ) (cols : List Column) (n : ℕ) → k ≤ 4 → n ≤ writeCount (take k cols) → n ≤ 16
+few-nodes : (k : ℕ) (cols : List Column) (n : ℕ) → k ≤ maxColumns → n ≤ writeCount (take k cols) → n ≤ 16
 unfolding writeCount
 few-nodes k cols n h e =
     let l : length (take k cols) ≤ 4 = rw length-take (omega arith) in
@@ -277,7 +277,7 @@ back-none m d (some st) h = let z : _≡_ {A = ℕ} 0 1 = cc in absurd (omega ar
 pub back-fits : (k : ℕ) (c : Client) (cols : List Column) (i : ℕ) → cols ≡ four (queryAt (shapeOf k) c) → i ≡ steps c → steps c ≤ writeCount (queryAt (shapeOf k) c) → i ≤ writeCount (take k cols)
 back-fits k c cols i e f h = rw (columns-back k c cols e, f) h
 
-pub back-few : (k : ℕ) (c : Client) (cols : List Column) (i : ℕ) → cols ≡ four (queryAt (shapeOf k) c) → i ≡ steps c → steps c ≤ writeCount (queryAt (shapeOf k) c) → k ≤ 4 → i ≤ 16
+pub back-few : (k : ℕ) (c : Client) (cols : List Column) (i : ℕ) → cols ≡ four (queryAt (shapeOf k) c) → i ≡ steps c → steps c ≤ writeCount (queryAt (shapeOf k) c) → k ≤ maxColumns → i ≤ 16
 back-few k c cols i e f h m = few-nodes k cols i m (back-fits k c cols i e f h)
 
 module _ (t n a s : List ℕ) (d k : ℕ) (cols : List Column) (i : ℕ) (e : cols ≡ four (queryAt (shapeOf k) (clientIn narrow s d))) (f : i ≡ steps (clientIn narrow s d)) where

@@ -19,11 +19,11 @@ use Rattle.rules.specs.declared.Outcome.the-variants.{Refused, Accepted, Ended,
 use Rattle.rules.specs.Table.{Write, insert, delete, effect}
 use Rattle.rules.specs.Nodes.{Words, Store, announced, raised}
 use Rattle.rules.specs.Client.{Client, kind, steps, didChange, foundFull, idle, queryAt, writeAt, stepsInAll, stepped, wrote}
+use Rattle.query.specs.Shape.{shapeOf, maxColumns, narrow}
 use Rattle.rules.specs.Layout.{inserts}
 use Rattle.rules.specs.Memory.{mem, recordsIn, withRecords, storeIn, withStore, clientIn, withClient}
 use Rattle.rules.specs.Outcome.{resultWith}
 use Rattle.rules.specs.Refusals.{columns, client}
-use Rattle.query.specs.Shape.{narrow, shapeOf}
 use Rattle.rules.specs.Steps.{nowAt, storeBack, announceResult, writeTableResult, endOf, raiseResult, writeResult}
 use Rattle.lists.specs.Lists.{padded}
 use Rattle.laws.proofs.ListLaws.{length-padded, take-padded}
@@ -154,7 +154,7 @@ pub record Values (cols : List Column) (k : ℕ) (values : List ℕ) : Type 0 wh
   pub part : length (take k values) ≡ k
   pub room : k ≤ length values
 
-pub values-are : (cols : List Column) (k : ℕ) (r : Taken) → r ≡ takenOf (take k cols) → namesAll (take k cols) ≡ true → k ≤ length cols → k ≤ 4 → Values cols k (r .values)
+pub values-are : (cols : List Column) (k : ℕ) (r : Taken) → r ≡ takenOf (take k cols) → namesAll (take k cols) ≡ true → k ≤ length cols → k ≤ maxColumns → Values cols k (r .values)
 values-are cols k r e h l m =
     let rec : Record = recordOf (take k cols) in
     let n : length rec ≡ k = length-record (take k cols) ∙ length-take-le k cols l in

@@ -14,11 +14,11 @@ use Rattle.rules.specs.declared.Outcome.the-variants.{Accepted}
 use Rattle.rules.specs.Table.{Table, Write, insert, delete, changes, noRoom}
 use Rattle.rules.specs.Nodes.{Words, Store, pending, nodePlace, releasedAll}
 use Rattle.rules.specs.Client.{Client, kind, steps, idle, isIdle, isBad, queryAt, writeAt, stepped}
-use Rattle.rules.specs.Layout.{reads, inserts}
+use Rattle.query.specs.Shape.{shapeOf, maxColumns, narrow}
+use Rattle.rules.specs.Layout.{maxClients, clientsEnd, reads, inserts}
 use Rattle.rules.specs.Memory.{Mem, clientIn, storeIn}
 use Rattle.rules.specs.Outcome.{Result, StepResult}
 use Rattle.rules.specs.Steps.{writeResult, endOf}
-use Rattle.query.specs.Shape.{narrow, shapeOf}
 use Rattle.rules.specs.Calls.{announcedLabels, takenBack}
 use Rattle.nodes.specs.NodeContracts.{releasedAt}
 use Rattle.writing.specs.declared.Report.{Report}
@@ -27,9 +27,9 @@ use Rattle.writing.specs.declared.Report.{Report}
 pub record Writer (s : List ℕ) (d k : ℕ) : Type 0 where
   pub columns : k ≡ getD s 0 0
   pub least : 1 ≤ k
-  pub most : k ≤ 4
-  pub below : d < 12
-  pub long : 2000 ≤ length s
+  pub most : k ≤ maxColumns
+  pub below : d < maxClients
+  pub long : clientsEnd narrow ≤ length s
   pub sound : isBad narrow (shapeOf k) (clientIn narrow s d) ≡ false
   pub busy : isIdle narrow (clientIn narrow s d) ≡ false
   pub writes : kind (clientIn narrow s d) ≡ reads → ⊥

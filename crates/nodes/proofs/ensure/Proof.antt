@@ -9,6 +9,7 @@ use Rattle.nodes.specs.NodeContracts.{Fit}
 use Rattle.nodes.proofs.NodePresent.{room-fit, ensure-there, ensure-none, ensure-added}
 use Rattle.nodes.proofs.ensure.Statement.{statement}
 use Rattle.nodes.proofs.ensure.Tie as tie
+use Rattle.rules.specs.Layout.{maxNodes}
 
 find-requires : tie.Need-find-requires
 find-requires c κs = search needs
@@ -40,7 +41,7 @@ slice-read-n : tie.Need-slice-read-n
 slice-read-n c = search needs
 
 -- room was made
-roomy : (c : tie.After-make-room) → c .make-room .result ≡ true → Fit (c .make-room .last .0) × (getD (c .make-room .last .0) 1 0 < 1024)
+roomy : (c : tie.After-make-room) → c .make-room .result ≡ true → Fit (c .make-room .last .0) × (getD (c .make-room .last .0) 1 0 < maxNodes)
 roomy c h = room-fit _ _ _ (c .make-room .ensures) h (c .before .before .before .before .before .before .before .before .pre .0)
 
 cast-n : tie.Need-cast-n
