@@ -19,7 +19,7 @@ use Rattle.rules.specs.Memory.{answersIn, withAnswers}
 use Rattle.answers.specs.AnswerContracts.{Fit}
 use Rattle.answers.proofs.AnswerScan.{count-is}
 
--- entries of 152 numbers, no more than are kept
+-- entries of their width, no more than are kept
 pub record Kept (es : List Entry) : Type 0 where
   pub wide : Wide (entryWidth narrow) es
   pub few : length es ≤ maxAnswers

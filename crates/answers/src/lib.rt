@@ -1,5 +1,5 @@
-// The filed answers over their lent memory: search, file, evict, empty, and the copy of a list into the tray. An entry is 152 numbers
-// (docs/LAYOUT.md): key at 0, list length at 7, revisions from 8, list from 24. The rules stand in the crate rules.
+// The filed answers over their lent memory: search, file, evict, empty, and the copy of a list into the tray. The places in an entry are
+// constants of Hall (docs/LAYOUT.md). The rules stand in the crate rules.
 use hall::Hall;
 ghost use mathlib.Core.Path.{_≡_};
 ghost use mathlib.Core.List.{[], _∷_, _++_};

@@ -17,8 +17,8 @@ use Rattle.columns.specs.ColumnContracts.{four}
 use Rattle.columns.proofs.ColumnLoops.{two-more, names-value, names-wildcard}
 use Rattle.query.specs.Shape.{shapeOf, maxColumns, narrow}
 use Rattle.rules.specs.Layout.{maxRecords, maxNodes, maxAnswers, maxClients, trayLeast, recordCountOffset, nodeCountOffset, answerCountOffset}
-use Rattle.rules.specs.Layout.{reads, inserts, refusedShort, refusedColumns, refusedUnsound, refusedNoClient, refusedTaken, refusedIdle}
-use Rattle.rules.specs.Layout.{refusedCommitted, refusedNoEntry, refusedPending, refusedWorn, refusedOccupied}
+use Rattle.rules.specs.Layout.{columnsOffset, reads, inserts, refusedShort, refusedColumns, refusedUnsound, refusedNoClient, refusedTaken}
+use Rattle.rules.specs.Layout.{refusedIdle, refusedCommitted, refusedNoEntry, refusedPending, refusedWorn, refusedOccupied}
 use Rattle.rules.specs.Nodes.{isWorn, pending}
 use Rattle.rules.specs.Answers.{someLong}
 use Rattle.rules.specs.Client.{Client, kind, steps, isIdle, isBad}
@@ -32,16 +32,16 @@ use Rattle.checks.specs.CheckContracts.{soundCode, recordCode}
 
 -- ---- Unsound memories
 module _ (m : Mem) where
-  pub unsound-none : getD (m .clients) 0 0 ≡ 0 → true ≡ isUnsound m
+  pub unsound-none : getD (m .clients) columnsOffset 0 ≡ 0 → true ≡ isUnsound m
   unfolding isUnsound badColumns
   unsound-none a = rw a
 
-  module _ (a : getD (m .clients) 0 0 ≡ 0 → ⊥) where
-    pub unsound-many : maxColumns < getD (m .clients) 0 0 → true ≡ isUnsound m
+  module _ (a : getD (m .clients) columnsOffset 0 ≡ 0 → ⊥) where
+    pub unsound-many : maxColumns < getD (m .clients) columnsOffset 0 → true ≡ isUnsound m
     unfolding isUnsound badColumns
     unsound-many b = rw (ne-eqb _ _ a, lt-ltb _ _ b)
 
-    module _ (b : getD (m .clients) 0 0 ≤ maxColumns) where
+    module _ (b : getD (m .clients) columnsOffset 0 ≤ maxColumns) where
       pub unsound-records : maxRecords < getD (m .table) recordCountOffset 0 → true ≡ isUnsound m
       unfolding isUnsound badColumns
       unsound-records c = rw (ne-eqb _ _ a, le-ltb _ _ b, lt-ltb _ _ c)
@@ -84,11 +84,11 @@ module _ (m : Mem) (d : ℕ) where
     client-none b = rw (← a, le-leb 12 d b)
 
     module _ (b : d < maxClients) where
-      pub client-bad : true ≡ isBad narrow (shapeOf (getD (m .clients) 0 0)) (clientIn narrow (m .clients) d) → refusedUnsound ≡ atClient m d
+      pub client-bad : true ≡ isBad narrow (shapeOf (getD (m .clients) columnsOffset 0)) (clientIn narrow (m .clients) d) → refusedUnsound ≡ atClient m d
       unfolding atClient noClient client
       client-bad c = rw (← a, lt-leb 12 d b, ← c)
 
-      module _ (c : false ≡ isBad narrow (shapeOf (getD (m .clients) 0 0)) (clientIn narrow (m .clients) d)) where
+      module _ (c : false ≡ isBad narrow (shapeOf (getD (m .clients) columnsOffset 0)) (clientIn narrow (m .clients) d)) where
         pub client-idle : (x : ℕ) → x ≡ kind (clientIn narrow (m .clients) d) → x ≡ 0 → refusedIdle ≡ atClient m d
         unfolding atClient noClient client
         client-idle x e h = rw (← a, lt-leb 12 d b, ← c, ← none-idle _ _ c (sym e ∙ h))
@@ -170,15 +170,15 @@ module _ (m : Mem) (x d : ℕ) (a : List ℕ) where
   begin-short s = rw (← s)
 
   module _ (s : false ≡ isShort narrow (shape m) m) where
-    pub begin-query : true ≡ badQuery (shapeOf (getD (m .clients) 0 0)) x a → refusedColumns ≡ beginCode m x d a
+    pub begin-query : true ≡ badQuery (shapeOf (getD (m .clients) columnsOffset 0)) x a → refusedColumns ≡ beginCode m x d a
     unfolding beginCode
     begin-query q = rw (← s, ← q)
 
-    module _ (q : false ≡ badQuery (shapeOf (getD (m .clients) 0 0)) x a) (n : ℕ) (f : n ≡ atClient m d) where
+    module _ (q : false ≡ badQuery (shapeOf (getD (m .clients) columnsOffset 0)) x a) (n : ℕ) (f : n ≡ atClient m d) where
       begin-rest : cond (eqb n 0) refusedTaken (cond (eqb n refusedIdle) (cond (not (eqb x reads) && isWorn narrow (shape m) (storeIn (m .nodes))) refusedWorn 0) n) ≡ beginCode m x d a
       unfolding beginCode atClient
       begin-rest = rw (← s, ← q, f)
-          (sym (begin-found (isUnsound m) (noClient d) (isBad narrow (shapeOf (getD (m .clients) 0 0)) (client m d)) (isIdle narrow (client m d))
+          (sym (begin-found (isUnsound m) (noClient d) (isBad narrow (shapeOf (getD (m .clients) columnsOffset 0)) (client m d)) (isIdle narrow (client m d))
           (cond (not (eqb x reads) && isWorn narrow (shape m) (storeIn (m .nodes))) refusedWorn 0)))
 
       pub begin-busy : n ≡ 0 → refusedTaken ≡ beginCode m x d a
@@ -233,11 +233,11 @@ module _ (m : Mem) (d : ℕ) where
     unfolding abandonCode
     abandon-found h = rw (← s, ← f, ne-eqb n 0 h)
 
-    pub abandon-committed : n ≡ 0 → true ≡ isCommitted (shapeOf (getD (m .clients) 0 0)) (clientIn narrow (m .clients) d) → refusedCommitted ≡ abandonCode m d
+    pub abandon-committed : n ≡ 0 → true ≡ isCommitted (shapeOf (getD (m .clients) columnsOffset 0)) (clientIn narrow (m .clients) d) → refusedCommitted ≡ abandonCode m d
     unfolding abandonCode client
     abandon-committed h c = rw (← s, ← f, eq-eqb n 0 h, ← c)
 
-    pub abandon-fine : n ≡ 0 → false ≡ isCommitted (shapeOf (getD (m .clients) 0 0)) (clientIn narrow (m .clients) d) → 0 ≡ abandonCode m d
+    pub abandon-fine : n ≡ 0 → false ≡ isCommitted (shapeOf (getD (m .clients) columnsOffset 0)) (clientIn narrow (m .clients) d) → 0 ≡ abandonCode m d
     unfolding abandonCode client
     abandon-fine h c = rw (← s, ← f, eq-eqb n 0 h, ← c)
 

@@ -13,11 +13,11 @@ use Rattle.nodes.specs.NodeContracts as nodes
 use Rattle.answers.specs.AnswerContracts as answers
 use Rattle.clients.specs.ClientContracts as client-contracts
 use Rattle.checks.specs.CheckContracts.{soundCode}
-use Rattle.query.specs.Shape.{narrow}
-use Rattle.rules.specs.Layout.{maxClients}
+use Rattle.query.specs.Shape.{maxColumns, narrow}
+use Rattle.rules.specs.Layout.{maxClients, columnsOffset}
 
 module _ (m : Mem) (s : Sound m) where
-  pub columns-range : (1 ≤ getD (m .clients) 0 0) × (getD (m .clients) 0 0 ≤ 4)
+  pub columns-range : (1 ≤ getD (m .clients) columnsOffset 0) × (getD (m .clients) columnsOffset 0 ≤ maxColumns)
   columns-range = (s .least, s .most)
 
   pub nodes-fit : nodes.Fit (m .nodes)

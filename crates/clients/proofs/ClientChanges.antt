@@ -1,4 +1,4 @@
--- Laws of the changes of one client: what each leaves, number after number, is what the rules say; each leaves 157 numbers.
+-- Laws of the changes of one client: what each leaves, number after number, is what the rules say; each leaves as many numbers.
 -- Leans on rules and on the laws of ClientMemory. Assumes nothing.
 use mathlib.Core.Path.{_≡_, refl, sym, ap, _∙_}
 use mathlib.Core.Bool.{Bool}
@@ -16,13 +16,14 @@ use Rattle.query.specs.Query.{Query, Record}
 use Rattle.query.specs.Encoding.{keyWords}
 use Rattle.query.proofs.EncodingLaws.{key-words-length}
 use Rattle.rules.specs.Client.{Client, steps, idle, begun, stepped, flag, noted, holding, wrote}
+use Rattle.query.specs.Encoding.{keyWidth}
 use Rattle.query.specs.Shape.{Shape, shapeOf, narrow}
 use Rattle.rules.specs.Layout.{listWidth, entryOffset, clientWidth, clientOffset, heldLengthOffset, notedOffset, heldListOffset}
 use Rattle.rules.specs.Memory.{clientIn, withClient}
 use Rattle.clients.specs.ClientContracts.{Fit, begunWith, listSet}
 use Rattle.clients.proofs.ClientMemory.{client-room, length-client, with-self, client-same, with-twice, with-words, part-cleared, length-kept}
 
--- ---- each has 157 numbers
+-- ---- each has as many numbers as a client
 pub length-idle : length (idle narrow) ≡ clientWidth narrow
 unfolding idle
 length-idle = refl
@@ -49,9 +50,9 @@ module _ (c : Client) where
 
 pub length-begun : (x : ℕ) (q : Query) → length q ≤ 6 → length (begun narrow x q) ≡ clientWidth narrow
 unfolding begun
-length-begun x q h = let n : length (keyWords q) ≡ 7 = key-words-length q h in length-padded (clientWidth narrow) (x ∷ 0 ∷ 0 ∷ 0 ∷ 0 ∷ keyWords q) (omega arith)
+length-begun x q h = let n : length (keyWords q) ≡ keyWidth = key-words-length q h in length-padded (clientWidth narrow) (x ∷ 0 ∷ 0 ∷ 0 ∷ 0 ∷ keyWords q) (omega arith)
 
-pub length-begun-with : (x : ℕ) (key : List ℕ) → length key ≡ 7 → length (begunWith x key) ≡ clientWidth narrow
+pub length-begun-with : (x : ℕ) (key : List ℕ) → length key ≡ keyWidth → length (begunWith x key) ≡ clientWidth narrow
 unfolding begunWith
 length-begun-with x key h = length-padded (clientWidth narrow) (x ∷ 0 ∷ 0 ∷ 0 ∷ 0 ∷ key) (omega arith)
 
@@ -62,7 +63,7 @@ begun-with x q = refl
 
 -- ---- one client's numbers
 -- a kind and a key written over an idle client
-key-in : (x : ℕ) (key : List ℕ) → length key ≡ 7 → written (written (idle narrow) 0 (x ∷ 0 ∷ 0 ∷ 0 ∷ 0 ∷ [])) 5 key ≡ begunWith x key
+key-in : (x : ℕ) (key : List ℕ) → length key ≡ keyWidth → written (written (idle narrow) 0 (x ∷ 0 ∷ 0 ∷ 0 ∷ 0 ∷ [])) 5 key ≡ begunWith x key
 unfolding written idle begunWith padded
 key-in x key n = rw n
 
@@ -127,7 +128,7 @@ module _ (s : List ℕ) (d : ℕ) (f : Fit s d) where
   unfolding withClient idle
   idle-left t e = part-cleared s (clientOffset narrow d) (clientOffset narrow d + clientWidth narrow) (clientWidth narrow) t e refl (client-room s d f)
 
-  pub begun-left : (s₁ s₂ : List ℕ) (x : ℕ) (key : List ℕ) → s₁ ≡ withClient narrow s d (idle narrow) → s₂ ≡ written s₁ (clientOffset narrow d) (x ∷ 0 ∷ 0 ∷ 0 ∷ 0 ∷ []) → length key ≡ 7
+  pub begun-left : (s₁ s₂ : List ℕ) (x : ℕ) (key : List ℕ) → s₁ ≡ withClient narrow s d (idle narrow) → s₂ ≡ written s₁ (clientOffset narrow d) (x ∷ 0 ∷ 0 ∷ 0 ∷ 0 ∷ []) → length key ≡ keyWidth
       → written s₂ (clientOffset narrow d + entryOffset) key ≡ withClient narrow s d (begunWith x key)
   begun-left s₁ s₂ x key e g n =
       let head : List ℕ = x ∷ 0 ∷ 0 ∷ 0 ∷ 0 ∷ [] in

@@ -14,6 +14,7 @@ use Rattle.rules.specs.Answers.{keyIn, lengthIn, listIn}
 use Rattle.rules.specs.Client.{Client, entryOf, isIdle, idle, queryAt}
 use Rattle.rules.specs.Memory.{Mem, clientIn}
 use Rattle.rules.specs.Refusals.{client, allIdle}
+use Rattle.query.specs.Encoding.{keyWidth}
 use Rattle.query.specs.Shape.{shapeOf, maxColumns, narrow}
 use Rattle.rules.specs.Layout.{maxClients, maxList, listOffset, listWidth, entryWidth, entryOffset, clientWidth, clientOffset}
 use Rattle.rules.specs.Layout.{heldValuesOffset, heldLengthOffset, heldListOffset}
@@ -56,12 +57,12 @@ all-idle m = refl
 pub key-read : (s : List ℕ) (d : ℕ) → take (clientOffset narrow d + entryOffset + 7 - (clientOffset narrow d + entryOffset)) (drop (clientOffset narrow d + entryOffset) s) ≡ keyIn (entryOf (clientIn narrow s d))
 unfolding keyIn entryOf
 key-read s d =
-    let n : clientOffset narrow d + entryOffset + 7 - (clientOffset narrow d + entryOffset) ≡ 7 = omega arith in
+    let n : clientOffset narrow d + entryOffset + 7 - (clientOffset narrow d + entryOffset) ≡ keyWidth = omega arith in
     rw n (sym (part-at s d 5 7 (omega arith)))
 
 marks-in : (c : Client) → getD (keyIn (entryOf c)) 0 0 ≡ getD c 5 0
 unfolding keyIn entryOf
-marks-in c = getD-take 7 (drop 5 c) 0 0 (omega arith) ∙ getD-drop 5 c 0 0
+marks-in c = getD-take keyWidth (drop 5 c) 0 0 (omega arith) ∙ getD-drop 5 c 0 0
 
 values-in : (c : Client) → drop 1 (keyIn (entryOf c)) ≡ take 6 (drop 6 c)
 unfolding keyIn entryOf

@@ -42,11 +42,11 @@ length-query k c = query-in-length (shapeOf k) (keyIn (entryOf c))
 pub columns-back : (k : ℕ) (c : Client) (cols : List Column) → cols ≡ four (queryAt (shapeOf k) c) → take k cols ≡ queryAt (shapeOf k) c
 columns-back k c cols e = ap (take k) e ∙ four-back k (queryAt (shapeOf k) c) (length-query k c)
 
-pub last-most : (x : ℕ) (q : Query) → length q ≤ 4 → stepsInAll x q ≤ 33
+pub last-most : (x : ℕ) (q : Query) → length q ≤ maxColumns → stepsInAll x q ≤ 33
 unfolding stepsInAll
 last-most x q h = go (eqb x 1) (read-count-most q h) (write-count-most q h)
   where
-    go : (y : Bool) → readCount q ≤ 16 → writeCount q ≤ 16 → cond y (readCount q + 3) (writeCount q + 1 + writeCount q) ≤ 33
+    go : (y : Bool) → readCount q ≤ maxLooks → writeCount q ≤ maxLooks → cond y (readCount q + 3) (writeCount q + 1 + writeCount q) ≤ 33
     go true a b = omega arith
     go false a b = omega arith
 

@@ -20,6 +20,7 @@ use Rattle.rules.specs.Table.{listOf}
 use Rattle.rules.specs.Nodes.{labelIn, pending, revision, withPending, withRevision, hasLabel, nodePlace, isPresent, nodeOf, withNode, evictNode, added, isFree, oldestFree, makeRoom, addedIn, ensured, isHigh, isWorn}
 use Rattle.rules.specs.Answers.{Entry, keyIn, lengthIn, revisionIn, listIn, hasKeyOf, atLeast, serves, fetchPlace, keyPlace, filed, isLong, someLong}
 use Rattle.rules.specs.Client.{kind, steps, sawPending, entryOf, idle, isIdle, begun, queryAt, stepsInAll, isBad, stepped, noted, holding}
+use Rattle.query.specs.Encoding.{labelWidth}
 use Rattle.query.specs.Shape.{shapeOf, narrow}
 use Rattle.rules.specs.Layout.{tableLeast, nodesLeast, answersLeast, clientsLeast, trayLeast, reads}
 use Rattle.rules.specs.Memory.{Mem, mem, recordsIn, storeIn, withStore, answersIn, withAnswers, clientIn, withClient, cleared, opened}
@@ -172,7 +173,7 @@ is-ready m n e =
     )
 
 -- a read that call b began at desk 0 is under way up to call n, where no call between is 5 or 9
-runs : (b n : ℕ) → b < n → n ≤ 9 → ((i : ℕ) → b < i → i < n → i ≡ 5 → ⊥) → callAt example b ≡ beginRead 0 asked → acceptedAt example b ≡ true
+runs : (b n : ℕ) → b < n → n ≤ 9 → ((i : ℕ) → b < i → i < n → i ≡ labelWidth → ⊥) → callAt example b ≡ beginRead 0 asked → acceptedAt example b ≡ true
     → UnderWay example (beginRead 0 asked) 0 b n
 unfolding goes resultAt
 runs b n l m f c a = record {

@@ -283,7 +283,7 @@ announced-from : (p : Words) (s : List ℕ) (t : Store) → ensured p (storeIn s
 unfolding announced announcedIn withPending
 announced-from p s t e b h = rw (e, h)
 
-pub announce-full : (p : Words) (s : List ℕ) (i : ℕ) (u : List ℕ) → There p s i u → Fit s → 12 ≤ getD u (header + i * nodeWidth + pendingOffset) 0 → attempt false u ≡ tried s (announced p (storeIn s))
+pub announce-full : (p : Words) (s : List ℕ) (i : ℕ) (u : List ℕ) → There p s i u → Fit s → maxPending ≤ getD u (header + i * nodeWidth + pendingOffset) 0 → attempt false u ≡ tried s (announced p (storeIn s))
 unfolding tried
 announce-full p s i u w f h =
     let a : pending (nodeOf p (storeIn u)) ≡ getD u (header + i * nodeWidth + pendingOffset) 0 = pending-here p u i (w .place) (w .below) in
@@ -291,7 +291,7 @@ announce-full p s i u w f h =
     let q : u ≡ s = w .mem ∙ ap (withStore s) b ∙ store-self s f in
     rw (announced-from p s (storeIn u) (w .is) true (le-leb maxPending (pending (nodeOf p (storeIn u))) (omega arith)), q)
 
-pub announce-more : (p : Words) (s : List ℕ) (i : ℕ) (u : List ℕ) → There p s i u → Fit s → getD u (header + i * nodeWidth + pendingOffset) 0 < 12
+pub announce-more : (p : Words) (s : List ℕ) (i : ℕ) (u : List ℕ) → There p s i u → Fit s → getD u (header + i * nodeWidth + pendingOffset) 0 < maxPending
     → attempt true (set u (header + i * nodeWidth + pendingOffset) (getD u (header + i * nodeWidth + pendingOffset) 0 + 1)) ≡ tried s (announced p (storeIn s))
 unfolding tried
 announce-more p s i u w f h =

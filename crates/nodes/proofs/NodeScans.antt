@@ -37,35 +37,35 @@ or-none a b e f = omega (arith, or-add-and a b)
 
 -- ---- the label's five numbers
 module _ (s : List ℕ) (at : ℕ) (p : Words) where
-  word-at : (j : ℕ) → j < 5 → getD (take 5 (drop at s)) j 0 ≡ getD s (at + j) 0
-  word-at j h = getD-take 5 (drop at s) j 0 h ∙ getD-drop at s j 0
+  word-at : (j : ℕ) → j < 5 → getD (take labelWidth (drop at s)) j 0 ≡ getD s (at + j) 0
+  word-at j h = getD-take labelWidth (drop at s) j 0 h ∙ getD-drop at s j 0
 
   -- a label that stands there, number by number
-  word-same : (j : ℕ) → j < 5 → take 5 (drop at s) ≡ p → getD s (at + j) 0 ≡ getD p j 0
+  word-same : (j : ℕ) → j < 5 → take labelWidth (drop at s) ≡ p → getD s (at + j) 0 ≡ getD p j 0
   word-same j h e = sym (word-at j h) ∙ ap (λ (t : List ℕ). getD t j 0) e
 
-  first-same : take 5 (drop at s) ≡ p → getD s at 0 ≡ getD p 0 0
+  first-same : take labelWidth (drop at s) ≡ p → getD s at 0 ≡ getD p 0 0
   first-same e = let z : at + 0 ≡ at = omega arith in ap (λ (i : ℕ). getD s i 0) (sym z) ∙ word-same 0 (omega arith) e
 
   -- of the first two one differs
-  pub label-differs : (bitOr (bitXor (getD s at 0) (getD p 0 0)) (bitXor (getD s (at + 1) 0) (getD p 1 0)) ≡ 0 → ⊥) → false ≡ same (take 5 (drop at s)) p
-  label-differs n = sym (ne-same (take 5 (drop at s)) p (λ e. n (or-none _ _ (xor-none _ _ (first-same e)) (xor-none _ _ (word-same 1 (omega arith) e)))))
+  pub label-differs : (bitOr (bitXor (getD s at 0) (getD p 0 0)) (bitXor (getD s (at + 1) 0) (getD p 1 0)) ≡ 0 → ⊥) → false ≡ same (take labelWidth (drop at s)) p
+  label-differs n = sym (ne-same (take labelWidth (drop at s)) p (λ e. n (or-none _ _ (xor-none _ _ (first-same e)) (xor-none _ _ (word-same 1 (omega arith) e)))))
 
   -- five that agree
   label-agrees : at + 5 ≤ length s → length p ≡ labelWidth → getD s at 0 ≡ getD p 0 0 → getD s (at + 1) 0 ≡ getD p 1 0 → getD s (at + 2) 0 ≡ getD p 2 0
-      → getD s (at + 3) 0 ≡ getD p 3 0 → getD s (at + 4) 0 ≡ getD p 4 0 → same (take 5 (drop at s)) p ≡ true
+      → getD s (at + 3) 0 ≡ getD p 3 0 → getD s (at + 4) 0 ≡ getD p 4 0 → same (take labelWidth (drop at s)) p ≡ true
   label-agrees h k a b c d e =
-      let l : length (take 5 (drop at s)) ≡ labelWidth = length-take-le 5 (drop at s) (rw length-drop (omega arith)) in
+      let l : length (take labelWidth (drop at s)) ≡ labelWidth = length-take-le 5 (drop at s) (rw length-drop (omega arith)) in
       let z : at + 0 ≡ at = omega arith in
-      let q : getD (take 5 (drop at s)) 0 0 ≡ getD s at 0 = word-at 0 (omega arith) ∙ ap (λ (i : ℕ). getD s i 0) z in
-      eq-same (take 5 (drop at s)) p
-      (five (take 5 (drop at s)) l
+      let q : getD (take labelWidth (drop at s)) 0 0 ≡ getD s at 0 = word-at 0 (omega arith) ∙ ap (λ (i : ℕ). getD s i 0) z in
+      eq-same (take labelWidth (drop at s)) p
+      (five (take labelWidth (drop at s)) l
       ∙ rw (q, word-at 1 (omega arith), word-at 2 (omega arith), word-at 3 (omega arith), word-at 4 (omega arith), a, b, c, d, e) (sym (five p k)))
 
   -- the first two agree, so the last three decide
   pub label-decided : at + 5 ≤ length s → length p ≡ labelWidth → bitOr (bitXor (getD s at 0) (getD p 0 0)) (bitXor (getD s (at + 1) 0) (getD p 1 0)) ≡ 0
       → eqb (bitOr (bitOr (bitXor (getD s (at + 2) 0) (getD p 2 0)) (bitXor (getD s (at + 3) 0) (getD p 3 0))) (bitXor (getD s (at + 4) 0) (getD p 4 0))) 0
-      ≡ same (take 5 (drop at s)) p
+      ≡ same (take labelWidth (drop at s)) p
   label-decided h k f =
       let x : ℕ = bitOr (bitXor (getD s (at + 2) 0) (getD p 2 0)) (bitXor (getD s (at + 3) 0) (getD p 3 0)) in
       let y : ℕ = bitXor (getD s (at + 4) 0) (getD p 4 0) in
@@ -74,15 +74,15 @@ module _ (s : List ℕ) (at : ℕ) (p : Words) where
       (λ e. let b = or-both x y (eqb-true (bitOr x y) 0 e) in
       let c = or-both _ _ (b .0) in
       e ∙ sym (label-agrees h k (xor-same _ _ (a .0)) (xor-same _ _ (a .1)) (xor-same _ _ (c .0)) (xor-same _ _ (c .1)) (xor-same _ _ (b .1))))
-      (λ e. e ∙ sym (ne-same (take 5 (drop at s)) p
+      (λ e. e ∙ sym (ne-same (take labelWidth (drop at s)) p
       (λ r. eqb-false (bitOr x y) 0 e
       (or-none x y (or-none _ _ (xor-none _ _ (word-same 2 (omega arith) r)) (xor-none _ _ (word-same 3 (omega arith) r))) (xor-none _ _ (word-same 4 (omega arith) r))))))
 
 -- ---- the tests of a node, in the memory's numbers
 module _ (s : List ℕ) (i : ℕ) (h : i < getD s nodeCountOffset 0) where
-  pub label-test : (p : Words) → hasLabel p (getD (storeIn s .nodes) i []) ≡ same (take 5 (drop (header + i * nodeWidth) s)) p
+  pub label-test : (p : Words) → hasLabel p (getD (storeIn s .nodes) i []) ≡ same (take labelWidth (drop (header + i * nodeWidth) s)) p
   unfolding hasLabel labelIn
-  label-test p = ap (λ (n : Node). same (take 5 n) p) (node-at s i h) ∙ ap (λ (n : Node). same n p) (take-take 5 8 (drop (header + i * nodeWidth) s) (omega arith))
+  label-test p = ap (λ (n : Node). same (take labelWidth n) p) (node-at s i h) ∙ ap (λ (n : Node). same n p) (take-take labelWidth 8 (drop (header + i * nodeWidth) s) (omega arith))
 
   pub pending-at : pending (getD (storeIn s .nodes) i []) ≡ getD s (header + i * nodeWidth + pendingOffset) 0
   unfolding pending

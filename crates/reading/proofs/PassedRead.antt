@@ -26,7 +26,7 @@ module _ (m : Mem) (tray : List ℕ) (d : ℕ) (e : stepCode m tray d ≡ 0) (x 
         read = record { columns = refl; least = s .least; most = s .most; below = b .below; long = (let l = s .long .clients in omega arith); sound = b .fine; busy = b .busy; kind = x };
         listed = record { columns = (s .least, s .most); long = s .long .table; few = s .records };
         nodes = record { long = s .long .nodes; few = s .nodes };
-        fit = record { long = s .long .answers; few = s .answers };
+        fit = record { long = (let l = s .long .answers in omega arith); few = s .answers };
         short = s .lists;
         room = t .0;
       }

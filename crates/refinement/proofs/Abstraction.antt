@@ -11,7 +11,7 @@ use Rattle.query.specs.Query.{readCount, writeCount}
 use Rattle.query.specs.Encoding.{queryOf, recordOf, queryIn, isKey}
 use Rattle.query.specs.Shape.{Shape, maxColumns, narrow}
 use Rattle.rules.specs.Layout.{maxRecords, maxNodes, maxAnswers, maxClients, maxList, tableLeast, nodesLeast, answersLeast, clientsLeast}
-use Rattle.rules.specs.Layout.{answersEnd, reads}
+use Rattle.rules.specs.Layout.{recordCountOffset, nodeCountOffset, answerCountOffset, answersEnd, reads}
 use Rattle.rules.specs.declared.Outcome.{Outcome}
 use Rattle.rules.specs.declared.Outcome.the-variants.{Refused, Accepted, Answered, Long, Ended, Full}
 use Rattle.rules.specs.Table.{Write, insert, delete, target}
@@ -117,9 +117,9 @@ pub record Fits (m : Mem) : Type 0 where
   pub clients-long : clientsLeast narrow (shape m) ≤ length (m .clients)
   pub some : 1 ≤ columns m
   pub few : columns m ≤ maxColumns
-  pub records : getD (m .table) 0 0 ≤ maxRecords
-  pub nodes : getD (m .nodes) 1 0 ≤ maxNodes
-  pub answers : getD (m .answers) 0 0 ≤ maxAnswers
+  pub records : getD (m .table) recordCountOffset 0 ≤ maxRecords
+  pub nodes : getD (m .nodes) nodeCountOffset 0 ≤ maxNodes
+  pub answers : getD (m .answers) answerCountOffset 0 ≤ maxAnswers
   pub kept : (e : Entry) → In e (answersIn narrow (m .answers)) → Kept (shape m) e
   pub sound : (d : ℕ) → d < maxClients → isBad narrow (shape m) (client m d) ≡ false
 

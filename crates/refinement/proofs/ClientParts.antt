@@ -19,8 +19,9 @@ use Rattle.query.specs.Encoding.{keyWords}
 use Rattle.query.proofs.EncodingLaws.{key-words-length}
 use Rattle.rules.specs.Answers.{Entry, keyIn, lengthIn, listIn}
 use Rattle.rules.specs.Client.{Client, kind, steps, sawPending, didChange, foundFull, entryOf, begun, stepped, flag, noted, holding, wrote}
+use Rattle.query.specs.Encoding.{labelWidth, keyWidth}
 use Rattle.query.specs.Shape.{Shape, maxColumns, narrow}
-use Rattle.rules.specs.Layout.{listOffset, listWidth, entryWidth, clientWidth, notedOffset, heldListOffset}
+use Rattle.rules.specs.Layout.{maxList, maxLooks, listOffset, listWidth, entryWidth, clientWidth, notedOffset, heldListOffset}
 use Rattle.rules.proofs.ClientLaws.{list-room}
 use Rattle.refinement.proofs.Abstraction.{valueIn, revisionsIn}
 
@@ -104,7 +105,7 @@ module _ (c : Client) (w : length c ≡ clientWidth narrow) where
 
   -- a look: revision r, p pending writes
   module _ (j r p : ℕ) (h : j < 16) where
-    looked-at : notedOffset narrow j ≡ 5 + (8 + j)
+    looked-at : notedOffset narrow j ≡ labelWidth + (8 + j)
     looked-at = omega arith
 
     pub noted-entry : entryOf (noted narrow j r p c) ≡ set (entryOf c) (8 + j) r
@@ -122,7 +123,7 @@ module _ (c : Client) (w : length c ≡ clientWidth narrow) where
         let z : ℕ = cond (eqb p 0) (getD c 2 0) 1 in
         record {
           kinds = three-other c 1 x (notedOffset narrow j) r 2 z 0 (λ e. omega arith) (λ e. omega arith) (λ e. omega arith);
-          keys = ap (take 7) noted-entry ∙ take-set-le 7 (entryOf c) (8 + j) r (omega arith);
+          keys = ap (take keyWidth) noted-entry ∙ take-set-le 7 (entryOf c) (8 + j) r (omega arith);
           one = three-first c 1 x (notedOffset narrow j) r 2 z (λ e. omega arith) (λ e. omega arith) (omega arith);
           wide = three-length c 1 x (notedOffset narrow j) r 2 z ∙ w;
         }
@@ -186,7 +187,7 @@ padded-front n x a r h = rw append-assoc (take-at a (replicate (n - length a) 0 
 counted : Client → ℕ → Entry
 counted c n = set (entryOf c) 7 n
 
-module _ (c : Client) (w : length c ≡ clientWidth narrow) (sh : Shape) (l : List Record) (wl : Wide (sh .columns) l) (few : sh .columns ≤ maxColumns) (short : length l ≤ 32) where
+module _ (c : Client) (w : length c ≡ clientWidth narrow) (sh : Shape) (l : List Record) (wl : Wide (sh .columns) l) (few : sh .columns ≤ maxColumns) (short : length l ≤ maxList) where
   length-list : length (padded listWidth (flat l)) ≡ listWidth
   length-list = let a = length-flat (sh .columns) l wl in let b = list-room (length l) (sh .columns) short few in length-padded listWidth (flat l) (omega arith)
 
@@ -213,7 +214,7 @@ module _ (c : Client) (w : length c ≡ clientWidth narrow) (sh : Shape) (l : Li
   holding-key : keyIn (entryOf (holding narrow sh l c)) ≡ keyIn (entryOf c)
   unfolding keyIn counted
   holding-key =
-      ap (take 7) holding-entry
+      ap (take keyWidth) holding-entry
       ∙ take-written (counted c (length l)) (listOffset narrow sh) (padded listWidth (flat l)) long-counted 7 (omega arith)
       ∙ take-set-le 7 (entryOf c) 7 (length l) (omega arith)
 
@@ -234,7 +235,7 @@ module _ (c : Client) (w : length c ≡ clientWidth narrow) (sh : Shape) (l : Li
     wide = holding-wide;
   }
 
-  pub holding-revisions : (n : ℕ) → n ≤ 16 → revisionsIn n (entryOf (holding narrow sh l c)) ≡ revisionsIn n (entryOf c)
+  pub holding-revisions : (n : ℕ) → n ≤ maxLooks → revisionsIn n (entryOf (holding narrow sh l c)) ≡ revisionsIn n (entryOf c)
   unfolding revisionsIn counted
   holding-revisions n h =
       let e : 8 + n - 8 ≡ n = omega arith in

@@ -10,7 +10,8 @@ use lib.Seq.{take-at, drop-at, getD-set-same, getD-set-other, drop-set-lt}
 use Rattle.laws.proofs.TestLaws.{byTest}
 use Rattle.lists.specs.Lists.{rows, entriesIn}
 use Rattle.query.specs.Shape.{Shape, shapeOf, maxColumns, narrow}
-use Rattle.rules.specs.Layout.{maxClients, tableLeast, nodesLeast, answersLeast, clientsLeast, entryWidth, clientWidth, clientOffset}
+use Rattle.rules.specs.Layout.{maxClients, tableLeast, nodesLeast, answersLeast, clientsLeast, recordCountOffset, floorOffset}
+use Rattle.rules.specs.Layout.{nodeCountOffset, answerCountOffset, entryWidth, clientWidth, clientOffset}
 use Rattle.rules.specs.Nodes.{store}
 use Rattle.rules.specs.Client as rules
 use Rattle.rules.specs.Memory.{Mem, recordsIn, storeIn, answersIn, clientIn, cleared, opened}
@@ -68,22 +69,22 @@ module _ (m : Mem) (sh : Shape) (l : Long m) where
   opened-client d h =
       rw (drop-set-lt (clientOffset narrow d) (cleared (clientsLeast narrow sh) (m .clients)) 0 (sh .columns) (omega arith)) (cleared-part (clientsLeast narrow sh) (m .clients) (clientOffset narrow d) (clientWidth narrow) (omega arith))
 
-  no-records : getD (opened narrow sh m .table) 0 0 ≡ 0
+  no-records : getD (opened narrow sh m .table) recordCountOffset 0 ≡ 0
   unfolding opened
   no-records = cleared-at tableLeast (m .table) 0 (omega arith)
 
-  no-nodes : getD (opened narrow sh m .nodes) 1 0 ≡ 0
+  no-nodes : getD (opened narrow sh m .nodes) nodeCountOffset 0 ≡ 0
   unfolding opened
   no-nodes = getD-set-other (cleared (nodesLeast narrow) (m .nodes)) 0 1 1 0 (λ e. omega arith) ∙ cleared-at (nodesLeast narrow) (m .nodes) 1 (omega arith)
 
-  the-floor : getD (opened narrow sh m .nodes) 0 0 ≡ 1
+  the-floor : getD (opened narrow sh m .nodes) floorOffset 0 ≡ 1
   unfolding opened
   the-floor =
       let a = length-cleared (nodesLeast narrow) (m .nodes) (l .nodes) in
       let b = l .nodes in
       getD-set-same (cleared (nodesLeast narrow) (m .nodes)) 0 1 0 (omega arith)
 
-  no-answers : getD (opened narrow sh m .answers) 0 0 ≡ 0
+  no-answers : getD (opened narrow sh m .answers) answerCountOffset 0 ≡ 0
   unfolding opened
   no-answers = cleared-at (answersLeast narrow sh) (m .answers) 0 (omega arith)
 

@@ -16,7 +16,7 @@ use Rattle.query.specs.Query.{Query, writeNode, writeNodes, writeCount}
 use Rattle.query.specs.Encoding.{queryOf, recordOf, labelWords}
 use Rattle.query.proofs.EncodingLaws.{is-query-length}
 use Rattle.query.specs.Shape.{Shape, narrow}
-use Rattle.rules.specs.Layout.{maxClients, entryWidth, reads, inserts, deletes}
+use Rattle.rules.specs.Layout.{maxClients, answerCountOffset, entryWidth, reads, inserts, deletes}
 use Rattle.rules.specs.declared.Outcome.the-variants.{Accepted}
 use Rattle.rules.specs.Table.{Write, insert, delete, target}
 use Rattle.rules.specs.Nodes.{Words, Store, store, evictNode, releasedAll}
@@ -181,7 +181,7 @@ abandon-simulated m d f once = unless-simulated m _ (abandonCode m d) _ f (aband
     let t = abandon-passed m d e in abandoned-simulated m d (going m f once d (t .0 .below) (t .0 .busy)) (steps-before m d (t .1)))
 
 -- ---- Puttings out
-evicted-simulated : (m : Mem) (i : ℕ) → Fits m → i < getD (m .answers) 0 0
+evicted-simulated : (m : Mem) (i : ℕ) → Fits m → i < getD (m .answers) answerCountOffset 0
     → Simulated m (evict-answer i) (untrayed (result Accepted (withFiled m (withAnswers narrow (m .answers) (without i (answersIn narrow (m .answers)))))))
 unfolding untrayed responseIn stateOf filedOf cut
 evicted-simulated m i f h =

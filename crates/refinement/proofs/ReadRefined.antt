@@ -18,6 +18,7 @@ use Rattle.query.specs.Query.{Query, Record, readNode, readCount, lies}
 use Rattle.query.specs.Encoding.{labelWords, queryIn}
 use Rattle.query.proofs.NodeLists.{read-node-length}
 use Rattle.query.proofs.EncodingLaws.{label-words-length, query-in-length}
+use Rattle.query.specs.Encoding.{labelWidth}
 use Rattle.query.specs.Shape.{narrow}
 use Rattle.rules.specs.Layout.{maxList, entryWidth, reads}
 use Rattle.rules.specs.declared.Outcome.the-variants.{Accepted, Long}
@@ -260,7 +261,7 @@ module _ (m : Mem) (tray : List ℕ) (d : ℕ) (g : Going m d) (r : kind (client
   unfolding queryAt looksOf
   looks-is = refl
 
-  five : length (labelWords (readNode (askedAt m d) (stepsAt m d))) ≡ 5
+  five : length (labelWords (readNode (askedAt m d) (stepsAt m d))) ≡ labelWidth
   unfolding queryAt
   five =
       let q : Query = queryIn (shape m) (keyIn (entryAt m d)) in

@@ -9,16 +9,15 @@ use lib.Dec.{eqb, ltb, leb}
 use borrow.Author.Tests.{eqb-true, eqb-false, ne-eqb}
 use lib.ListN.{length, getD}
 use Rattle.laws.proofs.TestLaws.{byTest}
-use Rattle.rules.specs.Layout.{trayLeast}
+use Rattle.query.specs.Shape.{narrow}
+use Rattle.rules.specs.Layout.{trayLeast, nodeCountOffset, answerCountOffset, reads}
 use Rattle.rules.specs.declared.Outcome.the-variants.{Refused}
 use Rattle.rules.specs.Nodes.{isWorn, pending}
 use Rattle.rules.specs.Client.{isIdle, isBad}
-use Rattle.rules.specs.Layout.{reads}
 use Rattle.rules.specs.Memory.{Mem, storeIn}
 use Rattle.rules.specs.Outcome.{Result, result, resultWith}
 use Rattle.rules.specs.Refusals.{columns, client, isShort, badQuery, isUnsound, noClient, isCommitted, allIdle, atClient, beginCode, stepCode, abandonCode, evictAnswerCode, evictNodeCode, renewCode}
 use Rattle.rules.specs.Calls.{unless}
-use Rattle.query.specs.Shape.{narrow}
 use Rattle.rules.specs.Refusals.{shape}
 use Rattle.rules.specs.History.{isAccepted, untrayed}
 use Rattle.machine.proofs.Machine.{Call}
@@ -79,12 +78,12 @@ abandon-low m d =
 pub evict-answer-low : (m : Mem) (i : ℕ) → evictAnswerCode m i ≤ 11
 unfolding evictAnswerCode
 evict-answer-low m i =
-    low (isShort narrow (shape m) m) 1 _ (omega arith) (low (isUnsound m) 3 _ (omega arith) (low (leb (getD (m .answers) 0 0) i) 8 0 (omega arith) (omega arith)))
+    low (isShort narrow (shape m) m) 1 _ (omega arith) (low (isUnsound m) 3 _ (omega arith) (low (leb (getD (m .answers) answerCountOffset 0) i) 8 0 (omega arith) (omega arith)))
 
 pub evict-node-low : (m : Mem) (i : ℕ) → evictNodeCode m i ≤ 11
 unfolding evictNodeCode
 evict-node-low m i =
-    low (isShort narrow (shape m) m) 1 _ (omega arith) (low (isUnsound m) 3 _ (omega arith) (low (leb (getD (m .nodes) 1 0) i) 8 _ (omega arith)
+    low (isShort narrow (shape m) m) 1 _ (omega arith) (low (isUnsound m) 3 _ (omega arith) (low (leb (getD (m .nodes) nodeCountOffset 0) i) 8 _ (omega arith)
     (low (ltb 0 (pending (getD (storeIn (m .nodes) .nodes) i []))) 9 0 (omega arith) (omega arith))))
 
 pub renew-low : (m : Mem) → renewCode m ≤ 11

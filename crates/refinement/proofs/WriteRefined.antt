@@ -18,11 +18,12 @@ use Rattle.rules.specs.Table.{Table, Write, target, effect, changes, noRoom}
 use Rattle.rules.specs.Nodes.{Words, Store, announced, raised}
 use Rattle.rules.specs.Answers.{keyIn}
 use Rattle.rules.specs.Client.{kind, didChange, foundFull, queryAt, wrote}
+use Rattle.query.specs.Encoding.{labelWidth}
+use Rattle.query.specs.Shape.{narrow}
 use Rattle.rules.specs.Layout.{reads}
 use Rattle.rules.specs.Client as rules
 use Rattle.rules.specs.Memory.{Mem, recordsIn, storeIn}
 use Rattle.rules.specs.Refusals.{shape, columns, client}
-use Rattle.query.specs.Shape.{narrow}
 use Rattle.rules.specs.Steps.{storeBack, announceResult, writeTableResult, endOf, raiseResult, writeResult}
 use Rattle.records.proofs.RecordWrites.{of-width, effect-wide, effect-few}
 use Rattle.revisions.proofs.NodeOperations.{AnnouncedOk, announced-ok, RaisedTo, RaisedOk, raised-ok}
@@ -53,7 +54,7 @@ module _ (m : Mem) (tray : List ℕ) (d : ℕ) (g : Going m d) (r : kind (client
       → labelWords (writeNode (askedAt m d) i) ≡ getD (writeLabels (wroteAt m d)) i []
   label-is i h = ap (λ (q : Query). labelWords (writeNode q i)) (sym target-is) ∙ sym (write-node (wroteAt m d) i h)
 
-  five : (i : ℕ) → length (labelWords (writeNode (askedAt m d) i)) ≡ 5
+  five : (i : ℕ) → length (labelWords (writeNode (askedAt m d) i)) ≡ labelWidth
   five i =
       let a = length-query in
       let b = write-node-length (askedAt m d) i in

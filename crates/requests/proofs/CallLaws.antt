@@ -23,7 +23,7 @@ use Rattle.rules.specs.Refusals.{columns, beginCode, evictAnswerCode, evictNode
 use Rattle.rules.specs.Steps.{nowAt, storeBack}
 use Rattle.rules.specs.Calls.{unless, beginResult, evictAnswerResult, evictNodeResult, renewResult}
 use Rattle.clients.specs.ClientContracts.{begunWith}
-use Rattle.query.specs.Shape.{narrow}
+use Rattle.query.specs.Shape.{maxColumns, narrow}
 use Rattle.rules.proofs.PassedChecks.{Begins}
 
 -- ---- The key of a query as it arrives
@@ -42,7 +42,7 @@ pub asked-short : (m : Mem) (x d : ℕ) (a : List ℕ) → Begins m x d a → le
 unfolding isQuery
 asked-short m x d a b =
     let e : length a ≡ 2 * columns m = eqb-true (length a) (2 * columns m) (and-left _ _ (b .query)) in
-    let k : columns m ≤ 4 = b .memories .most in
+    let k : columns m ≤ maxColumns = b .memories .most in
     omega arith
 
 -- ---- By the code

@@ -12,9 +12,10 @@ use borrow.Author.Tests.{ltb-true, ltb-false}
 use Rattle.laws.proofs.ListLaws.{same-refl}
 use Rattle.laws.proofs.TestLaws.{byTest, cond-same}
 use Rattle.lists.specs.Lists.{same}
+use Rattle.query.specs.Encoding.{labelWidth}
+use Rattle.query.specs.Shape.{narrow}
 use Rattle.rules.specs.Layout.{maxNodes, maxPending, maxRevision}
 use Rattle.rules.specs.Nodes.{Words, Node, Store, labelIn, pending, revision, withPending, withRevision, nodePlace, oldestFree}
-use Rattle.query.specs.Shape.{narrow}
 use Rattle.rules.specs.Nodes.{isPresent, nodeOf, withNode, evictNode, added, makeRoom, addedIn, ensured, announcedIn, announced, isPending, released, raised, releasedAll}
 use Rattle.revisions.proofs.LabelTests.{by-same}
 use Rattle.revisions.proofs.EffectiveRevision.{has, effectiveIn, NoDup, effective, pendingOf, one, tally, lifts, Grew, Announced, Raised}
@@ -143,7 +144,7 @@ grew-trans g k back = record {
   stay = λ q a b. let c = back q a b in k .stay q c b ∙ g .stay q a c;
 }
 
-module _ (p : Words) (five : length p ≡ 5) where
+module _ (p : Words) (five : length p ≡ labelWidth) where
   added-has : (s : Store) (q : Words) → has (added p s .nodes) q ≡ (has (s .nodes) q || same p q)
   unfolding added
   added-has s q = last-has _ (s .nodes) q ∙ rw (fresh-label p (s .floor) five) refl
@@ -212,13 +213,13 @@ room-none s =
     (λ b. rw b tt)
     (λ b. rw b (ltb-false _ _ a, free-none (s .nodes) (ltb-false _ _ b)))))
 
-addedIn-ok : (p : Words) (s : Store) (o : Option Store) → length p ≡ 5 → has (s .nodes) p ≡ false → RoomOk s o → EnsuredOk p s (addedIn p o)
+addedIn-ok : (p : Words) (s : Store) (o : Option Store) → length p ≡ labelWidth → has (s .nodes) p ≡ false → RoomOk s o → EnsuredOk p s (addedIn p o)
 unfolding addedIn
 addedIn-ok p s none five e k = tt
 addedIn-ok p s (some t) five e k = added-ok p five s t (k .0) (k .1) (k .2) e (k .3 p e)
 
 -- the store with the label's node
-pub ensured-ok : (p : Words) (s : Store) → length p ≡ 5 → NoDup (s .nodes) → AllRows (s .nodes) → EnsuredOk p s (ensured p s)
+pub ensured-ok : (p : Words) (s : Store) → length p ≡ labelWidth → NoDup (s .nodes) → AllRows (s .nodes) → EnsuredOk p s (ensured p s)
 unfolding ensured
 ensured-ok p s five d r =
     byTest (has (s .nodes) p)
@@ -280,7 +281,7 @@ announcedIn-ok p s (some t) h =
     )))
 
 -- *mark*
-pub announced-ok : (p : Words) (s : Store) → length p ≡ 5 → NoDup (s .nodes) → AllRows (s .nodes) → AnnouncedOk p s (announced p s)
+pub announced-ok : (p : Words) (s : Store) → length p ≡ labelWidth → NoDup (s .nodes) → AllRows (s .nodes) → AnnouncedOk p s (announced p s)
 unfolding announced
 announced-ok p s five d r = announcedIn-ok p s (ensured p s) (ensured-ok p s five d r)
 

@@ -15,6 +15,7 @@ use Rattle.lists.specs.Lists.{same, place, without}
 use Rattle.rules.specs.Nodes.{Words, Node, labelIn, pending, revision, withPending, withRevision, hasLabel, nodePlace, isFree, oldestFree}
 use Rattle.revisions.proofs.LabelTests.{same-off, same-apart}
 use Rattle.revisions.proofs.EffectiveRevision.{has, effectiveIn, pendingIn, NoDup}
+use Rattle.query.specs.Encoding.{labelWidth}
 
 -- ---- A fact of every node
 unfoldable pub Each : (Node → Type 0) → List Node → Type 0
@@ -270,19 +271,19 @@ module _ (m : Node) where
       (last-has ns (labelIn n) ∙ rw (d .0) o, last-nodup ns (or-false-r (same (labelIn n) (labelIn m)) _ h) (d .1))
 
 -- ---- One node's numbers
-pub fresh-label : (p : Words) (f : ℕ) → length p ≡ 5 → labelIn (p ++ (0 ∷ f ∷ 0 ∷ [])) ≡ p
+pub fresh-label : (p : Words) (f : ℕ) → length p ≡ labelWidth → labelIn (p ++ (0 ∷ f ∷ 0 ∷ [])) ≡ p
 unfolding labelIn
 fresh-label p f h = take-at p _ 5 h
 
-pub fresh-pending : (p : Words) (f : ℕ) → length p ≡ 5 → pending (p ++ (0 ∷ f ∷ 0 ∷ [])) ≡ 0
+pub fresh-pending : (p : Words) (f : ℕ) → length p ≡ labelWidth → pending (p ++ (0 ∷ f ∷ 0 ∷ [])) ≡ 0
 unfolding pending
 fresh-pending p f h = getD-at p 0 _ 0 5 h
 
-pub fresh-revision : (p : Words) (f : ℕ) → length p ≡ 5 → revision (p ++ (0 ∷ f ∷ 0 ∷ [])) ≡ f
+pub fresh-revision : (p : Words) (f : ℕ) → length p ≡ labelWidth → revision (p ++ (0 ∷ f ∷ 0 ∷ [])) ≡ f
 unfolding revision
 fresh-revision p f h = rw h at (getD-append-add p (0 ∷ f ∷ 0 ∷ []) 1 0)
 
-pub fresh-wide : (p : Words) (f : ℕ) → length p ≡ 5 → Wide (p ++ (0 ∷ f ∷ 0 ∷ []))
+pub fresh-wide : (p : Words) (f : ℕ) → length p ≡ labelWidth → Wide (p ++ (0 ∷ f ∷ 0 ∷ []))
 fresh-wide p f h = length-append p _ ∙ rw h refl
 
 module _ (n : Node) (x : ℕ) where

@@ -11,9 +11,10 @@ use lib.ListN.{length, getD, set}
 use borrow.Author.Tests.{ltb-false}
 use Rattle.laws.proofs.TestLaws.{or-false-l, or-false-r, byTest}
 use Rattle.lists.specs.Lists.{same, without}
+use Rattle.query.specs.Encoding.{labelWidth}
+use Rattle.query.specs.Shape.{Shape, narrow}
 use Rattle.rules.specs.Layout.{maxNodes, maxPending, maxRevision, wornAbove}
 use Rattle.rules.specs.Nodes.{Words, Node, Store, labelIn, pending, revision, withPending, withRevision, nodePlace, oldestFree, isHigh, isWorn}
-use Rattle.query.specs.Shape.{narrow, Shape}
 use Rattle.rules.specs.Nodes.{isPresent, nodeOf, withNode, evictNode, added, makeRoom, addedIn, ensured, announcedIn, announced, isPending, released, raised, releasedAll}
 use Rattle.revisions.proofs.EffectiveRevision.{effectiveIn, effective}
 use Rattle.revisions.proofs.NodeRows.{Each, each-set, each-added, each-map, place-none, fresh-revision, pending-revision}
@@ -74,7 +75,7 @@ pub evict-bound : (b i : ℕ) (s : Store) → Below b s → Below b (evictNode i
 unfolding Below evictNode
 evict-bound b i s h = let l = node-low b (s .nodes) i (h .1) in (omega arith, without-low b (s .nodes) i (h .1))
 
-added-below : (b : ℕ) (p : Words) (s : Store) → length p ≡ 5 → Below b s → Below b (added p s)
+added-below : (b : ℕ) (p : Words) (s : Store) → length p ≡ labelWidth → Below b s → Below b (added p s)
 unfolding Below added
 added-below b p s five h = (h .0, each-added (Low b) (s .nodes) _ (h .1) (rw (fresh-revision p (s .floor) five) (h .0)))
 
@@ -85,12 +86,12 @@ room-bound b s h =
     (λ a. rw a h)
     (λ a. rw a (byTest (ltb (oldestFree (s .nodes)) (length (s .nodes))) (λ o. rw o (evict-bound b _ s h)) (λ o. rw o tt)))
 
-addedIn-bound : (b : ℕ) (p : Words) (o : Option Store) → length p ≡ 5 → BelowIn b o → BelowIn b (addedIn p o)
+addedIn-bound : (b : ℕ) (p : Words) (o : Option Store) → length p ≡ labelWidth → BelowIn b o → BelowIn b (addedIn p o)
 unfolding addedIn
 addedIn-bound b p none five h = tt
 addedIn-bound b p (some s) five h = added-below b p s five h
 
-pub ensured-bound : (b : ℕ) (p : Words) (s : Store) → length p ≡ 5 → Below b s → BelowIn b (ensured p s)
+pub ensured-bound : (b : ℕ) (p : Words) (s : Store) → length p ≡ labelWidth → Below b s → BelowIn b (ensured p s)
 unfolding ensured
 ensured-bound b p s five h =
     byTest (isPresent p s) (λ e. rw e h) (λ e. rw e (addedIn-bound b p (makeRoom s) five (room-bound b s h)))
@@ -109,7 +110,7 @@ announcedIn-bound b p none h = tt
 announcedIn-bound b p (some s) h =
     byTest (leb maxPending (pending (nodeOf p s))) (λ e. rw e tt) (λ e. rw e (repended-below b p _ s h))
 
-pub announced-bound : (b : ℕ) (p : Words) (s : Store) → length p ≡ 5 → Below b s → BelowIn b (announced p s)
+pub announced-bound : (b : ℕ) (p : Words) (s : Store) → length p ≡ labelWidth → Below b s → BelowIn b (announced p s)
 unfolding announced
 announced-bound b p s five h = announcedIn-bound b p _ (ensured-bound b p s five h)
 

@@ -81,11 +81,11 @@ sound m s e =
 -- ---- A busy client
 pub record Busy (m : Mem) (d : ℕ) : Type 0 where
   pub memories : Sound m
-  pub below : d < 12
+  pub below : d < maxClients
   pub fine : isBad narrow (shape m) (client m d) ≡ false
   pub busy : isIdle narrow (client m d) ≡ false
 
-client-passed : (d : ℕ) → noClient d ≡ false → d < 12
+client-passed : (d : ℕ) → noClient d ≡ false → d < maxClients
 unfolding noClient
 client-passed d e = leb-false _ _ e
 
@@ -141,7 +141,7 @@ pub record Begins (m : Mem) (x d : ℕ) (a : List ℕ) : Type 0 where
   pub memories : Sound m
   pub query : isQuery (shape m) a ≡ true
   pub names : x ≡ inserts → namesAll (queryOf a) ≡ true
-  pub below : d < 12
+  pub below : d < maxClients
   pub rests : isIdle narrow (client m d) ≡ true
   pub fresh : (x ≡ reads → ⊥) → isWorn narrow (shape m) (storeIn (m .nodes)) ≡ false
 
@@ -197,7 +197,7 @@ evict-node-passed m i e =
     let s = ltb-false 0 (pending (getD (storeIn (m .nodes) .nodes) i [])) (passed (ltb 0 (pending (getD (storeIn (m .nodes) .nodes) i []))) 8 0 (r .1) .0) in
     (p .0, leb-false _ _ (r .0), omega arith)
 
-pub renew-passed : (m : Mem) → renewCode m ≡ 0 → Sound m × ((d : ℕ) → d < 12 → isIdle narrow (client m d) ≡ true)
+pub renew-passed : (m : Mem) → renewCode m ≡ 0 → Sound m × ((d : ℕ) → d < maxClients → isIdle narrow (client m d) ≡ true)
 unfolding renewCode allIdle
 renew-passed m e =
     let p = sound-passed m _ e in

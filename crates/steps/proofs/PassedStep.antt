@@ -8,7 +8,7 @@ use native.Mathlib.Omega.{arith}
 use Rattle.rules.specs.declared.Outcome.the-variants.{Refused, Accepted}
 use Rattle.rules.specs.Client.{kind, steps, idle, queryAt}
 use Rattle.query.specs.Shape.{shapeOf, narrow}
-use Rattle.rules.specs.Layout.{clientsEnd, reads}
+use Rattle.rules.specs.Layout.{columnsOffset, clientsEnd, reads}
 use Rattle.rules.specs.Memory.{Mem, clientIn, withClients, withClient}
 use Rattle.rules.specs.Outcome.{result, resultWith}
 use Rattle.rules.specs.Refusals.{columns, client, stepCode, abandonCode}
@@ -34,10 +34,10 @@ module _ (m : Mem) (d : ℕ) (b : Busy m d) where
   pub store-fit : nodes.Fit (m .nodes)
   store-fit = nodes-fit m (b .memories)
 
-  pub table-fit : table.Fit (getD (m .clients) 0 0) (m .table)
+  pub table-fit : table.Fit (getD (m .clients) columnsOffset 0) (m .table)
   table-fit = record { columns = (b .memories .least, b .memories .most); long = b .memories .long .table; few = b .memories .records }
 
-  pub writer : (kind (clientIn narrow (m .clients) d) ≡ reads → ⊥) → Writer (m .clients) d (getD (m .clients) 0 0)
+  pub writer : (kind (clientIn narrow (m .clients) d) ≡ reads → ⊥) → Writer (m .clients) d (getD (m .clients) columnsOffset 0)
   unfolding client
   writer w = record {
     columns = refl;
@@ -60,18 +60,18 @@ module _ (m : Mem) (tray : List ℕ) (d n : ℕ) (e : n ≡ stepCode m tray d) w
   step-busy z = step-passed m tray d (sym e ∙ z) .1
 
   module _ (z : n ≡ 0) (x : ℕ) (f : x ≡ kind (clientIn narrow (m .clients) d)) where
-    pub step-reads : x ≡ 1 → Steps (m .table) (m .nodes) (m .answers) (m .clients) tray d (getD (m .clients) 0 0)
+    pub step-reads : x ≡ 1 → Steps (m .table) (m .nodes) (m .answers) (m .clients) tray d (getD (m .clients) columnsOffset 0)
     unfolding client
     step-reads r = reads-on m tray d (sym e ∙ z) (sym f ∙ r)
 
-    pub step-read : x ≡ 1 → readResult m tray d (queryAt (shapeOf (getD (m .clients) 0 0)) (clientIn narrow (m .clients) d)) (steps (clientIn narrow (m .clients) d)) ≡ stepResult m tray d
+    pub step-read : x ≡ 1 → readResult m tray d (queryAt (shapeOf (getD (m .clients) columnsOffset 0)) (clientIn narrow (m .clients) d)) (steps (clientIn narrow (m .clients) d)) ≡ stepResult m tray d
     unfolding client
     step-read r = sym (read-due m tray d (sym e ∙ z) (sym f ∙ r))
 
-    pub step-writes : (x ≡ 1 → ⊥) → Writer (m .clients) d (getD (m .clients) 0 0)
+    pub step-writes : (x ≡ 1 → ⊥) → Writer (m .clients) d (getD (m .clients) columnsOffset 0)
     step-writes r = writer m d (step-busy z) (λ y. r (f ∙ y))
 
-    pub step-write : (x ≡ 1 → ⊥) → stepOf (getD (m .clients) 0 0) m tray d ≡ stepResult m tray d
+    pub step-write : (x ≡ 1 → ⊥) → stepOf (getD (m .clients) columnsOffset 0) m tray d ≡ stepResult m tray d
     unfolding stepResult progress client
     step-write r = rw (eq-eqb (stepCode m tray d) 0 (sym e ∙ z), ne-eqb (kind (clientIn narrow (m .clients) d)) 1 (λ y. r (f ∙ y)))
 
@@ -89,13 +89,13 @@ module _ (m : Mem) (d n : ℕ) (e : n ≡ abandonCode m d) where
     unfolding abandonResult unless abandoned client nowAt
     abandon-read s r g = rw (eq-eqb (abandonCode m d) 0 (sym e ∙ z), eq-eqb (kind (clientIn narrow (m .clients) d)) 1 (sym f ∙ r), g)
 
-    pub abandon-writes : (x ≡ 1 → ⊥) → Writer (m .clients) d (getD (m .clients) 0 0)
+    pub abandon-writes : (x ≡ 1 → ⊥) → Writer (m .clients) d (getD (m .clients) columnsOffset 0)
     abandon-writes r = writer m d (abandon-busy z) (λ y. r (f ∙ y))
 
-    pub abandon-before : (x ≡ 1 → ⊥) → stepAt (m .clients) d ≤ countAt (getD (m .clients) 0 0) (m .clients) d
+    pub abandon-before : (x ≡ 1 → ⊥) → stepAt (m .clients) d ≤ countAt (getD (m .clients) columnsOffset 0) (m .clients) d
     unfolding client
     abandon-before r = steps-before m d (abandon-passed m d (sym e ∙ z) .1) (λ y. r (f ∙ y))
 
-    pub abandon-write : (x ≡ 1 → ⊥) → backOf (getD (m .clients) 0 0) m d ≡ abandonResult m d
+    pub abandon-write : (x ≡ 1 → ⊥) → backOf (getD (m .clients) columnsOffset 0) m d ≡ abandonResult m d
     unfolding abandonResult unless abandoned client
     abandon-write r = rw (eq-eqb (abandonCode m d) 0 (sym e ∙ z), ne-eqb (kind (clientIn narrow (m .clients) d)) 1 (λ y. r (f ∙ y)))

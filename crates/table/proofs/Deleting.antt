@@ -20,6 +20,7 @@ use Rattle.records.proofs.RecordWrites.{effect-delete}
 use Rattle.table.specs.TableContracts.{Fit, gone}
 use Rattle.table.proofs.TableLists.{gone-is}
 use Rattle.table.proofs.TableMemory.{length-records, wide-records}
+use Rattle.rules.specs.Layout.{recordCountOffset}
 
 -- a record that stands where it is to stand
 pub settled : (s : List ℕ) (from to k : ℕ) → to ≡ from → from + k ≤ length s → s ≡ written s to (take k (drop from s))
@@ -109,19 +110,19 @@ module _ (p : Record → Bool) (t : Table) (k n : ℕ) (s₀ s : List ℕ) (i fr
 
 -- the memory with other records, number by number
 with-records-are : (k : ℕ) (s : List ℕ) (t : Table)
-    → withRecords k s t ≡ set (take 8 s ++ (flat t ++ replicate ((getD s 0 0 - length t) * k) 0)
-    ++ drop (8 + length (flat t ++ replicate ((getD s 0 0 - length t) * k) 0)) s) 0 (length t)
+    → withRecords k s t ≡ set (take 8 s ++ (flat t ++ replicate ((getD s recordCountOffset 0 - length t) * k) 0)
+    ++ drop (8 + length (flat t ++ replicate ((getD s recordCountOffset 0 - length t) * k) 0)) s) 0 (length t)
 unfolding withRecords withEntries written
 with-records-are k s t = refl
 
 -- the end: the freed part cleared, and the new count
 module _ (q : Query) (k : ℕ) (s₀ s u : List ℕ) (i from j to : ℕ) (f : Fit k s₀)
-    (a : Deleting (outside q) (recordsIn k s₀) k (getD s₀ 0 0) s₀ s i from j to) (h : getD s₀ 0 0 ≤ i)
+    (a : Deleting (outside q) (recordsIn k s₀) k (getD s₀ recordCountOffset 0) s₀ s i from j to) (h : getD s₀ recordCountOffset 0 ≤ i)
     (e : u ≡ replicate (from - to) 0 ++ drop (from - to) (take (from - to) (drop to s))) where
-  pub delete-all : (getD s₀ 0 0 - j ≡ gone q (recordsIn k s₀)) × (set (putMid to (from - to) s u) 0 j ≡ withRecords k s₀ (effect (delete q) (recordsIn k s₀)))
+  pub delete-all : (getD s₀ recordCountOffset 0 - j ≡ gone q (recordsIn k s₀)) × (set (putMid to (from - to) s u) 0 j ≡ withRecords k s₀ (effect (delete q) (recordsIn k s₀)))
   delete-all =
       let t : Table = recordsIn k s₀ in
-      let n : ℕ = getD s₀ 0 0 in
+      let n : ℕ = getD s₀ recordCountOffset 0 in
       let l : length t ≡ n = length-records k s₀ in
       let z : i ≡ n = omega (arith, a .le) in
       let x : keep (outside q) (take i t) ≡ keep (outside q) t = keep-end (outside q) t i (omega arith) in

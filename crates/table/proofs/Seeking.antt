@@ -17,7 +17,7 @@ use Rattle.laws.proofs.TestLaws.{byTest}
 use Rattle.laws.proofs.SearchLaws.{place-le, place-here, place-later}
 use Rattle.laws.proofs.RowLaws.{slot-next}
 use Rattle.query.specs.Query.{Record}
-use Rattle.rules.specs.Layout.{maxRecords}
+use Rattle.rules.specs.Layout.{maxRecords, recordCountOffset}
 use Rattle.rules.specs.Table.{Table, has, insert, effect}
 use Rattle.rules.specs.Memory.{recordsIn, withRecords}
 use Rattle.records.proofs.RecordWrites.{insert-places, effect-there, effect-full, effect-put}
@@ -113,21 +113,21 @@ module _ (s : List ℕ) (r : Record) (f : Fit (length r) s) (p : Spot) (e : p �
       (sym (as-present r _ h), kept (effect-there r _ h))
 
   module _ (i : ℕ) (x : p ≡ At i) where
-    pub spot-in : i ≤ getD s 0 0
+    pub spot-in : i ≤ getD s recordCountOffset 0
     spot-in =
         let b : i ≡ place (before r) (recordsIn (length r) s) = spot-before r _ i (sym e ∙ x) .1 in
         omega (arith, place-le (before r) (recordsIn (length r) s), length-records (length r) s)
 
-    pub insert-full : maxRecords ≤ getD s 0 0 → (Full ≡ insertedAs r (recordsIn (length r) s)) × (s ≡ withRecords (length r) s (effect (insert r) (recordsIn (length r) s)))
+    pub insert-full : maxRecords ≤ getD s recordCountOffset 0 → (Full ≡ insertedAs r (recordsIn (length r) s)) × (s ≡ withRecords (length r) s (effect (insert r) (recordsIn (length r) s)))
     insert-full g =
-        let l : length (recordsIn (length r) s) ≡ getD s 0 0 = length-records (length r) s in
+        let l : length (recordsIn (length r) s) ≡ getD s recordCountOffset 0 = length-records (length r) s in
         (sym (as-full r _ (spot-before r _ i (sym e ∙ x) .0) (omega arith)), kept (effect-full r _ (omega arith)))
 
-    pub insert-added : (u : List ℕ) → getD s 0 0 < maxRecords → u ≡ inserted s (8 + i * length r) (8 + getD s 0 0 * length r) r
-        → (Added ≡ insertedAs r (recordsIn (length r) s)) × (set u 0 (getD s 0 0 + 1) ≡ withRecords (length r) s (effect (insert r) (recordsIn (length r) s)))
+    pub insert-added : (u : List ℕ) → getD s recordCountOffset 0 < maxRecords → u ≡ inserted s (8 + i * length r) (8 + getD s recordCountOffset 0 * length r) r
+        → (Added ≡ insertedAs r (recordsIn (length r) s)) × (set u 0 (getD s recordCountOffset 0 + 1) ≡ withRecords (length r) s (effect (insert r) (recordsIn (length r) s)))
     insert-added u g v =
         let t = recordsIn (length r) s in
-        let l : length (recordsIn (length r) s) ≡ getD s 0 0 = length-records (length r) s in
+        let l : length (recordsIn (length r) s) ≡ getD s recordCountOffset 0 = length-records (length r) s in
         let b = spot-before r (recordsIn (length r) s) i (sym e ∙ x) in
         let q : effect (insert r) t ≡ take i t ++ (r ∷ drop i t) = effect-put r t (b .0) (omega arith) ∙ rw (b .1) (insert-places r t) in
         (sym (as-added r _ (b .0) (omega arith)), rw v (sym (ap (withRecords (length r) s) q ∙ with-inserted (length r) s r i f spot-in)))

@@ -13,8 +13,8 @@ use Rattle.laws.proofs.RowLaws.{slot, Wide, wide-keep}
 use Rattle.laws.proofs.EntryLaws.{length-entries, entry-at, wide-entries, with-insert, with-self, length-with, count-with, entries-with}
 use Rattle.query.specs.Query.{Query, Record, lies}
 use Rattle.query.specs.declared.Column.{Column}
-use Rattle.query.specs.Shape.{narrow}
-use Rattle.rules.specs.Layout.{maxRecords, tableLeast}
+use Rattle.query.specs.Shape.{maxColumns, narrow}
+use Rattle.rules.specs.Layout.{maxRecords, tableLeast, recordCountOffset}
 use Rattle.rules.specs.Table.{Table, listOf, Write, effect}
 use Rattle.rules.specs.Memory.{Mem, recordsIn, withRecords}
 use Rattle.rules.specs.Refusals.{shape, columns, isShort, isUnsound}
@@ -29,41 +29,41 @@ fit-passed m h g =
     record { columns = (s .least, s .most); long = s .long .table; few = s .records }
 
 -- ---- places, for omega
-pub ends : (k n : ℕ) → k ≤ 4 → n ≤ maxRecords → 8 + n * k ≤ tableLeast
+pub ends : (k n : ℕ) → k ≤ maxColumns → n ≤ maxRecords → 8 + n * k ≤ tableLeast
 ends k n h g = let a : n * k ≤ n * 4 = mul-le-mul-left n h in omega arith
 
-pub in-use : (k : ℕ) (s : List ℕ) → Fit k s → 8 + getD s 0 0 * k ≤ length s
-in-use k s f = let a : 8 + getD s 0 0 * k ≤ tableLeast = ends k (getD s 0 0) (f .columns .1) (f .few) in let b = f .long in omega arith
+pub in-use : (k : ℕ) (s : List ℕ) → Fit k s → 8 + getD s recordCountOffset 0 * k ≤ length s
+in-use k s f = let a : 8 + getD s recordCountOffset 0 * k ≤ tableLeast = ends k (getD s recordCountOffset 0) (f .columns .1) (f .few) in let b = f .long in omega arith
 
 -- record i ends inside the memory
-pub slot-in : (k : ℕ) (s : List ℕ) (i : ℕ) → Fit k s → i < getD s 0 0 → 8 + i * k + k ≤ tableLeast
+pub slot-in : (k : ℕ) (s : List ℕ) (i : ℕ) → Fit k s → i < getD s recordCountOffset 0 → 8 + i * k + k ≤ tableLeast
 slot-in k s i f h =
-    let a : 8 + getD s 0 0 * k ≤ tableLeast = ends k (getD s 0 0) (f .columns .1) (f .few) in
-    omega (arith, slot k (getD s 0 0) i h)
+    let a : 8 + getD s recordCountOffset 0 * k ≤ tableLeast = ends k (getD s recordCountOffset 0) (f .columns .1) (f .few) in
+    omega (arith, slot k (getD s recordCountOffset 0) i h)
 
 -- the same at the place where a scan stands
-pub scan-in : (k : ℕ) (s : List ℕ) (i at : ℕ) → Fit k s → i < getD s 0 0 → at ≡ 8 + i * k → at + k ≤ tableLeast
+pub scan-in : (k : ℕ) (s : List ℕ) (i at : ℕ) → Fit k s → i < getD s recordCountOffset 0 → at ≡ 8 + i * k → at + k ≤ tableLeast
 scan-in k s i at f h e = omega (arith, slot-in k s i f h)
 
-pub scan-end : (k : ℕ) (s : List ℕ) (i at : ℕ) → Fit k s → i ≤ getD s 0 0 → at ≡ 8 + i * k → at ≤ tableLeast
+pub scan-end : (k : ℕ) (s : List ℕ) (i at : ℕ) → Fit k s → i ≤ getD s recordCountOffset 0 → at ≡ 8 + i * k → at ≤ tableLeast
 scan-end k s i at f h e =
-    let a : 8 + getD s 0 0 * k ≤ tableLeast = ends k (getD s 0 0) (f .columns .1) (f .few) in
-    let b : i * k ≤ getD s 0 0 * k = mul-le-mul-right k h in
+    let a : 8 + getD s recordCountOffset 0 * k ≤ tableLeast = ends k (getD s recordCountOffset 0) (f .columns .1) (f .few) in
+    let b : i * k ≤ getD s recordCountOffset 0 * k = mul-le-mul-right k h in
     omega arith
 
 -- a record more ends inside it, where there is room for one
-pub room-for : (k : ℕ) (s : List ℕ) → Fit k s → getD s 0 0 < maxRecords → 8 + getD s 0 0 * k + k ≤ length s
+pub room-for : (k : ℕ) (s : List ℕ) → Fit k s → getD s recordCountOffset 0 < maxRecords → 8 + getD s recordCountOffset 0 * k + k ≤ length s
 room-for k s f h =
     let a : 8 + maxRecords * k ≤ tableLeast = ends k maxRecords (f .columns .1) (omega arith) in
     let b = f .long in
-    omega (arith, slot k maxRecords (getD s 0 0) h)
+    omega (arith, slot k maxRecords (getD s recordCountOffset 0) h)
 
 -- ---- what is read
-pub length-records : (k : ℕ) (s : List ℕ) → length (recordsIn k s) ≡ getD s 0 0
+pub length-records : (k : ℕ) (s : List ℕ) → length (recordsIn k s) ≡ getD s recordCountOffset 0
 unfolding recordsIn
 length-records k s = length-entries 0 k s
 
-pub record-at : (k : ℕ) (s : List ℕ) (i : ℕ) → i < getD s 0 0 → getD (recordsIn k s) i [] ≡ take k (drop (8 + i * k) s)
+pub record-at : (k : ℕ) (s : List ℕ) (i : ℕ) → i < getD s recordCountOffset 0 → getD (recordsIn k s) i [] ≡ take k (drop (8 + i * k) s)
 unfolding recordsIn
 record-at k s i h = entry-at 0 k s i h
 
@@ -76,7 +76,7 @@ unfolding listOf
 wide-list k s q f = wide-keep k (lies q) (recordsIn k s) (wide-records k s f)
 
 -- a scan that stands at record i, whose first number is at `at`; m is the memory, or one that has not changed from there on
-module _ (k : ℕ) (s m : List ℕ) (i at : ℕ) (f : Fit k s) (h : i < getD s 0 0) (e : at ≡ 8 + i * k) (d : drop at m ≡ drop at s) where
+module _ (k : ℕ) (s m : List ℕ) (i at : ℕ) (f : Fit k s) (h : i < getD s recordCountOffset 0) (e : at ≡ 8 + i * k) (d : drop at m ≡ drop at s) where
   pub part-is : take (at + k - at) (drop at m) ≡ getD (recordsIn k s) i []
   part-is =
       let w : at + k - at ≡ k = omega arith in
@@ -99,8 +99,8 @@ pub with-records : (k : ℕ) (s : List ℕ) → Fit k s → withRecords k s (rec
 unfolding recordsIn withRecords
 with-records k s f = with-self 0 k s (in-use k s f) (omega arith)
 
-pub with-inserted : (k : ℕ) (s : List ℕ) (r : Record) (i : ℕ) → Fit k s → i ≤ getD s 0 0
-    → withRecords k s (take i (recordsIn k s) ++ (r ∷ drop i (recordsIn k s))) ≡ set (inserted s (8 + i * k) (8 + getD s 0 0 * k) r) 0 (getD s 0 0 + 1)
+pub with-inserted : (k : ℕ) (s : List ℕ) (r : Record) (i : ℕ) → Fit k s → i ≤ getD s recordCountOffset 0
+    → withRecords k s (take i (recordsIn k s) ++ (r ∷ drop i (recordsIn k s))) ≡ set (inserted s (8 + i * k) (8 + getD s recordCountOffset 0 * k) r) 0 (getD s recordCountOffset 0 + 1)
 unfolding recordsIn withRecords
 with-inserted k s r i f h = with-insert 0 k s (in-use k s f) i r h
 

@@ -7,7 +7,8 @@ use lib.Dec.{leb}
 use lib.ListN.{length, getD}
 use Rattle.lists.specs.Lists.{before, place}
 use Rattle.query.specs.Query.{Query, Record}
-use Rattle.rules.specs.Layout.{maxRecords, maxList, tableLeast}
+use Rattle.query.specs.Shape.{maxColumns}
+use Rattle.rules.specs.Layout.{maxRecords, maxList, tableLeast, recordCountOffset}
 use Rattle.rules.specs.Table.{Table, delete, has, effect}
 use Rattle.table.specs.declared.Inserted.{Inserted}
 use Rattle.table.specs.declared.Inserted.the-variants.{Added, Present, Full}
@@ -16,9 +17,9 @@ use Rattle.table.specs.declared.Spot.the-variants.{There, At}
 
 -- a table memory that passed the refusals 1 and 3: k in range, long enough, its count in range
 pub record Fit (k : ℕ) (s : List ℕ) : Type 0 where
-  pub columns : (1 ≤ k) × (k ≤ 4)
+  pub columns : (1 ≤ k) × (k ≤ maxColumns)
   pub long : tableLeast ≤ length s
-  pub few : getD s 0 0 ≤ maxRecords
+  pub few : getD s recordCountOffset 0 ≤ maxRecords
 
 -- how many records a list has, or one more than the most that a read lists
 unfoldable pub gathered : List Record → ℕ

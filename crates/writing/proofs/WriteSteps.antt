@@ -20,8 +20,8 @@ use Rattle.rules.specs.Table.{Write, insert, delete, effect}
 use Rattle.rules.specs.Nodes.{Words, Store, announced, raised}
 use Rattle.rules.specs.Client.{Client, kind, steps, didChange, foundFull, idle, queryAt, writeAt, stepsInAll, stepped, wrote}
 use Rattle.query.specs.Shape.{shapeOf, maxColumns, narrow}
-use Rattle.rules.specs.Layout.{inserts}
-use Rattle.rules.specs.Memory.{mem, recordsIn, withRecords, storeIn, withStore, clientIn, withClient}
+use Rattle.rules.specs.Layout.{maxList, maxLooks, inserts}
+use Rattle.rules.specs.Memory.{shapeIn, mem, recordsIn, withRecords, storeIn, withStore, clientIn, withClient}
 use Rattle.rules.specs.Outcome.{resultWith}
 use Rattle.rules.specs.Refusals.{columns, client}
 use Rattle.rules.specs.Steps.{nowAt, storeBack, announceResult, writeTableResult, endOf, raiseResult, writeResult}
@@ -57,7 +57,7 @@ module _ (s : List ℕ) (d k : ℕ) (w : Writer s d k) where
   pub count-is : writeCount (queryAt (shapeOf k) (clientIn narrow s d)) ≡ 2 ^ k
   count-is = count-power (queryAt (shapeOf k) (clientIn narrow s d)) k (length-query k (clientIn narrow s d))
 
-  pub count-small : writeCount (queryAt (shapeOf k) (clientIn narrow s d)) ≤ 16
+  pub count-small : writeCount (queryAt (shapeOf k) (clientIn narrow s d)) ≤ maxLooks
   count-small = power-small k (writeCount (queryAt (shapeOf k) (clientIn narrow s d))) count-is (w .most)
 
   pub step-most : steps (clientIn narrow s d) ≤ writeCount (queryAt (shapeOf k) (clientIn narrow s d)) + writeCount (queryAt (shapeOf k) (clientIn narrow s d))
@@ -66,7 +66,7 @@ module _ (s : List ℕ) (d k : ℕ) (w : Writer s d k) where
       let b = last-of-write (kind (clientIn narrow s d)) (queryAt (shapeOf k) (clientIn narrow s d)) (w .writes) in
       omega arith
 
-  pub step-small : steps (clientIn narrow s d) ≤ 32
+  pub step-small : steps (clientIn narrow s d) ≤ maxList
   step-small = omega (arith, step-most, count-small)
 
   -- the count that the code reads
@@ -128,7 +128,7 @@ module _ (t n a s y : List ℕ) (d : ℕ) (w : Write) (q : Query) (i : ℕ) (p :
         let x : Went n (raised narrow p (storeIn n)) u = went-well n (raised narrow p (storeIn n)) u (rw z at g) in
         raise-stored t n a s y d w q i u (x .store) v h (ap (λ (m : Words). raised narrow m (storeIn n)) (sym e) ∙ x .is) (x .mem) last o m l
 
-pub table-done : (t n a s y : List ℕ) (d k : ℕ) (w w′ : Write) (q : Query) (i : ℕ) (x v : List ℕ) (r : Report) → i ≡ writeCount q → k ≡ getD s 0 0 → w′ ≡ w
+pub table-done : (t n a s y : List ℕ) (d k : ℕ) (w w′ : Write) (q : Query) (i : ℕ) (x v : List ℕ) (r : Report) → i ≡ writeCount q → k ≡ shapeIn s .columns → w′ ≡ w
     → (r ≡ reported w′ (recordsIn k t)) × (x ≡ withRecords k t (effect w′ (recordsIn k t))) → v ≡ withClient narrow s d (wrote (r .changed) (r .full) (clientIn narrow s d))
     → resultWith Accepted (mem x n a v) y ≡ writeResult (mem t n a s) y d w q i
 unfolding writeResult writeTableResult nowAt client reported

@@ -16,7 +16,7 @@ use Rattle.rules.specs.Nodes.{Words, Store, pending, nodePlace, releasedAll}
 use Rattle.rules.specs.Client.{Client, kind, steps, idle, isIdle, isBad, queryAt, writeAt, stepped}
 use Rattle.query.specs.Shape.{shapeOf, maxColumns, narrow}
 use Rattle.rules.specs.Layout.{maxClients, clientsEnd, reads, inserts}
-use Rattle.rules.specs.Memory.{Mem, clientIn, storeIn}
+use Rattle.rules.specs.Memory.{shapeIn, Mem, clientIn, storeIn}
 use Rattle.rules.specs.Outcome.{Result, StepResult}
 use Rattle.rules.specs.Steps.{writeResult, endOf}
 use Rattle.rules.specs.Calls.{announcedLabels, takenBack}
@@ -25,7 +25,7 @@ use Rattle.writing.specs.declared.Report.{Report}
 
 -- what a passed check tells of the desks memory s and its client d, whose kind is that of a write
 pub record Writer (s : List ℕ) (d k : ℕ) : Type 0 where
-  pub columns : k ≡ getD s 0 0
+  pub columns : k ≡ shapeIn s .columns
   pub least : 1 ≤ k
   pub most : k ≤ maxColumns
   pub below : d < maxClients

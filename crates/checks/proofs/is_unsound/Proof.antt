@@ -33,7 +33,7 @@ returns-5 : tie.Need-returns-5
 returns-5 c = unsound-answers _ (c .before .before .before .before .before .before .before .if1 .left) (c .before .before .before .before .before .before .if2 .left) (c .before .before .before .before .if3 .left) (c .before .before .if4 .left) (c .if5 .taken)
 
 some-long-requires : tie.Need-some-long-requires
-some-long-requires c κs = record { long = long _ _ (c .before .before .before .before .before .before .before .before .before .before .before .before .before .pre) .answers; few = c .if5 .left }
+some-long-requires c κs = record { long = omega (arith, long _ _ (c .before .before .before .before .before .before .before .before .before .before .before .before .before .pre) .answers); few = c .if5 .left }
 
 returns-6 : tie.Need-returns-6
 returns-6 c = unsound-lists _ (c .before .before .before .before .before .before .before .before .if1 .left) (c .before .before .before .before .before .before .before .if2 .left) (c .before .before .before .before .before .if3 .left) (c .before .before .before .if4 .left) _ (c .before .if5 .left) (c .some-long .ensures)
