@@ -175,11 +175,11 @@ module _ (m : Mem) (x d : ℕ) (a : List ℕ) where
     begin-query q = rw (← s, ← q)
 
     module _ (q : false ≡ badQuery (shapeOf (getD (m .clients) columnsOffset 0)) x a) (n : ℕ) (f : n ≡ atClient m d) where
-      begin-rest : cond (eqb n 0) refusedTaken (cond (eqb n refusedIdle) (cond (not (eqb x reads) && isWorn narrow (shape m) (storeIn (m .nodes))) refusedWorn 0) n) ≡ beginCode m x d a
+      begin-rest : cond (eqb n 0) refusedTaken (cond (eqb n refusedIdle) (cond (not (eqb x reads) && isWorn narrow (shape m) (storeIn narrow (m .nodes))) refusedWorn 0) n) ≡ beginCode m x d a
       unfolding beginCode atClient
       begin-rest = rw (← s, ← q, f)
           (sym (begin-found (isUnsound m) (noClient d) (isBad narrow (shapeOf (getD (m .clients) columnsOffset 0)) (client m d)) (isIdle narrow (client m d))
-          (cond (not (eqb x reads) && isWorn narrow (shape m) (storeIn (m .nodes))) refusedWorn 0)))
+          (cond (not (eqb x reads) && isWorn narrow (shape m) (storeIn narrow (m .nodes))) refusedWorn 0)))
 
       pub begin-busy : n ≡ 0 → refusedTaken ≡ beginCode m x d a
       begin-busy h = rw h at begin-rest
@@ -188,16 +188,16 @@ module _ (m : Mem) (x d : ℕ) (a : List ℕ) where
       begin-other h g = rw (ne-eqb n 0 h, ne-eqb n 6 g) at begin-rest
 
       module _ (g : n ≡ 6) where
-        begin-free : cond (not (eqb x reads) && isWorn narrow (shape m) (storeIn (m .nodes))) refusedWorn 0 ≡ beginCode m x d a
+        begin-free : cond (not (eqb x reads) && isWorn narrow (shape m) (storeIn narrow (m .nodes))) refusedWorn 0 ≡ beginCode m x d a
         begin-free = rw g at begin-rest
 
         pub begin-read : x ≡ reads → 0 ≡ beginCode m x d a
         begin-read h = rw (eq-eqb x reads h) at begin-free
 
-        pub begin-worn : (x ≡ reads → ⊥) → true ≡ isWorn narrow (shape m) (storeIn (m .nodes)) → refusedWorn ≡ beginCode m x d a
+        pub begin-worn : (x ≡ reads → ⊥) → true ≡ isWorn narrow (shape m) (storeIn narrow (m .nodes)) → refusedWorn ≡ beginCode m x d a
         begin-worn h w = rw (ne-eqb x reads h, ← w) at begin-free
 
-        pub begin-write : (x ≡ reads → ⊥) → false ≡ isWorn narrow (shape m) (storeIn (m .nodes)) → 0 ≡ beginCode m x d a
+        pub begin-write : (x ≡ reads → ⊥) → false ≡ isWorn narrow (shape m) (storeIn narrow (m .nodes)) → 0 ≡ beginCode m x d a
         begin-write h w = rw (ne-eqb x reads h, ← w) at begin-free
 
 -- ---- Steps and abandonings
@@ -281,7 +281,7 @@ module _ (m : Mem) (n : ℕ) (e : n ≡ soundCode m) where
 
     module _ (h : n ≡ 0) (l : i < getD (m .nodes) nodeCountOffset 0) where
       -- x: the node's pending writes
-      module _ (x : ℕ) (is : x ≡ pending (getD (storeIn (m .nodes) .nodes) i [])) where
+      module _ (x : ℕ) (is : x ≡ pending (getD (storeIn narrow (m .nodes) .nodes) i [])) where
         pub node-pending : 0 < x → refusedPending ≡ evictNodeCode m i
         unfolding evictNodeCode
         node-pending p = rw (lt-leb _ _ l, ← is, lt-ltb _ _ p) (sound-on refusedPending h)

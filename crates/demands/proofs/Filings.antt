@@ -38,6 +38,7 @@ use Rattle.demands.proofs.Moments.{asking, filing-there, files-there}
 use Rattle.demands.proofs.Taken.{step-taken, file-step, file-accepted}
 use Rattle.demands.proofs.Works.{Since}
 use Rattle.demands.proofs.Flags.{flagsAt, quiescent-then, quiescent-less, reading, since-key, on-client}
+use Rattle.query.specs.Shape.{narrow}
 use Rattle.rules.specs.Layout.{maxClients}
 
 -- ---- A step's reply
@@ -49,7 +50,7 @@ pub step-call : (c : rules.Call) (d : ℕ) (tray : List ℕ) → c ≡ rules.ste
 unfolding callOf
 step-call c d tray e = ap callOf e
 
-pub no-label-twice : (h : History) (n : ℕ) → n ≤ length (h .calls) → NoDup (storeIn (memAt h n .nodes) .nodes)
+pub no-label-twice : (h : History) (n : ℕ) → n ≤ length (h .calls) → NoDup (storeIn narrow (memAt h n .nodes) .nodes)
 unfolding stateOf
 no-label-twice h n l = sound h n l .good .inv .once
 

@@ -70,7 +70,7 @@ pub record Sound (h : History) (n : ℕ) : Type 0 where
   pub good : Good (stateOf (memAt h n)) (after (fresh (shapeAt h)) (logTo h n))
   pub run : Run (machine.opened (shapeAt h)) (logTo h n) (stateOf (memAt h n))
 
-once : (m : Mem) → StateInv (stateOf m) → NoDup (storeIn (m .nodes) .nodes)
+once : (m : Mem) → StateInv (stateOf m) → NoDup (storeIn narrow (m .nodes) .nodes)
 unfolding stateOf
 once m t = t .once
 

@@ -71,9 +71,9 @@ node-is : (q : Query) (j : ℕ) → j < readCount q → node (asking q) j ≡ la
 unfolding node readLabels readCount
 node-is q j l = let n = read-nodes-count q in getD-map labelWords (readNodes q) j [] [] (omega arith) ∙ ap labelWords (read-nodes-at q j l)
 
-has-is : (q : Query) (m : Mem) (j : ℕ) → j < readCount q → has (stateOf m .store .nodes) (node (asking q) j) ≡ isPresent (labelWords (readNode q j)) (storeIn (m .nodes))
+has-is : (q : Query) (m : Mem) (j : ℕ) → j < readCount q → has (stateOf m .store .nodes) (node (asking q) j) ≡ isPresent (labelWords (readNode q j)) (storeIn narrow (m .nodes))
 unfolding stateOf
-has-is q m j l = rw (node-is q j l) (sym (present-has (labelWords (readNode q j)) (storeIn (m .nodes))))
+has-is q m j l = rw (node-is q j l) (sym (present-has (labelWords (readNode q j)) (storeIn narrow (m .nodes))))
 
 pub kept-there : (q : Query) (m t : Mem) → keepsNodes q m t ≡ true → kept (stateOf m) (stateOf t) (asking q) ≡ true
 unfolding keepsNodes kept stillThere
@@ -103,7 +103,7 @@ pub record Fetching (m : Mem) (d : ℕ) (q : Query) : Type 0 where
   pub phase : stateOf m .clients d ≡ looking (asking q) revs saw
   pub all : length (readLabels (asking q)) ≤ length revs
 
-pub fetching : (m : Mem) (d : ℕ) (q : Query) → Fits m → NoDup (storeIn (m .nodes) .nodes) → Reads m d q (readCount q) → Fetching m d q
+pub fetching : (m : Mem) (d : ℕ) (q : Query) → Fits m → NoDup (storeIn narrow (m .nodes) .nodes) → Reads m d q (readCount q) → Fetching m d q
 fetching m d q f once r =
     let c = client m d in
     let k = shape m in
@@ -121,7 +121,7 @@ fetching m d q f once r =
       all = omega arith;
     }
 
-pub filing-there : (m : Mem) (d : ℕ) (q : Query) → Fits m → NoDup (storeIn (m .nodes) .nodes) → Reads m d q (readCount q + 2)
+pub filing-there : (m : Mem) (d : ℕ) (q : Query) → Fits m → NoDup (storeIn narrow (m .nodes) .nodes) → Reads m d q (readCount q + 2)
     → (ns : List ℕ) × (l : Val) × (stateOf m .clients d ≡ filing (asking q) ns l)
 filing-there m d q f once r =
     let c = client m d in
@@ -170,7 +170,7 @@ reader-files m d q ns l g b r e =
     let z = ap readCount a in
     record { below = g .below; busy = b; reader = r; asks = a; made = omega arith }))
 
-pub files-there : (m : Mem) (d : ℕ) (q : Key) (ns : List ℕ) (l : Val) → Fits m → NoDup (storeIn (m .nodes) .nodes) → d < maxClients
+pub files-there : (m : Mem) (d : ℕ) (q : Key) (ns : List ℕ) (l : Val) → Fits m → NoDup (storeIn narrow (m .nodes) .nodes) → d < maxClients
     → stateOf m .clients d ≡ filing q ns l → Reads m d (q .asked) (readCount (q .asked) + 2)
 files-there m d q ns l f once h e =
     let e′ : phaseOf (shape m) (client m d) ≡ filing q ns l = sym (client-at m d h) ∙ e in

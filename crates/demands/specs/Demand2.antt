@@ -34,7 +34,7 @@ isQuiet q m = allBelow maxClients (λ d. not (isOpen (form m) (shape m) q (clien
 -- "none of its nodes was put out": each node of q that was there still is
 unfoldable pub stillThere : Query → Mem → Mem → ℕ → Bool
 stillThere q m t j =
-    not (isPresent (labelWords (readNode q j)) (storeIn (m .nodes))) || isPresent (labelWords (readNode q j)) (storeIn (t .nodes))
+    not (isPresent (labelWords (readNode q j)) (storeIn (form m) (m .nodes))) || isPresent (labelWords (readNode q j)) (storeIn (form t) (t .nodes))
 
 unfoldable pub keepsNodes : Query → Mem → Mem → Bool
 keepsNodes q m t = allBelow (readCount q) (stillThere q m t)

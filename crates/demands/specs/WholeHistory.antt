@@ -12,6 +12,7 @@ use Rattle.rules.specs.Memory.{Mem, opened}
 use Rattle.rules.specs.Outcome.{StepResult, number}
 use Rattle.rules.specs.Refusals.{openCode}
 use Rattle.rules.specs.History.{Call, beginRead, beginInsert, beginDelete, step, abandon, evictAnswer, evictNode, renew, callResult, isAccepted, Plain, plainAtOpening, memAfter, plainAfter}
+use Rattle.rules.specs.Refusals.{shape}
 use Rattle.query.specs.Shape.{Shape, shapeOf, narrow}
 
 -- "A history is an accepted opening, with any k, and after it a list of calls, the empty one too"

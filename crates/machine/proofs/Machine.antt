@@ -9,6 +9,7 @@ use Rattle.lists.specs.Lists.{place, without, allBelow}
 use Rattle.query.specs.Shape.{Shape}
 use Rattle.rules.specs.Layout.{maxAnswers, firstFloor}
 use Rattle.rules.specs.Table.{Table, Write}
+use Rattle.rules.specs.Refusals.{shape}
 use Rattle.rules.specs.Nodes.{Store, store}
 use Rattle.machine.proofs.Sums.{Words, upd}
 use Rattle.machine.proofs.Keys.{Key, Val, readLabels, sameKey}

@@ -27,140 +27,140 @@ use Rattle.nodes.proofs.NodeScans.{pending-at, revision-at}
 use Rattle.nodes.proofs.NodeSizes.{sized-word, sized-released, length-word, place-word, Room, made-room, Present, made-present, added-place, added-more, sized-added}
 
 -- ---- one taken off node i
-pub release-at : (s : List ℕ) (i : ℕ) → Fit s → i < getD s nodeCountOffset 0 → set s (header + i * nodeWidth + pendingOffset) (getD s (header + i * nodeWidth + pendingOffset) 0 - 1) ≡ withStore s (releasedAt i (storeIn s))
+pub release-at : (s : List ℕ) (i : ℕ) → Fit s → i < getD s nodeCountOffset 0 → set s (header + i * nodeWidth + pendingOffset) (getD s (header + i * nodeWidth + pendingOffset) 0 - 1) ≡ withStore narrow s (releasedAt i (storeIn narrow s))
 unfolding releasedAt withPending
 release-at s i f h =
-    sym (store-word s f i 5 (pending (getD (storeIn s .nodes) i []) - 1) h (omega arith) ∙ ap (λ (x : ℕ). set s (header + i * nodeWidth + pendingOffset) (x - 1)) (pending-at s i h))
+    sym (store-word s f i 5 (pending (getD (storeIn narrow s .nodes) i []) - 1) h (omega arith) ∙ ap (λ (x : ℕ). set s (header + i * nodeWidth + pendingOffset) (x - 1)) (pending-at s i h))
 
 -- ---- the label's node at place i
-module _ (p : Words) (s : List ℕ) (i : ℕ) (e : i ≡ nodePlace p (storeIn s .nodes)) where
-  missing : getD s nodeCountOffset 0 ≤ i → isPresent p (storeIn s) ≡ false
+module _ (p : Words) (s : List ℕ) (i : ℕ) (e : i ≡ nodePlace p (storeIn narrow s .nodes)) where
+  missing : getD s nodeCountOffset 0 ≤ i → isPresent p (storeIn narrow s) ≡ false
   unfolding isPresent
-  missing h = let l = count-nodes s in le-ltb (nodePlace p (storeIn s .nodes)) (length (storeIn s .nodes)) (omega arith)
+  missing h = let l = count-nodes s in le-ltb (nodePlace p (storeIn narrow s .nodes)) (length (storeIn narrow s .nodes)) (omega arith)
 
   -- a node that is missing has no pending write
-  pending-missing : getD s nodeCountOffset 0 ≤ i → false ≡ isPending p (storeIn s)
+  pending-missing : getD s nodeCountOffset 0 ≤ i → false ≡ isPending p (storeIn narrow s)
   unfolding isPending
-  pending-missing h = sym (false-left (isPresent p (storeIn s)) (ltb 0 (pending (nodeOf p (storeIn s)))) (missing h))
+  pending-missing h = sym (false-left (isPresent p (storeIn narrow s)) (ltb 0 (pending (nodeOf p (storeIn narrow s)))) (missing h))
 
   module _ (h : i < getD s nodeCountOffset 0) where
-    there : isPresent p (storeIn s) ≡ true
+    there : isPresent p (storeIn narrow s) ≡ true
     unfolding isPresent
-    there = let l = count-nodes s in lt-ltb (nodePlace p (storeIn s .nodes)) (length (storeIn s .nodes)) (omega arith)
+    there = let l = count-nodes s in lt-ltb (nodePlace p (storeIn narrow s .nodes)) (length (storeIn narrow s .nodes)) (omega arith)
 
-    node-here : nodeOf p (storeIn s) ≡ getD (storeIn s .nodes) i []
+    node-here : nodeOf p (storeIn narrow s) ≡ getD (storeIn narrow s .nodes) i []
     unfolding nodeOf
-    node-here = ap (λ (j : ℕ). getD (storeIn s .nodes) j []) (sym e)
+    node-here = ap (λ (j : ℕ). getD (storeIn narrow s .nodes) j []) (sym e)
 
-    pending-here : pending (nodeOf p (storeIn s)) ≡ getD s (header + i * nodeWidth + pendingOffset) 0
+    pending-here : pending (nodeOf p (storeIn narrow s)) ≡ getD s (header + i * nodeWidth + pendingOffset) 0
     pending-here = ap pending node-here ∙ pending-at s i h
 
-    revision-here : revision (nodeOf p (storeIn s)) ≡ getD s (header + i * nodeWidth + revisionOffset) 0
-    revision-here = ap revision node-here ∙ revision-at s i h
+    revision-here : revision narrow (nodeOf p (storeIn narrow s)) ≡ getD s (header + i * nodeWidth + revisionOffset) 0
+    revision-here = ap (revision narrow) node-here ∙ revision-at s i h
 
-    pending-test : ltb 0 (getD s (header + i * nodeWidth + pendingOffset) 0) ≡ isPending p (storeIn s)
+    pending-test : ltb 0 (getD s (header + i * nodeWidth + pendingOffset) 0) ≡ isPending p (storeIn narrow s)
     unfolding isPending
     pending-test = rw (there, pending-here)
 
     -- one of its numbers altered
-    word-here : (j x : ℕ) → Fit s → j < 8 → withStore s (withNode p (set (nodeOf p (storeIn s)) j x) (storeIn s)) ≡ set s (header + i * nodeWidth + j) x
+    word-here : (j x : ℕ) → Fit s → j < 8 → withStore narrow s (withNode p (set (nodeOf p (storeIn narrow s)) j x) (storeIn narrow s)) ≡ set s (header + i * nodeWidth + j) x
     unfolding withNode nodeOf
     word-here j x f k = rw (← e) (store-word s f i j x h k)
 
-    release-here : Fit s → set s (header + i * nodeWidth + pendingOffset) (getD s (header + i * nodeWidth + pendingOffset) 0 - 1) ≡ withStore s (released p (storeIn s))
+    release-here : Fit s → set s (header + i * nodeWidth + pendingOffset) (getD s (header + i * nodeWidth + pendingOffset) 0 - 1) ≡ withStore narrow s (released p (storeIn narrow s))
     unfolding releasedAt released withNode nodeOf
-    release-here f = release-at s i f h ∙ ap (λ (j : ℕ). withStore s (releasedAt j (storeIn s))) e
+    release-here f = release-at s i f h ∙ ap (λ (j : ℕ). withStore narrow s (releasedAt j (storeIn narrow s))) e
 
     -- where it stands, if it has a pending write
-    pub spot-idle : getD s (header + i * nodeWidth + pendingOffset) 0 ≡ 0 → Nowhere ≡ pendingSpot p (storeIn s)
+    pub spot-idle : getD s (header + i * nodeWidth + pendingOffset) 0 ≡ 0 → Nowhere ≡ pendingSpot p (storeIn narrow s)
     unfolding pendingSpot
     spot-idle z = rw (← pending-test, le-ltb 0 (getD s (header + i * nodeWidth + pendingOffset) 0) (omega arith))
 
-    pub spot-there : (getD s (header + i * nodeWidth + pendingOffset) 0 ≡ 0 → ⊥) → At i ≡ pendingSpot p (storeIn s)
+    pub spot-there : (getD s (header + i * nodeWidth + pendingOffset) 0 ≡ 0 → ⊥) → At i ≡ pendingSpot p (storeIn narrow s)
     unfolding pendingSpot
     spot-there z = rw (← pending-test, lt-ltb 0 (getD s (header + i * nodeWidth + pendingOffset) 0) (omega arith)) (ap At e)
 
-  pub spot-missing : getD s nodeCountOffset 0 ≤ i → Nowhere ≡ pendingSpot p (storeIn s)
+  pub spot-missing : getD s nodeCountOffset 0 ≤ i → Nowhere ≡ pendingSpot p (storeIn narrow s)
   unfolding pendingSpot
   spot-missing h = rw (← pending-missing h)
 
 -- ---- a raise
-raised-not : (p : Words) (s : List ℕ) → isPending p (storeIn s) && ltb (revision (nodeOf p (storeIn s))) (maxRevision narrow) ≡ false → attempt false s ≡ tried s (raised narrow p (storeIn s))
+raised-not : (p : Words) (s : List ℕ) → isPending p (storeIn narrow s) && ltb (revision narrow (nodeOf p (storeIn narrow s))) (maxRevision narrow) ≡ false → attempt false s ≡ tried s (raised narrow p (storeIn narrow s))
 unfolding raised tried
 raised-not p s h = rw h
 
-raised-so : (p : Words) (s : List ℕ) → isPending p (storeIn s) && ltb (revision (nodeOf p (storeIn s))) (maxRevision narrow) ≡ true
-    → tried s (raised narrow p (storeIn s)) ≡ attempt true (withStore s (released p (withNode p (set (nodeOf p (storeIn s)) 6 (revision (nodeOf p (storeIn s)) + 1)) (storeIn s))))
+raised-so : (p : Words) (s : List ℕ) → isPending p (storeIn narrow s) && ltb (revision narrow (nodeOf p (storeIn narrow s))) (maxRevision narrow) ≡ true
+    → tried s (raised narrow p (storeIn narrow s)) ≡ attempt true (withStore narrow s (released p (withNode p (set (nodeOf p (storeIn narrow s)) 6 (revision narrow (nodeOf p (storeIn narrow s)) + 1)) (storeIn narrow s))))
 unfolding raised tried withRevision
 raised-so p s h = rw h
 
-module _ (p : Words) (s : List ℕ) (i : ℕ) (e : i ≡ nodePlace p (storeIn s .nodes)) where
-  pub raise-missing : getD s nodeCountOffset 0 ≤ i → attempt false s ≡ tried s (raised narrow p (storeIn s))
-  raise-missing h = raised-not p s (false-left (isPending p (storeIn s)) (ltb (revision (nodeOf p (storeIn s))) (maxRevision narrow)) (sym (pending-missing p s i e h)))
+module _ (p : Words) (s : List ℕ) (i : ℕ) (e : i ≡ nodePlace p (storeIn narrow s .nodes)) where
+  pub raise-missing : getD s nodeCountOffset 0 ≤ i → attempt false s ≡ tried s (raised narrow p (storeIn narrow s))
+  raise-missing h = raised-not p s (false-left (isPending p (storeIn narrow s)) (ltb (revision narrow (nodeOf p (storeIn narrow s))) (maxRevision narrow)) (sym (pending-missing p s i e h)))
 
   module _ (h : i < getD s nodeCountOffset 0) where
-    pub raise-idle : getD s (header + i * nodeWidth + pendingOffset) 0 ≡ 0 → attempt false s ≡ tried s (raised narrow p (storeIn s))
+    pub raise-idle : getD s (header + i * nodeWidth + pendingOffset) 0 ≡ 0 → attempt false s ≡ tried s (raised narrow p (storeIn narrow s))
     raise-idle z =
-        raised-not p s (false-left (isPending p (storeIn s)) (ltb (revision (nodeOf p (storeIn s))) (maxRevision narrow))
+        raised-not p s (false-left (isPending p (storeIn narrow s)) (ltb (revision narrow (nodeOf p (storeIn narrow s))) (maxRevision narrow))
         (sym (pending-test p s i e h) ∙ le-ltb 0 (getD s (header + i * nodeWidth + pendingOffset) 0) (omega arith)))
 
-    pub raise-largest : maxRevision narrow ≤ getD s (header + i * nodeWidth + revisionOffset) 0 → attempt false s ≡ tried s (raised narrow p (storeIn s))
+    pub raise-largest : maxRevision narrow ≤ getD s (header + i * nodeWidth + revisionOffset) 0 → attempt false s ≡ tried s (raised narrow p (storeIn narrow s))
     raise-largest z =
-        raised-not p s (false-right (isPending p (storeIn s)) (ltb (revision (nodeOf p (storeIn s))) (maxRevision narrow))
+        raised-not p s (false-right (isPending p (storeIn narrow s)) (ltb (revision narrow (nodeOf p (storeIn narrow s))) (maxRevision narrow))
         (rw (revision-here p s i e h) (le-ltb (getD s (header + i * nodeWidth + revisionOffset) 0) (maxRevision narrow) z)))
 
     -- the revision is set first, then the pending writes
     pub raise-both : Fit s → (getD s (header + i * nodeWidth + pendingOffset) 0 ≡ 0 → ⊥) → getD s (header + i * nodeWidth + revisionOffset) 0 < maxRevision narrow
-        → attempt true (set (set s (header + i * nodeWidth + revisionOffset) (getD s (header + i * nodeWidth + revisionOffset) 0 + 1)) (header + i * nodeWidth + pendingOffset) (getD s (header + i * nodeWidth + pendingOffset) 0 - 1)) ≡ tried s (raised narrow p (storeIn s))
+        → attempt true (set (set s (header + i * nodeWidth + revisionOffset) (getD s (header + i * nodeWidth + revisionOffset) 0 + 1)) (header + i * nodeWidth + pendingOffset) (getD s (header + i * nodeWidth + pendingOffset) 0 - 1)) ≡ tried s (raised narrow p (storeIn narrow s))
     raise-both f y z =
-        let x : ℕ = revision (nodeOf p (storeIn s)) + 1 in
-        let t : Store = withNode p (set (nodeOf p (storeIn s)) 6 x) (storeIn s) in
+        let x : ℕ = revision narrow (nodeOf p (storeIn narrow s)) + 1 in
+        let t : Store = withNode p (set (nodeOf p (storeIn narrow s)) 6 x) (storeIn narrow s) in
         let u : List ℕ = set s (header + i * nodeWidth + revisionOffset) (getD s (header + i * nodeWidth + revisionOffset) 0 + 1) in
-        let sized : Sized t = sized-word p (storeIn s) 6 x (sized-in s f) in
-        let a : withStore s t ≡ u = word-here p s i e h 6 x f (omega arith) ∙ ap (λ (r : ℕ). set s (header + i * nodeWidth + revisionOffset) (r + 1)) (revision-here p s i e h) in
-        let b : storeIn u ≡ t = ap storeIn (sym a) ∙ store-back s t f sized in
+        let sized : Sized t = sized-word p (storeIn narrow s) 6 x (sized-in s f) in
+        let a : withStore narrow s t ≡ u = word-here p s i e h 6 x f (omega arith) ∙ ap (λ (r : ℕ). set s (header + i * nodeWidth + revisionOffset) (r + 1)) (revision-here p s i e h) in
+        let b : storeIn narrow u ≡ t = ap (storeIn narrow) (sym a) ∙ store-back s t f sized in
         let k : Keeps s u = rw a at (keeps-store s t f sized) in
-        let l : length (t .nodes) ≡ length (storeIn s .nodes) = length-word p (set (nodeOf p (storeIn s)) 6 x) (storeIn s) in
-        let n : length (storeIn s .nodes) ≡ getD s nodeCountOffset 0 = count-nodes s in
+        let l : length (t .nodes) ≡ length (storeIn narrow s .nodes) = length-word p (set (nodeOf p (storeIn narrow s)) 6 x) (storeIn narrow s) in
+        let n : length (storeIn narrow s .nodes) ≡ getD s nodeCountOffset 0 = count-nodes s in
         let d : getD u nodeCountOffset 0 ≡ getD s nodeCountOffset 0 = getD-set-other s (header + i * nodeWidth + revisionOffset) 1 (getD s (header + i * nodeWidth + revisionOffset) 0 + 1) 0 (λ q. omega arith) in
         let m : getD u (header + i * nodeWidth + pendingOffset) 0 ≡ getD s (header + i * nodeWidth + pendingOffset) 0 = getD-set-other s (header + i * nodeWidth + revisionOffset) (header + i * nodeWidth + pendingOffset) (getD s (header + i * nodeWidth + revisionOffset) 0 + 1) 0 (λ q. omega arith) in
-        let o : i ≡ nodePlace p (storeIn u .nodes) = e ∙ sym (place-word p (storeIn s) 6 x (omega arith)) ∙ ap (λ (r : Store). nodePlace p (r .nodes)) (sym b) in
-        let v : set u (header + i * nodeWidth + pendingOffset) (getD s (header + i * nodeWidth + pendingOffset) 0 - 1) ≡ withStore s (released p t) =
+        let o : i ≡ nodePlace p (storeIn narrow u .nodes) = e ∙ sym (place-word p (storeIn narrow s) 6 x (omega arith)) ∙ ap (λ (r : Store). nodePlace p (r .nodes)) (sym b) in
+        let v : set u (header + i * nodeWidth + pendingOffset) (getD s (header + i * nodeWidth + pendingOffset) 0 - 1) ≡ withStore narrow s (released p t) =
         ap (λ (r : ℕ). set u (header + i * nodeWidth + pendingOffset) (r - 1)) (sym m)
         ∙ release-here p u i o (omega arith) (k .fit)
-        ∙ ap (λ (r : Store). withStore u (released p r)) b
-        ∙ ap (λ (r : List ℕ). withStore r (released p t)) (sym a)
+        ∙ ap (λ (r : Store). withStore narrow u (released p r)) b
+        ∙ ap (λ (r : List ℕ). withStore narrow r (released p t)) (sym a)
         ∙ store-twice s t (released p t) f sized (sized-released p t sized) (λ q. omega arith) in
-        let q : isPending p (storeIn s) ≡ true = sym (pending-test p s i e h) ∙ lt-ltb 0 (getD s (header + i * nodeWidth + pendingOffset) 0) (omega arith) in
-        let w : ltb (revision (nodeOf p (storeIn s))) (maxRevision narrow) ≡ true = rw (revision-here p s i e h) (lt-ltb (getD s (header + i * nodeWidth + revisionOffset) 0) (maxRevision narrow) z) in
-        ap (attempt true) v ∙ sym (raised-so p s (and-true (isPending p (storeIn s)) (ltb (revision (nodeOf p (storeIn s))) (maxRevision narrow)) q w))
+        let q : isPending p (storeIn narrow s) ≡ true = sym (pending-test p s i e h) ∙ lt-ltb 0 (getD s (header + i * nodeWidth + pendingOffset) 0) (omega arith) in
+        let w : ltb (revision narrow (nodeOf p (storeIn narrow s))) (maxRevision narrow) ≡ true = rw (revision-here p s i e h) (lt-ltb (getD s (header + i * nodeWidth + revisionOffset) 0) (maxRevision narrow) z) in
+        ap (attempt true) v ∙ sym (raised-so p s (and-true (isPending p (storeIn narrow s)) (ltb (revision narrow (nodeOf p (storeIn narrow s))) (maxRevision narrow)) q w))
 
 -- ---- room for a node more
 module _ (s : List ℕ) where
-  pub room-there : Fit s → getD s nodeCountOffset 0 < maxNodes → attempt true s ≡ tried s (makeRoom (storeIn s))
+  pub room-there : Fit s → getD s nodeCountOffset 0 < maxNodes → attempt true s ≡ tried s (makeRoom narrow (storeIn narrow s))
   unfolding makeRoom tried
   room-there f h =
-      let l : length (storeIn s .nodes) ≡ getD s nodeCountOffset 0 = count-nodes s in
-      rw (lt-ltb (length (storeIn s .nodes)) maxNodes (omega arith)) (ap (attempt true) (sym (store-self s f)))
+      let l : length (storeIn narrow s .nodes) ≡ getD s nodeCountOffset 0 = count-nodes s in
+      rw (lt-ltb (length (storeIn narrow s .nodes)) maxNodes (omega arith)) (ap (attempt true) (sym (store-self s f)))
 
-  module _ (i : ℕ) (e : i ≡ oldestFree (storeIn s .nodes)) (h : maxNodes ≤ getD s nodeCountOffset 0) where
-    pub room-none : getD s nodeCountOffset 0 ≤ i → attempt false s ≡ tried s (makeRoom (storeIn s))
+  module _ (i : ℕ) (e : i ≡ oldestFree (storeIn narrow s .nodes)) (h : maxNodes ≤ getD s nodeCountOffset 0) where
+    pub room-none : getD s nodeCountOffset 0 ≤ i → attempt false s ≡ tried s (makeRoom narrow (storeIn narrow s))
     unfolding makeRoom tried
     room-none k =
-        let l : length (storeIn s .nodes) ≡ getD s nodeCountOffset 0 = count-nodes s in
-        rw (le-ltb (length (storeIn s .nodes)) maxNodes (omega arith), le-ltb (oldestFree (storeIn s .nodes)) (length (storeIn s .nodes)) (omega arith))
+        let l : length (storeIn narrow s .nodes) ≡ getD s nodeCountOffset 0 = count-nodes s in
+        rw (le-ltb (length (storeIn narrow s .nodes)) maxNodes (omega arith), le-ltb (oldestFree (storeIn narrow s .nodes)) (length (storeIn narrow s .nodes)) (omega arith))
 
-    pub room-made : (u : List ℕ) → u ≡ withStore s (evictNode i (storeIn s)) → i < getD s nodeCountOffset 0 → attempt true u ≡ tried s (makeRoom (storeIn s))
+    pub room-made : (u : List ℕ) → u ≡ withStore narrow s (evictNode narrow i (storeIn narrow s)) → i < getD s nodeCountOffset 0 → attempt true u ≡ tried s (makeRoom narrow (storeIn narrow s))
     unfolding makeRoom tried
     room-made u a k =
-        let l : length (storeIn s .nodes) ≡ getD s nodeCountOffset 0 = count-nodes s in
-        rw (le-ltb (length (storeIn s .nodes)) maxNodes (omega arith), lt-ltb (oldestFree (storeIn s .nodes)) (length (storeIn s .nodes)) (omega arith), a, e)
+        let l : length (storeIn narrow s .nodes) ≡ getD s nodeCountOffset 0 = count-nodes s in
+        rw (le-ltb (length (storeIn narrow s .nodes)) maxNodes (omega arith), lt-ltb (oldestFree (storeIn narrow s .nodes)) (length (storeIn narrow s .nodes)) (omega arith), a, e)
 
 -- a try that went well, and one that did not
 pub record Went (s : List ℕ) (o : Option Store) (u : List ℕ) : Type 0 where
   pub store : Store
   pub is : o ≡ some store
-  pub mem : u ≡ withStore s store
+  pub mem : u ≡ withStore narrow s store
 
 true-not : {B : Type 0} → true ≡ false → B
 true-not h = absurd (true-false true refl h)
@@ -176,50 +176,50 @@ went-not s none u h = (refl, ap (λ (x : Tried). x .mem) h)
 went-not s (some t) u h = true-not (sym (ap (λ (x : Tried). x .ok) h))
 
 -- the memory with room made
-pub room-fit : (s : List ℕ) (b : Bool) (u : List ℕ) → attempt b u ≡ tried s (makeRoom (storeIn s)) → b ≡ true → Fit s → Fit u × (getD u nodeCountOffset 0 < maxNodes)
+pub room-fit : (s : List ℕ) (b : Bool) (u : List ℕ) → attempt b u ≡ tried s (makeRoom narrow (storeIn narrow s)) → b ≡ true → Fit s → Fit u × (getD u nodeCountOffset 0 < maxNodes)
 room-fit s b u h e f =
-    let w : Went s (makeRoom (storeIn s)) u = went-well s (makeRoom (storeIn s)) u (rw e at h) in
-    let r : Room (storeIn s) (w .store) = made-room (storeIn s) (w .store) (sized-in s f) (w .is) in
-    let k : Keeps s (withStore s (w .store)) = keeps-store s (w .store) f (r .sized) in
-    let n : getD (withStore s (w .store)) 1 0 ≡ length (w .store .nodes) = count-store s (w .store) f (r .sized) in
+    let w : Went s (makeRoom narrow (storeIn narrow s)) u = went-well s (makeRoom narrow (storeIn narrow s)) u (rw e at h) in
+    let r : Room (storeIn narrow s) (w .store) = made-room (storeIn narrow s) (w .store) (sized-in s f) (w .is) in
+    let k : Keeps s (withStore narrow s (w .store)) = keeps-store s (w .store) f (r .sized) in
+    let n : getD (withStore narrow s (w .store)) 1 0 ≡ length (w .store .nodes) = count-store s (w .store) f (r .sized) in
     let m : length (w .store .nodes) < maxNodes = r .few in
     rw (w .mem) (k .fit, omega arith)
 
 -- ---- the label's node made present
-module _ (p : Words) (s : List ℕ) (i : ℕ) (e : i ≡ nodePlace p (storeIn s .nodes)) where
-  pub ensure-there : i < getD s nodeCountOffset 0 → Fit s → put (At i) s ≡ placed p s (ensured p (storeIn s))
+module _ (p : Words) (s : List ℕ) (i : ℕ) (e : i ≡ nodePlace p (storeIn narrow s .nodes)) where
+  pub ensure-there : i < getD s nodeCountOffset 0 → Fit s → put (At i) s ≡ placed p s (ensured narrow p (storeIn narrow s))
   unfolding ensured placed
   ensure-there h f = rw (there p s i e h, ← e, store-self s f)
 
-  pub ensure-none : (b : Bool) (u : List ℕ) → attempt b u ≡ tried s (makeRoom (storeIn s)) → b ≡ false → getD s nodeCountOffset 0 ≤ i → put Nowhere u ≡ placed p s (ensured p (storeIn s))
+  pub ensure-none : (b : Bool) (u : List ℕ) → attempt b u ≡ tried s (makeRoom narrow (storeIn narrow s)) → b ≡ false → getD s nodeCountOffset 0 ≤ i → put Nowhere u ≡ placed p s (ensured narrow p (storeIn narrow s))
   unfolding ensured placed addedIn
   ensure-none b u k d h =
-      let w = went-not s (makeRoom (storeIn s)) u (rw d at k) in
+      let w = went-not s (makeRoom narrow (storeIn narrow s)) u (rw d at k) in
       rw (missing p s i e h, w .0, w .1)
 
-  pub ensure-added : (b : Bool) (u v : List ℕ) → attempt b u ≡ tried s (makeRoom (storeIn s)) → b ≡ true → v ≡ withStore u (added p (storeIn u)) → getD s nodeCountOffset 0 ≤ i → Fit s → length p ≡ labelWidth
-      → put (At (getD u nodeCountOffset 0)) v ≡ placed p s (ensured p (storeIn s))
+  pub ensure-added : (b : Bool) (u v : List ℕ) → attempt b u ≡ tried s (makeRoom narrow (storeIn narrow s)) → b ≡ true → v ≡ withStore narrow u (added narrow p (storeIn narrow u)) → getD s nodeCountOffset 0 ≤ i → Fit s → length p ≡ labelWidth
+      → put (At (getD u nodeCountOffset 0)) v ≡ placed p s (ensured narrow p (storeIn narrow s))
   unfolding ensured placed addedIn
   ensure-added b u v k d g h f l =
-      let w : Went s (makeRoom (storeIn s)) u = went-well s (makeRoom (storeIn s)) u (rw d at k) in
+      let w : Went s (makeRoom narrow (storeIn narrow s)) u = went-well s (makeRoom narrow (storeIn narrow s)) u (rw d at k) in
       let t : Store = w .store in
-      let r : Room (storeIn s) t = made-room (storeIn s) t (sized-in s f) (w .is) in
-      let z : Sized (added p t) = sized-added p t l (r .few) (r .sized) in
+      let r : Room (storeIn narrow s) t = made-room (storeIn narrow s) t (sized-in s f) (w .is) in
+      let z : Sized (added narrow p t) = sized-added p t l (r .few) (r .sized) in
       let a : nodePlace p (t .nodes) ≡ length (t .nodes) = r .absent p (missing p s i e h) in
       let n : getD u nodeCountOffset 0 ≡ length (t .nodes) = ap (λ (x : List ℕ). getD x 1 0) (w .mem) ∙ count-store s t f (r .sized) in
-      let c : storeIn u ≡ t = ap storeIn (w .mem) ∙ store-back s t f (r .sized) in
-      let q : v ≡ withStore s (added p t) =
-      g ∙ ap (λ (x : Store). withStore u (added p x)) c ∙ ap (λ (x : List ℕ). withStore x (added p t)) (w .mem) ∙ store-twice s t (added p t) f (r .sized) z (λ x. omega (arith, added-more p t)) in
+      let c : storeIn narrow u ≡ t = ap (storeIn narrow) (w .mem) ∙ store-back s t f (r .sized) in
+      let q : v ≡ withStore narrow s (added narrow p t) =
+      g ∙ ap (λ (x : Store). withStore narrow u (added narrow p x)) c ∙ ap (λ (x : List ℕ). withStore narrow x (added narrow p t)) (w .mem) ∙ store-twice s t (added narrow p t) f (r .sized) z (λ x. omega (arith, added-more p t)) in
       rw (missing p s i e h, w .is, added-place p t l a, n, q)
 
 -- where the label's node stands after that
 pub record There (p : Words) (s : List ℕ) (i : ℕ) (u : List ℕ) : Type 0 where
   pub keeps : Keeps s u
-  pub place : i ≡ nodePlace p (storeIn u .nodes)
+  pub place : i ≡ nodePlace p (storeIn narrow u .nodes)
   pub below : i < getD u nodeCountOffset 0
-  pub is : ensured p (storeIn s) ≡ some (storeIn u)
-  pub mem : u ≡ withStore s (storeIn u)
-  pub either : (storeIn u ≡ storeIn s) ⊎ (getD u (header + i * nodeWidth + pendingOffset) 0 ≡ 0)
+  pub is : ensured narrow p (storeIn narrow s) ≡ some (storeIn narrow u)
+  pub mem : u ≡ withStore narrow s (storeIn narrow u)
+  pub either : (storeIn narrow u ≡ storeIn narrow s) ⊎ (getD u (header + i * nodeWidth + pendingOffset) 0 ≡ 0)
 
 at-is : (i j : ℕ) → At i ≡ At j → i ≡ j
 at-is i j h = cc
@@ -227,82 +227,82 @@ at-is i j h = cc
 at-not : {B : Type 0} (i : ℕ) → At i ≡ Nowhere → B
 at-not i h = absurd (let z : _≡_ {A = ℕ} 0 1 = cc in omega arith)
 
-stood : (p : Words) (s : List ℕ) (i : ℕ) (u : List ℕ) (t : Store) → ensured p (storeIn s) ≡ some t → i ≡ nodePlace p (t .nodes) → u ≡ withStore s t → Fit s → length p ≡ labelWidth → There p s i u
+stood : (p : Words) (s : List ℕ) (i : ℕ) (u : List ℕ) (t : Store) → ensured narrow p (storeIn narrow s) ≡ some t → i ≡ nodePlace p (t .nodes) → u ≡ withStore narrow s t → Fit s → length p ≡ labelWidth → There p s i u
 stood p s i u t e a m f l =
-    let g : Present p (storeIn s) t = made-present p (storeIn s) t l (sized-in s f) e in
-    let b : storeIn u ≡ t = ap storeIn m ∙ store-back s t f (g .sized) in
+    let g : Present p (storeIn narrow s) t = made-present p (storeIn narrow s) t l (sized-in s f) e in
+    let b : storeIn narrow u ≡ t = ap (storeIn narrow) m ∙ store-back s t f (g .sized) in
     let n : getD u nodeCountOffset 0 ≡ length (t .nodes) = ap (λ (x : List ℕ). getD x 1 0) m ∙ count-store s t f (g .sized) in
     let k : nodePlace p (t .nodes) < length (t .nodes) = g .below in
-    let q : i ≡ nodePlace p (storeIn u .nodes) = a ∙ ap (λ (x : Store). nodePlace p (x .nodes)) (sym b) in
+    let q : i ≡ nodePlace p (storeIn narrow u .nodes) = a ∙ ap (λ (x : Store). nodePlace p (x .nodes)) (sym b) in
     let h : i < getD u nodeCountOffset 0 = omega arith in
     record {
       keeps = rw m (keeps-store s t f (g .sized));
       place = q;
       below = h;
       is = e ∙ ap some (sym b);
-      mem = m ∙ ap (withStore s) (sym b);
+      mem = m ∙ ap (withStore narrow s) (sym b);
       either = ⊎-elim (λ x. inl (b ∙ x)) (λ y. inr (sym (pending-here p u i q h) ∙ ap (λ (x : Store). pending (nodeOf p x)) b ∙ y)) (g .either);
     }
 
 -- a label's node that was put somewhere stands there
-pub stands : (p : Words) (s : List ℕ) (i : ℕ) (x : Spot) (u : List ℕ) → put x u ≡ placed p s (ensured p (storeIn s)) → x ≡ At i → Fit s → length p ≡ labelWidth → There p s i u
+pub stands : (p : Words) (s : List ℕ) (i : ℕ) (x : Spot) (u : List ℕ) → put x u ≡ placed p s (ensured narrow p (storeIn narrow s)) → x ≡ At i → Fit s → length p ≡ labelWidth → There p s i u
 unfolding placed
-stands p s i x u h d f l = go (ensured p (storeIn s)) refl (rw d at h)
+stands p s i x u h d f l = go (ensured narrow p (storeIn narrow s)) refl (rw d at h)
   where
-    go : (o : Option Store) → ensured p (storeIn s) ≡ o → put (At i) u ≡ placed p s o → There p s i u
+    go : (o : Option Store) → ensured narrow p (storeIn narrow s) ≡ o → put (At i) u ≡ placed p s o → There p s i u
     go none e h = at-not i (ap (λ (y : Placed). y .spot) h)
     go (some t) e h = stood p s i u t e (at-is i (nodePlace p (t .nodes)) (ap (λ (y : Placed). y .spot) h)) (ap (λ (y : Placed). y .mem) h) f l
 
 -- where it was put nowhere, there was no way, and the memory is as it was
-pub nowhere : (p : Words) (s : List ℕ) (x : Spot) (u : List ℕ) → put x u ≡ placed p s (ensured p (storeIn s)) → x ≡ Nowhere → (ensured p (storeIn s) ≡ none) × (u ≡ s)
+pub nowhere : (p : Words) (s : List ℕ) (x : Spot) (u : List ℕ) → put x u ≡ placed p s (ensured narrow p (storeIn narrow s)) → x ≡ Nowhere → (ensured narrow p (storeIn narrow s) ≡ none) × (u ≡ s)
 unfolding placed
-nowhere p s x u h d = go (ensured p (storeIn s)) refl (rw d at h)
+nowhere p s x u h d = go (ensured narrow p (storeIn narrow s)) refl (rw d at h)
   where
-    go : (o : Option Store) → ensured p (storeIn s) ≡ o → put Nowhere u ≡ placed p s o → (ensured p (storeIn s) ≡ none) × (u ≡ s)
+    go : (o : Option Store) → ensured narrow p (storeIn narrow s) ≡ o → put Nowhere u ≡ placed p s o → (ensured narrow p (storeIn narrow s) ≡ none) × (u ≡ s)
     go none e h = (e, ap (λ (y : Placed). y .mem) h)
     go (some t) e h = at-not (nodePlace p (t .nodes)) (sym (ap (λ (y : Placed). y .spot) h))
 
 -- ---- a look
-pub look-stuck : (p : Words) (s : List ℕ) (x : Spot) (u : List ℕ) → put x u ≡ placed p s (ensured p (storeIn s)) → x ≡ Nowhere → saw Stuck u ≡ looked p s (ensured p (storeIn s))
+pub look-stuck : (p : Words) (s : List ℕ) (x : Spot) (u : List ℕ) → put x u ≡ placed p s (ensured narrow p (storeIn narrow s)) → x ≡ Nowhere → saw Stuck u ≡ looked p s (ensured narrow p (storeIn narrow s))
 unfolding looked
 look-stuck p s x u h d = let w = nowhere p s x u h d in rw (w .0, w .1)
 
 pub look-seen : (p : Words) (s : List ℕ) (i : ℕ) (u : List ℕ) → There p s i u
-    → saw (Seen (getD u (header + i * nodeWidth + revisionOffset) 0) (getD u (header + i * nodeWidth + pendingOffset) 0)) u ≡ looked p s (ensured p (storeIn s))
+    → saw (Seen (getD u (header + i * nodeWidth + revisionOffset) 0) (getD u (header + i * nodeWidth + pendingOffset) 0)) u ≡ looked p s (ensured narrow p (storeIn narrow s))
 unfolding looked
 look-seen p s i u w =
-    rw (w .is, ← revision-here p u i (w .place) (w .below), ← pending-here p u i (w .place) (w .below)) (ap (saw (Seen (revision (nodeOf p (storeIn u))) (pending (nodeOf p (storeIn u))))) (w .mem))
+    rw (w .is, ← revision-here p u i (w .place) (w .below), ← pending-here p u i (w .place) (w .below)) (ap (saw (Seen (revision narrow (nodeOf p (storeIn narrow u))) (pending (nodeOf p (storeIn narrow u))))) (w .mem))
 
 -- ---- a mark
-pub announce-stuck : (p : Words) (s : List ℕ) (x : Spot) (u : List ℕ) → put x u ≡ placed p s (ensured p (storeIn s)) → x ≡ Nowhere → attempt false u ≡ tried s (announced p (storeIn s))
+pub announce-stuck : (p : Words) (s : List ℕ) (x : Spot) (u : List ℕ) → put x u ≡ placed p s (ensured narrow p (storeIn narrow s)) → x ≡ Nowhere → attempt false u ≡ tried s (announced narrow p (storeIn narrow s))
 unfolding announced announcedIn tried
 announce-stuck p s x u h d = let w = nowhere p s x u h d in rw (w .0, w .1)
 
-announced-from : (p : Words) (s : List ℕ) (t : Store) → ensured p (storeIn s) ≡ some t → (b : Bool) → leb maxPending (pending (nodeOf p t)) ≡ b
-    → announced p (storeIn s) ≡ cond b none (some (withNode p (set (nodeOf p t) 5 (pending (nodeOf p t) + 1)) t))
+announced-from : (p : Words) (s : List ℕ) (t : Store) → ensured narrow p (storeIn narrow s) ≡ some t → (b : Bool) → leb maxPending (pending (nodeOf p t)) ≡ b
+    → announced narrow p (storeIn narrow s) ≡ cond b none (some (withNode p (set (nodeOf p t) 5 (pending (nodeOf p t) + 1)) t))
 unfolding announced announcedIn withPending
 announced-from p s t e b h = rw (e, h)
 
-pub announce-full : (p : Words) (s : List ℕ) (i : ℕ) (u : List ℕ) → There p s i u → Fit s → maxPending ≤ getD u (header + i * nodeWidth + pendingOffset) 0 → attempt false u ≡ tried s (announced p (storeIn s))
+pub announce-full : (p : Words) (s : List ℕ) (i : ℕ) (u : List ℕ) → There p s i u → Fit s → maxPending ≤ getD u (header + i * nodeWidth + pendingOffset) 0 → attempt false u ≡ tried s (announced narrow p (storeIn narrow s))
 unfolding tried
 announce-full p s i u w f h =
-    let a : pending (nodeOf p (storeIn u)) ≡ getD u (header + i * nodeWidth + pendingOffset) 0 = pending-here p u i (w .place) (w .below) in
-    let b : storeIn u ≡ storeIn s = ⊎-elim (λ x. x) (λ y. absurd (omega arith)) (w .either) in
-    let q : u ≡ s = w .mem ∙ ap (withStore s) b ∙ store-self s f in
-    rw (announced-from p s (storeIn u) (w .is) true (le-leb maxPending (pending (nodeOf p (storeIn u))) (omega arith)), q)
+    let a : pending (nodeOf p (storeIn narrow u)) ≡ getD u (header + i * nodeWidth + pendingOffset) 0 = pending-here p u i (w .place) (w .below) in
+    let b : storeIn narrow u ≡ storeIn narrow s = ⊎-elim (λ x. x) (λ y. absurd (omega arith)) (w .either) in
+    let q : u ≡ s = w .mem ∙ ap (withStore narrow s) b ∙ store-self s f in
+    rw (announced-from p s (storeIn narrow u) (w .is) true (le-leb maxPending (pending (nodeOf p (storeIn narrow u))) (omega arith)), q)
 
 pub announce-more : (p : Words) (s : List ℕ) (i : ℕ) (u : List ℕ) → There p s i u → Fit s → getD u (header + i * nodeWidth + pendingOffset) 0 < maxPending
-    → attempt true (set u (header + i * nodeWidth + pendingOffset) (getD u (header + i * nodeWidth + pendingOffset) 0 + 1)) ≡ tried s (announced p (storeIn s))
+    → attempt true (set u (header + i * nodeWidth + pendingOffset) (getD u (header + i * nodeWidth + pendingOffset) 0 + 1)) ≡ tried s (announced narrow p (storeIn narrow s))
 unfolding tried
 announce-more p s i u w f h =
-    let x : ℕ = pending (nodeOf p (storeIn u)) in
+    let x : ℕ = pending (nodeOf p (storeIn narrow u)) in
     let a : x ≡ getD u (header + i * nodeWidth + pendingOffset) 0 = pending-here p u i (w .place) (w .below) in
-    let t : Store = withNode p (set (nodeOf p (storeIn u)) 5 (x + 1)) (storeIn u) in
-    let z : Sized (storeIn u) = sized-in u (w .keeps .fit) in
-    let l : length (t .nodes) ≡ length (storeIn u .nodes) = length-word p (set (nodeOf p (storeIn u)) 5 (x + 1)) (storeIn u) in
-    let v : set u (header + i * nodeWidth + pendingOffset) (getD u (header + i * nodeWidth + pendingOffset) 0 + 1) ≡ withStore s t =
+    let t : Store = withNode p (set (nodeOf p (storeIn narrow u)) 5 (x + 1)) (storeIn narrow u) in
+    let z : Sized (storeIn narrow u) = sized-in u (w .keeps .fit) in
+    let l : length (t .nodes) ≡ length (storeIn narrow u .nodes) = length-word p (set (nodeOf p (storeIn narrow u)) 5 (x + 1)) (storeIn narrow u) in
+    let v : set u (header + i * nodeWidth + pendingOffset) (getD u (header + i * nodeWidth + pendingOffset) 0 + 1) ≡ withStore narrow s t =
     ap (λ (r : ℕ). set u (header + i * nodeWidth + pendingOffset) (r + 1)) (sym a)
     ∙ sym (word-here p u i (w .place) (w .below) 5 (x + 1) (w .keeps .fit) (omega arith))
-    ∙ ap (λ (r : List ℕ). withStore r t) (w .mem)
-    ∙ store-twice s (storeIn u) t f z (sized-word p (storeIn u) 5 (x + 1) z) (λ q. omega arith) in
-    rw (announced-from p s (storeIn u) (w .is) false (lt-leb maxPending x (omega arith))) (ap (attempt true) v)
+    ∙ ap (λ (r : List ℕ). withStore narrow r t) (w .mem)
+    ∙ store-twice s (storeIn narrow u) t f z (sized-word p (storeIn narrow u) 5 (x + 1) z) (λ q. omega arith) in
+    rw (announced-from p s (storeIn narrow u) (w .is) false (lt-leb maxPending x (omega arith))) (ap (attempt true) v)

@@ -96,7 +96,7 @@ without-le : (i : ℕ) (l : List Node) → length (without i l) ≤ length l
 unfolding without
 without-le i l = simp (length-append, length-take, length-drop) (omega arith)
 
-pub sized-evict : (i : ℕ) (t : Store) → Sized t → Sized (evictNode i t)
+pub sized-evict : (i : ℕ) (t : Store) → Sized t → Sized (evictNode narrow i t)
 unfolding evictNode
 sized-evict i t z =
     let h : length (without i (t .nodes)) ≤ length (t .nodes) = without-le i (t .nodes) in
@@ -119,33 +119,33 @@ fresh-pending : (p : Words) (f : ℕ) → length p ≡ labelWidth → pending (f
 unfolding fresh pending
 fresh-pending p f h = getD-at p 0 (f ∷ 0 ∷ []) 0 5 h
 
-added-is : (p : Words) (t : Store) → added p t ≡ store (t .floor) (t .nodes ++ (fresh p (t .floor) ∷ []))
+added-is : (p : Words) (t : Store) → added narrow p t ≡ store (t .floor) (t .nodes ++ (fresh p (t .floor) ∷ []))
 unfolding added fresh
 added-is p t = refl
 
 snoc-length : (l : List Node) (n : Node) → length (l ++ (n ∷ [])) ≡ length l + 1
 snoc-length l n = length-append l (n ∷ [])
 
-pub added-more : (p : Words) (t : Store) → length (added p t .nodes) ≡ length (t .nodes) + 1
+pub added-more : (p : Words) (t : Store) → length (added narrow p t .nodes) ≡ length (t .nodes) + 1
 added-more p t = rw (added-is p t) (snoc-length (t .nodes) (fresh p (t .floor)))
 
-pub sized-added : (p : Words) (t : Store) → length p ≡ labelWidth → length (t .nodes) < maxNodes → Sized t → Sized (added p t)
+pub sized-added : (p : Words) (t : Store) → length p ≡ labelWidth → length (t .nodes) < maxNodes → Sized t → Sized (added narrow p t)
 sized-added p t h k z =
     let l : length (t .nodes ++ (fresh p (t .floor) ∷ [])) ≡ length (t .nodes) + 1 = snoc-length (t .nodes) (fresh p (t .floor)) in
     rw (added-is p t) (record { wide = wide-snoc 8 (t .nodes) (fresh p (t .floor)) (z .wide) (fresh-length p (t .floor) h); few = omega arith })
 
 -- the label's node is the last
 module _ (p : Words) (t : Store) (h : length p ≡ labelWidth) (e : nodePlace p (t .nodes) ≡ length (t .nodes)) where
-  pub added-place : nodePlace p (added p t .nodes) ≡ length (t .nodes)
+  pub added-place : nodePlace p (added narrow p t .nodes) ≡ length (t .nodes)
   unfolding nodePlace
   added-place = rw (added-is p t) (place-snoc (hasLabel p) (t .nodes) (fresh p (t .floor)) e (fresh-label p (t .floor) h))
 
-  pub added-below : nodePlace p (added p t .nodes) < length (added p t .nodes)
+  pub added-below : nodePlace p (added narrow p t .nodes) < length (added narrow p t .nodes)
   added-below =
       let l : length (t .nodes ++ (fresh p (t .floor) ∷ [])) ≡ length (t .nodes) + 1 = snoc-length (t .nodes) (fresh p (t .floor)) in
       rw (added-place, added-is p t) (omega arith)
 
-  pub added-pending : pending (nodeOf p (added p t)) ≡ 0
+  pub added-pending : pending (nodeOf p (added narrow p t)) ≡ 0
   unfolding nodeOf
   added-pending =
       rw (added-place, added-is p t) (ap pending (getD-append-seam (t .nodes) (fresh p (t .floor)) [] []) ∙ fresh-pending p (t .floor) h)
@@ -159,11 +159,11 @@ absent-place p t e =
     let b : length (t .nodes) ≤ place (hasLabel p) (t .nodes) = ltb-false (place (hasLabel p) (t .nodes)) (length (t .nodes)) e in
     omega arith
 
-evict-absent : (p : Words) (i : ℕ) (t : Store) → i < length (t .nodes) → nodePlace p (t .nodes) ≡ length (t .nodes) → nodePlace p (evictNode i t .nodes) ≡ length (evictNode i t .nodes)
+evict-absent : (p : Words) (i : ℕ) (t : Store) → i < length (t .nodes) → nodePlace p (t .nodes) ≡ length (t .nodes) → nodePlace p (evictNode narrow i t .nodes) ≡ length (evictNode narrow i t .nodes)
 unfolding evictNode nodePlace
 evict-absent p i t h e = place-without (hasLabel p) (t .nodes) i [] h e
 
-evict-few : (i : ℕ) (t : Store) → i < length (t .nodes) → length (t .nodes) ≤ maxNodes → length (evictNode i t .nodes) < maxNodes
+evict-few : (i : ℕ) (t : Store) → i < length (t .nodes) → length (t .nodes) ≤ maxNodes → length (evictNode narrow i t .nodes) < maxNodes
 unfolding evictNode
 evict-few i t h k = let l : length (without i (t .nodes)) ≡ length (t .nodes) - 1 = length-without i (t .nodes) h in omega arith
 
@@ -173,18 +173,18 @@ pub record Room (t u : Store) : Type 0 where
   pub few : length (u .nodes) < maxNodes
   pub absent : (p : Words) → isPresent p t ≡ false → nodePlace p (u .nodes) ≡ length (u .nodes)
 
-pub made-room : (t u : Store) → Sized t → makeRoom t ≡ some u → Room t u
+pub made-room : (t u : Store) → Sized t → makeRoom narrow t ≡ some u → Room t u
 unfolding makeRoom
 made-room t u z = go (ltb (length (t .nodes)) maxNodes) refl (ltb (oldestFree (t .nodes)) (length (t .nodes))) refl
   where
     go : (b : Bool) → ltb (length (t .nodes)) maxNodes ≡ b → (d : Bool) → ltb (oldestFree (t .nodes)) (length (t .nodes)) ≡ d
-        → cond b (some t) (cond d (some (evictNode (oldestFree (t .nodes)) t)) none) ≡ some u → Room t u
+        → cond b (some t) (cond d (some (evictNode narrow (oldestFree (t .nodes)) t)) none) ≡ some u → Room t u
     go true e d f h =
         let k : t ≡ u = some-is t u h in
         rw (← k) (record { sized = z; few = ltb-true (length (t .nodes)) maxNodes e; absent = λ p a. absent-place p t a })
     go false e true f h =
         let i : ℕ = oldestFree (t .nodes) in
-        let k : evictNode i t ≡ u = some-is (evictNode i t) u h in
+        let k : evictNode narrow i t ≡ u = some-is (evictNode narrow i t) u h in
         let l : i < length (t .nodes) = ltb-true i (length (t .nodes)) f in
         rw (← k) (record { sized = sized-evict i t z; few = evict-few i t l (z .few); absent = λ p a. evict-absent p i t l (absent-place p t a) })
     go false e false f h = none-not u h
@@ -195,30 +195,30 @@ pub record Present (p : Words) (t u : Store) : Type 0 where
   pub below : nodePlace p (u .nodes) < length (u .nodes)
   pub either : (u ≡ t) ⊎ (pending (nodeOf p u) ≡ 0)
 
-added-present : (p : Words) (t u : Store) → length p ≡ labelWidth → nodePlace p (u .nodes) ≡ length (u .nodes) → Room t u → Present p t (added p u)
+added-present : (p : Words) (t u : Store) → length p ≡ labelWidth → nodePlace p (u .nodes) ≡ length (u .nodes) → Room t u → Present p t (added narrow p u)
 added-present p t u h e r =
     record { sized = sized-added p u h (r .few) (r .sized); below = added-below p u h e; either = inr (added-pending p u h e) }
 
-pub made-present : (p : Words) (t u : Store) → length p ≡ labelWidth → Sized t → ensured p t ≡ some u → Present p t u
+pub made-present : (p : Words) (t u : Store) → length p ≡ labelWidth → Sized t → ensured narrow p t ≡ some u → Present p t u
 unfolding ensured isPresent addedIn
-made-present p t u h z = go (isPresent p t) refl (makeRoom t) refl
+made-present p t u h z = go (isPresent p t) refl (makeRoom narrow t) refl
   where
-    go : (b : Bool) → isPresent p t ≡ b → (o : Option Store) → makeRoom t ≡ o → cond b (some t) (addedIn p o) ≡ some u → Present p t u
+    go : (b : Bool) → isPresent p t ≡ b → (o : Option Store) → makeRoom narrow t ≡ o → cond b (some t) (addedIn narrow p o) ≡ some u → Present p t u
     go true e o f k =
         let l : t ≡ u = some-is t u k in
         rw (← l) (record { sized = z; below = ltb-true (nodePlace p (t .nodes)) (length (t .nodes)) e; either = inl refl })
     go false e none f k = none-not u k
     go false e (some r) f k =
-        let l : added p r ≡ u = some-is (added p r) u k in
+        let l : added narrow p r ≡ u = some-is (added narrow p r) u k in
         let m : Room t r = made-room t r z f in
         rw (← l) (added-present p t r h (m .absent p e) m)
 
 -- ---- the operations that may find no way
-pub sized-announced : (p : Words) (t u : Store) → length p ≡ labelWidth → Sized t → announced p t ≡ some u → Sized u
+pub sized-announced : (p : Words) (t u : Store) → length p ≡ labelWidth → Sized t → announced narrow p t ≡ some u → Sized u
 unfolding announced announcedIn withPending
-sized-announced p t u h z = go (ensured p t) refl
+sized-announced p t u h z = go (ensured narrow p t) refl
   where
-    go : (o : Option Store) → ensured p t ≡ o → announcedIn p o ≡ some u → Sized u
+    go : (o : Option Store) → ensured narrow p t ≡ o → announcedIn p o ≡ some u → Sized u
     go none e k = none-not u k
     go (some r) e k = more (leb maxPending (pending (nodeOf p r))) k
       where
@@ -229,13 +229,13 @@ sized-announced p t u h z = go (ensured p t) refl
 
 pub sized-raised : (p : Words) (t u : Store) → Sized t → raised narrow p t ≡ some u → Sized u
 unfolding raised withRevision
-sized-raised p t u z = go (isPending p t && ltb (revision (nodeOf p t)) (maxRevision narrow))
+sized-raised p t u z = go (isPending p t && ltb (revision narrow (nodeOf p t)) (maxRevision narrow))
   where
     r : Store
-    r = withNode p (set (nodeOf p t) 6 (revision (nodeOf p t) + 1)) t
+    r = withNode p (set (nodeOf p t) 6 (revision narrow (nodeOf p t) + 1)) t
 
     go : (b : Bool) → cond b (some (released p r)) none ≡ some u → Sized u
-    go true k = rw (← some-is (released p r) u k) (sized-released p r (sized-word p t 6 (revision (nodeOf p t) + 1) z))
+    go true k = rw (← some-is (released p r) u k) (sized-released p r (sized-word p t 6 (revision narrow (nodeOf p t) + 1) z))
     go false k = none-not u k
 
 pub sized-released-all : (ps : List Words) (t u : Store) → Sized t → releasedAll ps t ≡ some u → Sized u

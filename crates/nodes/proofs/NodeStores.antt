@@ -17,6 +17,7 @@ use Rattle.rules.specs.Memory.{storeIn, withStore}
 use Rattle.nodes.specs.NodeContracts.{Fit}
 use Rattle.lists.specs.Lists.{header}
 use Rattle.query.specs.Encoding.{labelWidth}
+use Rattle.query.specs.Shape.{narrow}
 use Rattle.rules.specs.Layout.{maxNodes, floorOffset, nodeCountOffset, revisionOffset, nodeWidth}
 
 -- nodes of 8 numbers, at most 1,024 of them: what a memory that is long enough can hold
@@ -43,23 +44,23 @@ five p h = ext-getD 0 p (getD p 0 0 ∷ getD p 1 0 ∷ getD p 2 0 ∷ getD p 3 0
 
 -- ---- what is read
 module _ (s : List ℕ) where
-  pub count-nodes : length (storeIn s .nodes) ≡ getD s nodeCountOffset 0
+  pub count-nodes : length (storeIn narrow s .nodes) ≡ getD s nodeCountOffset 0
   unfolding storeIn
   count-nodes = length-entries 1 8 s
 
-  pub floor-in : storeIn s .floor ≡ getD s floorOffset 0
+  pub floor-in : storeIn narrow s .floor ≡ getD s floorOffset 0
   unfolding storeIn
   floor-in = refl
 
-  pub node-word : (i j : ℕ) → i < getD s nodeCountOffset 0 → j < 8 → getD (getD (storeIn s .nodes) i []) j 0 ≡ getD s (header + i * nodeWidth + j) 0
+  pub node-word : (i j : ℕ) → i < getD s nodeCountOffset 0 → j < 8 → getD (getD (storeIn narrow s .nodes) i []) j 0 ≡ getD s (header + i * nodeWidth + j) 0
   unfolding storeIn
   node-word i j h k = entry-word 1 8 s i j h k
 
-  pub node-at : (i : ℕ) → i < getD s nodeCountOffset 0 → getD (storeIn s .nodes) i [] ≡ take 8 (drop (header + i * nodeWidth) s)
+  pub node-at : (i : ℕ) → i < getD s nodeCountOffset 0 → getD (storeIn narrow s .nodes) i [] ≡ take 8 (drop (header + i * nodeWidth) s)
   unfolding storeIn
   node-at i h = entry-at 1 8 s i h
 
-  pub sized-in : Fit s → Sized (storeIn s)
+  pub sized-in : Fit s → Sized (storeIn narrow s)
   unfolding storeIn
   sized-in f = record { wide = wide-entries 1 8 s (omega arith); few = let e : length (entriesIn 1 8 s) ≡ getD s nodeCountOffset 0 = length-entries 1 8 s in omega arith }
 
@@ -71,47 +72,47 @@ with-header s x es h =
     let v : List ℕ = flat es ++ replicate ((getD s nodeCountOffset 0 - length es) * 8) 0 in
     rw (getD-set-other s 0 1 x 0 (λ e. omega arith), ← set-before s 8 v 0 x (omega arith) h) (set-comm (written s 8 v) 0 1 x (length es) (λ e. omega arith))
 
-with-store : (s : List ℕ) (t : Store) → withStore s t ≡ set (withEntries 1 8 s (t .nodes)) 0 (t .floor)
+with-store : (s : List ℕ) (t : Store) → withStore narrow s t ≡ set (withEntries 1 8 s (t .nodes)) 0 (t .floor)
 unfolding withStore
 with-store s t = refl
 
 module _ (s : List ℕ) (t : Store) (f : Fit s) (z : Sized t) where
-  pub length-store : length (withStore s t) ≡ length s
+  pub length-store : length (withStore narrow s t) ≡ length s
   length-store = rw (with-store s t, length-set) (length-with 1 8 s (t .nodes) (z .wide) (omega arith) (omega arith))
 
-  pub count-store : getD (withStore s t) 1 0 ≡ length (t .nodes)
+  pub count-store : getD (withStore narrow s t) 1 0 ≡ length (t .nodes)
   count-store =
       rw (with-store s t) (getD-set-other (withEntries 1 8 s (t .nodes)) 0 1 (t .floor) 0 (λ e. omega arith) ∙ count-with 1 8 s (t .nodes) (z .wide) (omega arith) (omega arith) (omega arith))
 
   -- a fit memory is left fit, and as long as it was
-  pub keeps-store : Keeps s (withStore s t)
+  pub keeps-store : Keeps s (withStore narrow s t)
   keeps-store =
-      let l : length (withStore s t) ≡ length s = length-store in
-      let n : getD (withStore s t) 1 0 ≡ length (t .nodes) = count-store in
+      let l : length (withStore narrow s t) ≡ length s = length-store in
+      let n : getD (withStore narrow s t) 1 0 ≡ length (t .nodes) = count-store in
       record { fit = record { long = omega arith; few = omega arith }; size = l }
 
-  floor-store : getD (withStore s t) 0 0 ≡ t .floor
+  floor-store : getD (withStore narrow s t) 0 0 ≡ t .floor
   floor-store =
       let l : length (withEntries 1 8 s (t .nodes)) ≡ length s = length-with 1 8 s (t .nodes) (z .wide) (omega arith) (omega arith) in
       rw (with-store s t) (getD-set-same (withEntries 1 8 s (t .nodes)) 0 (t .floor) 0 (omega arith))
 
-  nodes-store : entriesIn 1 8 (withStore s t) ≡ t .nodes
+  nodes-store : entriesIn 1 8 (withStore narrow s t) ≡ t .nodes
   nodes-store =
       rw (with-store s t) (entries-header 1 8 (withEntries 1 8 s (t .nodes)) 0 (t .floor) (omega arith) (λ e. omega arith) ∙ entries-with 1 8 s (t .nodes) (z .wide) (omega arith) (omega arith) (omega arith))
 
   -- what is written is read back
-  pub store-back : storeIn (withStore s t) ≡ t
+  pub store-back : storeIn narrow (withStore narrow s t) ≡ t
   unfolding storeIn
   store-back = rw (floor-store, nodes-store)
 
 -- what was there, written again
-pub store-self : (s : List ℕ) → Fit s → withStore s (storeIn s) ≡ s
+pub store-self : (s : List ℕ) → Fit s → withStore narrow s (storeIn narrow s) ≡ s
 unfolding withStore storeIn
 store-self s f = rw (with-self 1 8 s (omega arith) (omega arith)) (set-getD s floorOffset 0)
 
 -- what is written last stands, as if it alone had been written; what was written before must not have been more nodes than both
 pub store-twice : (s : List ℕ) (a b : Store) → Fit s → Sized a → Sized b → (length (b .nodes) < length (a .nodes) → length (a .nodes) ≤ getD s nodeCountOffset 0)
-    → withStore (withStore s a) b ≡ withStore s b
+    → withStore narrow (withStore narrow s a) b ≡ withStore narrow s b
 unfolding withStore
 store-twice s a b f x y h =
     let l : length (withEntries 1 8 s (a .nodes)) ≡ length s = length-with 1 8 s (a .nodes) (x .wide) (omega arith) (omega arith) in
@@ -125,19 +126,19 @@ keep-floor s i x h = ap (set (set s i x) 0) (sym (getD-set-other s i 0 x 0 h)) �
 module _ (s : List ℕ) (f : Fit s) where
   -- one number of node i altered
   pub store-word : (i j x : ℕ) → i < getD s nodeCountOffset 0 → j < 8
-      → withStore s (store (storeIn s .floor) (set (storeIn s .nodes) i (set (getD (storeIn s .nodes) i []) j x))) ≡ set s (header + i * nodeWidth + j) x
+      → withStore narrow s (store (storeIn narrow s .floor) (set (storeIn narrow s .nodes) i (set (getD (storeIn narrow s .nodes) i []) j x))) ≡ set s (header + i * nodeWidth + j) x
   unfolding withStore storeIn
   store-word i j x h k = rw (with-word 1 8 s (omega arith) i j x (omega arith) h k) (keep-floor s (header + i * nodeWidth + j) x (λ e. omega arith))
 
   -- node i taken out
   pub store-evict : (u : List ℕ) (i x : ℕ) → u ≡ removed s (header + i * nodeWidth) 8 (8 + getD s nodeCountOffset 0 * 8) → x ≡ max (getD s floorOffset 0) (getD s (header + i * nodeWidth + revisionOffset) 0) → i < getD s nodeCountOffset 0
-      → set (set u 1 (getD s nodeCountOffset 0 - 1)) 0 x ≡ withStore s (evictNode i (storeIn s))
+      → set (set u 1 (getD s nodeCountOffset 0 - 1)) 0 x ≡ withStore narrow s (evictNode narrow i (storeIn narrow s))
   unfolding withStore storeIn evictNode revision
   store-evict u i x a b h = rw (a, b, with-remove 1 8 s (omega arith) i h, entry-word 1 8 s i 6 h (omega arith))
 
   -- the label's node put in last
   pub store-added : (u : List ℕ) (p : Words) → u ≡ written s (8 + getD s nodeCountOffset 0 * 8) (getD p 0 0 ∷ getD p 1 0 ∷ getD p 2 0 ∷ getD p 3 0 ∷ getD p 4 0 ∷ 0 ∷ getD s floorOffset 0 ∷ 0 ∷ [])
-      → length p ≡ labelWidth → getD s nodeCountOffset 0 < maxNodes → set u 1 (getD s nodeCountOffset 0 + 1) ≡ withStore s (added p (storeIn s))
+      → length p ≡ labelWidth → getD s nodeCountOffset 0 < maxNodes → set u 1 (getD s nodeCountOffset 0 + 1) ≡ withStore narrow s (added narrow p (storeIn narrow s))
   unfolding withStore storeIn added
   store-added u p a l h =
       let r : List ℕ = getD p 0 0 ∷ getD p 1 0 ∷ getD p 2 0 ∷ getD p 3 0 ∷ getD p 4 0 ∷ 0 ∷ getD s floorOffset 0 ∷ 0 ∷ [] in
@@ -149,7 +150,7 @@ module _ (s : List ℕ) (f : Fit s) where
 
   -- no node left
   pub store-none : (t : List ℕ) → t ≡ replicate (getD s nodeCountOffset 0 * 8) 0 ++ drop (getD s nodeCountOffset 0 * 8) (take (8 + getD s nodeCountOffset 0 * 8 - 8) (drop 8 s))
-      → set (set (putMid 8 (8 + getD s nodeCountOffset 0 * 8 - 8) s t) 1 0) 0 1 ≡ withStore s (store 1 [])
+      → set (set (putMid 8 (8 + getD s nodeCountOffset 0 * 8 - 8) s t) 1 0) 0 1 ≡ withStore narrow s (store 1 [])
   unfolding withStore written
   store-none t a =
       let n : ℕ = getD s nodeCountOffset 0 * 8 in

@@ -19,20 +19,20 @@ module _ (s : List ℕ) (f : Fit s) where
   keeps-self = record { fit = f; size = refl }
 
   -- ---- the operations that always find a way
-  pub keeps-evict : (i : ℕ) → Keeps s (withStore s (evictNode i (storeIn s)))
-  keeps-evict i = keeps-store s (evictNode i (storeIn s)) f (sized-evict i (storeIn s) (sized-in s f))
+  pub keeps-evict : (i : ℕ) → Keeps s (withStore narrow s (evictNode narrow i (storeIn narrow s)))
+  keeps-evict i = keeps-store s (evictNode narrow i (storeIn narrow s)) f (sized-evict i (storeIn narrow s) (sized-in s f))
 
-  pub keeps-added : (p : Words) → length p ≡ labelWidth → getD s nodeCountOffset 0 < maxNodes → Keeps s (withStore s (added p (storeIn s)))
+  pub keeps-added : (p : Words) → length p ≡ labelWidth → getD s nodeCountOffset 0 < maxNodes → Keeps s (withStore narrow s (added narrow p (storeIn narrow s)))
   keeps-added p h k =
-      let l : length (storeIn s .nodes) ≡ getD s nodeCountOffset 0 = count-nodes s in
-      keeps-store s (added p (storeIn s)) f (sized-added p (storeIn s) h (omega arith) (sized-in s f))
+      let l : length (storeIn narrow s .nodes) ≡ getD s nodeCountOffset 0 = count-nodes s in
+      keeps-store s (added narrow p (storeIn narrow s)) f (sized-added p (storeIn narrow s) h (omega arith) (sized-in s f))
 
-  pub keeps-released-at : (i : ℕ) → i < getD s nodeCountOffset 0 → Keeps s (withStore s (releasedAt i (storeIn s)))
+  pub keeps-released-at : (i : ℕ) → i < getD s nodeCountOffset 0 → Keeps s (withStore narrow s (releasedAt i (storeIn narrow s)))
   keeps-released-at i h =
-      let l : length (storeIn s .nodes) ≡ getD s nodeCountOffset 0 = count-nodes s in
-      keeps-store s (releasedAt i (storeIn s)) f (sized-released-at i (storeIn s) (omega arith) (sized-in s f))
+      let l : length (storeIn narrow s .nodes) ≡ getD s nodeCountOffset 0 = count-nodes s in
+      keeps-store s (releasedAt i (storeIn narrow s)) f (sized-released-at i (storeIn narrow s) (omega arith) (sized-in s f))
 
-  pub keeps-empty : Keeps s (withStore s (store 1 []))
+  pub keeps-empty : Keeps s (withStore narrow s (store 1 []))
   keeps-empty = keeps-store s (store 1 []) f (sized-none 1)
 
   -- ---- those that may find none
@@ -41,20 +41,20 @@ module _ (s : List ℕ) (f : Fit s) where
   keeps-tried none h = keeps-self
   keeps-tried (some t) h = keeps-store s t f (h t refl)
 
-  pub keeps-announced : (p : Words) → length p ≡ labelWidth → Keeps s (tried s (announced p (storeIn s)) .mem)
-  keeps-announced p h = keeps-tried (announced p (storeIn s)) (λ t e. sized-announced p (storeIn s) t h (sized-in s f) e)
+  pub keeps-announced : (p : Words) → length p ≡ labelWidth → Keeps s (tried s (announced narrow p (storeIn narrow s)) .mem)
+  keeps-announced p h = keeps-tried (announced narrow p (storeIn narrow s)) (λ t e. sized-announced p (storeIn narrow s) t h (sized-in s f) e)
 
-  pub keeps-raised : (p : Words) → Keeps s (tried s (raised narrow p (storeIn s)) .mem)
-  keeps-raised p = keeps-tried (raised narrow p (storeIn s)) (λ t e. sized-raised p (storeIn s) t (sized-in s f) e)
+  pub keeps-raised : (p : Words) → Keeps s (tried s (raised narrow p (storeIn narrow s)) .mem)
+  keeps-raised p = keeps-tried (raised narrow p (storeIn narrow s)) (λ t e. sized-raised p (storeIn narrow s) t (sized-in s f) e)
 
-  pub keeps-released-all : (ps : List Words) → Keeps s (tried s (releasedAll ps (storeIn s)) .mem)
-  keeps-released-all ps = keeps-tried (releasedAll ps (storeIn s)) (λ t e. sized-released-all ps (storeIn s) t (sized-in s f) e)
+  pub keeps-released-all : (ps : List Words) → Keeps s (tried s (releasedAll ps (storeIn narrow s)) .mem)
+  keeps-released-all ps = keeps-tried (releasedAll ps (storeIn narrow s)) (λ t e. sized-released-all ps (storeIn narrow s) t (sized-in s f) e)
 
   looked-mem : (p : Words) (o : Option Store) → looked p s o .mem ≡ tried s o .mem
   unfolding looked tried
   looked-mem p none = refl
   looked-mem p (some t) = refl
 
-  pub keeps-looked : (p : Words) → length p ≡ labelWidth → Keeps s (looked p s (ensured p (storeIn s)) .mem)
+  pub keeps-looked : (p : Words) → length p ≡ labelWidth → Keeps s (looked p s (ensured narrow p (storeIn narrow s)) .mem)
   keeps-looked p h =
-      rw (looked-mem p (ensured p (storeIn s))) (keeps-tried (ensured p (storeIn s)) (λ t e. made-present p (storeIn s) t h (sized-in s f) e .sized))
+      rw (looked-mem p (ensured narrow p (storeIn narrow s))) (keeps-tried (ensured narrow p (storeIn narrow s)) (λ t e. made-present p (storeIn narrow s) t h (sized-in s f) e .sized))

@@ -28,7 +28,7 @@ attempt b m = record { ok = b; mem = m }
 
 unfoldable pub tried : List ℕ → Option Store → Tried
 tried s none = attempt false s
-tried s (some t) = attempt true (withStore s t)
+tried s (some t) = attempt true (withStore narrow s t)
 
 -- ---- a look: what it saw of the label's node
 pub record Looked : Type 0 where
@@ -40,7 +40,7 @@ saw l m = record { sight = l; mem = m }
 
 unfoldable pub looked : Words → List ℕ → Option Store → Looked
 looked p s none = saw Stuck s
-looked p s (some t) = saw (Seen (revision (nodeOf p t)) (pending (nodeOf p t))) (withStore s t)
+looked p s (some t) = saw (Seen (revision narrow (nodeOf p t)) (pending (nodeOf p t))) (withStore narrow s t)
 
 -- ---- the label's node made present: where it stands
 pub record Placed : Type 0 where
@@ -52,7 +52,7 @@ put p m = record { spot = p; mem = m }
 
 unfoldable pub placed : Words → List ℕ → Option Store → Placed
 placed p s none = put Nowhere s
-placed p s (some t) = put (At (nodePlace p (t .nodes))) (withStore s t)
+placed p s (some t) = put (At (nodePlace p (t .nodes))) (withStore narrow s t)
 
 -- ---- the label's node where it has a pending write
 unfoldable pub pendingSpot : Words → Store → Spot

@@ -46,7 +46,7 @@ fn has_label(nodes: &[u32], at: usize, label: &[u32]) -> bool
 // The place of the label's node, or the number of nodes where there is none.
 fn find(nodes: &[u32], label: &[u32]) -> usize
     requires { ⌜ Fit (now nodes) × (length (now label) ≡ labelWidth) ⌝ }
-    ensures { λ r. ⌜ r ≡ nodePlace (now (label .entry)) (storeIn (now (nodes .entry)) .nodes) ⌝ }
+    ensures { λ r. ⌜ r ≡ nodePlace (now (label .entry)) (storeIn narrow (now (nodes .entry)) .nodes) ⌝ }
 {
     let n = nodes[Hall::NODE_COUNT_OFFSET] as usize;
     let mut i = 0;
@@ -62,7 +62,7 @@ fn find(nodes: &[u32], label: &[u32]) -> usize
 // The place of the oldest node with no pending write, or the number of nodes where there is none.
 fn find_free(nodes: &[u32]) -> usize
     requires { ⌜ Fit (now nodes) ⌝ }
-    ensures { λ r. ⌜ r ≡ oldestFree (storeIn (now (nodes .entry)) .nodes) ⌝ }
+    ensures { λ r. ⌜ r ≡ oldestFree (storeIn narrow (now (nodes .entry)) .nodes) ⌝ }
 {
     let n = nodes[Hall::NODE_COUNT_OFFSET] as usize;
     let mut i = 0;
@@ -85,7 +85,7 @@ fn larger(a: u32, b: u32) -> u32
 // Takes node i out; the floor becomes its revision if that is larger.
 pub fn evict(nodes: &mut [u32], i: usize)
     requires { ⌜ Fit (now nodes) × (i < getD (now nodes) nodeCountOffset 0) ⌝ }
-    ensures { λ _. ⌜ now (nodes .exit) ≡ withStore (now (nodes .entry)) (evictNode i (storeIn (now (nodes .entry)))) ⌝ }
+    ensures { λ _. ⌜ now (nodes .exit) ≡ withStore narrow (now (nodes .entry)) (evictNode narrow i (storeIn narrow (now (nodes .entry)))) ⌝ }
 {
     let n = nodes[Hall::NODE_COUNT_OFFSET];
     let at = Hall::HEADER + i * Hall::NODE_WIDTH;
@@ -104,7 +104,7 @@ pub fn evict(nodes: &mut [u32], i: usize)
 // Adds the label's node last, with the floor as revision and no pending write.
 fn add(nodes: &mut [u32], label: &[u32])
     requires { ⌜ Fit (now nodes) × ((getD (now nodes) nodeCountOffset 0 < maxNodes) × (length (now label) ≡ labelWidth)) ⌝ }
-    ensures { λ _. ⌜ now (nodes .exit) ≡ withStore (now (nodes .entry)) (added (now (label .entry)) (storeIn (now (nodes .entry)))) ⌝ }
+    ensures { λ _. ⌜ now (nodes .exit) ≡ withStore narrow (now (nodes .entry)) (added narrow (now (label .entry)) (storeIn narrow (now (nodes .entry)))) ⌝ }
 {
     let n = nodes[Hall::NODE_COUNT_OFFSET];
     let floor = nodes[Hall::FLOOR_OFFSET];
@@ -125,7 +125,7 @@ fn add(nodes: &mut [u32], label: &[u32])
 // Makes room for one node more: where 1,024 are there, the oldest with no pending write leaves. False: there is none.
 fn make_room(nodes: &mut [u32]) -> bool
     requires { ⌜ Fit (now nodes) ⌝ }
-    ensures { λ r. ⌜ attempt r (now (nodes .exit)) ≡ tried (now (nodes .entry)) (makeRoom (storeIn (now (nodes .entry)))) ⌝ }
+    ensures { λ r. ⌜ attempt r (now (nodes .exit)) ≡ tried (now (nodes .entry)) (makeRoom narrow (storeIn narrow (now (nodes .entry)))) ⌝ }
 {
     let n = nodes[Hall::NODE_COUNT_OFFSET] as usize;
     if n < NODES {
@@ -142,7 +142,7 @@ fn make_room(nodes: &mut [u32]) -> bool
 // Makes the label's node present.
 fn ensure(nodes: &mut [u32], label: &[u32]) -> Spot
     requires { ⌜ Fit (now nodes) × (length (now label) ≡ labelWidth) ⌝ }
-    ensures { λ r. ⌜ put r (now (nodes .exit)) ≡ placed (now (label .entry)) (now (nodes .entry)) (ensured (now (label .entry)) (storeIn (now (nodes .entry)))) ⌝ }
+    ensures { λ r. ⌜ put r (now (nodes .exit)) ≡ placed (now (label .entry)) (now (nodes .entry)) (ensured narrow (now (label .entry)) (storeIn narrow (now (nodes .entry)))) ⌝ }
 {
     let i = find(nodes, label);
     if i < nodes[Hall::NODE_COUNT_OFFSET] as usize {
@@ -159,7 +159,7 @@ fn ensure(nodes: &mut [u32], label: &[u32]) -> Spot
 // Looks at the label's node, which is added where it is missing.
 pub fn look(nodes: &mut [u32], label: &[u32]) -> Sight
     requires { ⌜ Fit (now nodes) × (length (now label) ≡ labelWidth) ⌝ }
-    ensures { λ r. ⌜ saw r (now (nodes .exit)) ≡ looked (now (label .entry)) (now (nodes .entry)) (ensured (now (label .entry)) (storeIn (now (nodes .entry)))) ⌝ }
+    ensures { λ r. ⌜ saw r (now (nodes .exit)) ≡ looked (now (label .entry)) (now (nodes .entry)) (ensured narrow (now (label .entry)) (storeIn narrow (now (nodes .entry)))) ⌝ }
 {
     let spot = ensure(nodes, label);
     let Spot::At(i) = spot else {
@@ -177,7 +177,7 @@ pub fn look(nodes: &mut [u32], label: &[u32]) -> Sight
 // One pending write more at the label's node, which is added where it is missing. False: no room, or 12 pending already.
 pub fn announce(nodes: &mut [u32], label: &[u32]) -> bool
     requires { ⌜ Fit (now nodes) × (length (now label) ≡ labelWidth) ⌝ }
-    ensures { λ r. ⌜ attempt r (now (nodes .exit)) ≡ tried (now (nodes .entry)) (announced (now (label .entry)) (storeIn (now (nodes .entry)))) ⌝ }
+    ensures { λ r. ⌜ attempt r (now (nodes .exit)) ≡ tried (now (nodes .entry)) (announced narrow (now (label .entry)) (storeIn narrow (now (nodes .entry)))) ⌝ }
 {
     let spot = ensure(nodes, label);
     let Spot::At(i) = spot else {
@@ -196,7 +196,7 @@ pub fn announce(nodes: &mut [u32], label: &[u32]) -> bool
 // The place of the label's node where it is there and has a pending write.
 pub fn find_pending(nodes: &[u32], label: &[u32]) -> Spot
     requires { ⌜ Fit (now nodes) × (length (now label) ≡ labelWidth) ⌝ }
-    ensures { λ r. ⌜ r ≡ pendingSpot (now (label .entry)) (storeIn (now (nodes .entry))) ⌝ }
+    ensures { λ r. ⌜ r ≡ pendingSpot (now (label .entry)) (storeIn narrow (now (nodes .entry))) ⌝ }
 {
     let i = find(nodes, label);
     if nodes[Hall::NODE_COUNT_OFFSET] as usize <= i {
@@ -211,15 +211,15 @@ pub fn find_pending(nodes: &[u32], label: &[u32]) -> Spot
 // How many writes are pending at node i.
 pub fn pending_at(nodes: &[u32], i: usize) -> u32
     requires { ⌜ Fit (now nodes) × (i < getD (now nodes) nodeCountOffset 0) ⌝ }
-    ensures { λ r. ⌜ r ≡ pending (getD (storeIn (now (nodes .entry)) .nodes) i []) ⌝ }
+    ensures { λ r. ⌜ r ≡ pending (getD (storeIn narrow (now (nodes .entry)) .nodes) i []) ⌝ }
 {
     nodes[Hall::HEADER + i * Hall::NODE_WIDTH + Hall::PENDING_OFFSET]
 }
 
 // One pending write fewer at node i.
 pub fn release(nodes: &mut [u32], i: usize)
-    requires { ⌜ Fit (now nodes) × ((i < getD (now nodes) nodeCountOffset 0) × (0 < pending (getD (storeIn (now nodes) .nodes) i []))) ⌝ }
-    ensures { λ _. ⌜ now (nodes .exit) ≡ withStore (now (nodes .entry)) (releasedAt i (storeIn (now (nodes .entry)))) ⌝ }
+    requires { ⌜ Fit (now nodes) × ((i < getD (now nodes) nodeCountOffset 0) × (0 < pending (getD (storeIn narrow (now nodes) .nodes) i []))) ⌝ }
+    ensures { λ _. ⌜ now (nodes .exit) ≡ withStore narrow (now (nodes .entry)) (releasedAt i (storeIn narrow (now (nodes .entry)))) ⌝ }
 {
     let at = Hall::HEADER + i * Hall::NODE_WIDTH + Hall::PENDING_OFFSET;
     let pending = nodes[at];
@@ -230,7 +230,7 @@ pub fn release(nodes: &mut [u32], i: usize)
 // The label's node: revision up by one, pending writes down by one. False: it is missing, has none pending, or its revision is the largest.
 pub fn raise(nodes: &mut [u32], label: &[u32]) -> bool
     requires { ⌜ Fit (now nodes) × (length (now label) ≡ labelWidth) ⌝ }
-    ensures { λ r. ⌜ attempt r (now (nodes .exit)) ≡ tried (now (nodes .entry)) (raised narrow (now (label .entry)) (storeIn (now (nodes .entry)))) ⌝ }
+    ensures { λ r. ⌜ attempt r (now (nodes .exit)) ≡ tried (now (nodes .entry)) (raised narrow (now (label .entry)) (storeIn narrow (now (nodes .entry)))) ⌝ }
 {
     let i = find(nodes, label);
     if nodes[Hall::NODE_COUNT_OFFSET] as usize <= i {
@@ -255,7 +255,7 @@ pub fn raise(nodes: &mut [u32], label: &[u32]) -> bool
 // Whether the floor or a revision is too high for another write.
 pub fn is_worn(nodes: &[u32]) -> bool
     requires { ⌜ Fit (now nodes) ⌝ }
-    ensures { λ r. ⌜ ((sh : Shape) → r ≡ isWorn narrow sh (storeIn (now (nodes .entry)))) ⌝ }
+    ensures { λ r. ⌜ ((sh : Shape) → r ≡ isWorn narrow sh (storeIn narrow (now (nodes .entry)))) ⌝ }
 {
     if Hall::WORN_ABOVE < nodes[Hall::FLOOR_OFFSET] {
         return true;
@@ -274,7 +274,7 @@ pub fn is_worn(nodes: &[u32]) -> bool
 // Takes every node out; the floor is 1.
 pub fn empty(nodes: &mut [u32])
     requires { ⌜ Fit (now nodes) ⌝ }
-    ensures { λ _. ⌜ now (nodes .exit) ≡ withStore (now (nodes .entry)) (store firstFloor []) ⌝ }
+    ensures { λ _. ⌜ now (nodes .exit) ≡ withStore narrow (now (nodes .entry)) (store firstFloor []) ⌝ }
 {
     let n = nodes[Hall::NODE_COUNT_OFFSET] as usize * Hall::NODE_WIDTH;
     let e = Hall::HEADER + n;

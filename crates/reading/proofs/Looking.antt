@@ -31,9 +31,9 @@ look-given t a y ns ns′ clients clients′ d j revised open′ p none e g =
     let z : _≡_ {A = ℕ} 0 1 = cc in
     absurd (omega arith)
 look-given t a y ns ns′ clients clients′ d j revised open′ p (some s) e g =
-    let x : Seen revised open′ ≡ Seen (revision (nodeOf p s)) (pending (nodeOf p s)) = ap (λ (l : Looked). l .sight) e in
-    let n : ns′ ≡ withStore ns s = ap (λ (l : Looked). l .mem) e in
-    let u : revised ≡ revision (nodeOf p s) = cc in
+    let x : Seen revised open′ ≡ Seen (revision narrow (nodeOf p s)) (pending (nodeOf p s)) = ap (λ (l : Looked). l .sight) e in
+    let n : ns′ ≡ withStore narrow ns s = ap (λ (l : Looked). l .mem) e in
+    let u : revised ≡ revision narrow (nodeOf p s) = cc in
     let v : open′ ≡ pending (nodeOf p s) = cc in
     rw (g, n, u, v)
 
@@ -42,7 +42,7 @@ look-not : (t a y ns ns′ clients : List ℕ) (d j : ℕ) (p : Words) (o : Opti
 unfolding lookResult looked
 look-not t a y ns ns′ clients d j p none e = let n : ns′ ≡ ns = ap (λ (l : Looked). l .mem) e in rw n
 look-not t a y ns ns′ clients d j p (some s) e =
-    let x : Stuck ≡ Seen (revision (nodeOf p s)) (pending (nodeOf p s)) = ap (λ (l : Looked). l .sight) e in
+    let x : Stuck ≡ Seen (revision narrow (nodeOf p s)) (pending (nodeOf p s)) = ap (λ (l : Looked). l .sight) e in
     let z : _≡_ {A = ℕ} 0 1 = cc in
     absurd (omega arith)
 
@@ -53,7 +53,7 @@ module _ (clients : List ℕ) (d k : ℕ) (r : Reads clients d k) (h : made clie
   look-below = rw (l, read-columns clients d k r cols e) h
 
   module _ (ns : List ℕ) (p : Words) (f : p ≡ labelWords (readNode (take k cols) look)) (sight : Sight) (ns′ : List ℕ)
-      (g : saw sight ns′ ≡ looked p ns (ensured p (storeIn ns))) where
+      (g : saw sight ns′ ≡ looked p ns (ensured narrow p (storeIn narrow ns))) where
     label-is : p ≡ labelWords (readNode (queryAt (shapeOf k) (clientIn narrow clients d)) (made clients d))
     label-is = f ∙ rw (read-columns clients d k r cols e, l)
 
@@ -61,10 +61,10 @@ module _ (clients : List ℕ) (d k : ℕ) (r : Reads clients d k) (h : made clie
         → resultWith (Refused 3) (mem t ns′ a clients) y ≡ readResult (mem t ns a clients) y d (queryAt (shapeOf k) (clientIn narrow clients d)) (made clients d)
     look-stuck x t a y =
         rw (look-is (mem t ns a clients) y d (queryAt (shapeOf k) (clientIn narrow clients d)) (made clients d) h, ← label-is)
-        (look-not t a y ns ns′ clients d (made clients d) p (ensured p (storeIn ns)) (ap (λ (s : Sight). saw s ns′) (sym x) ∙ g))
+        (look-not t a y ns ns′ clients d (made clients d) p (ensured narrow p (storeIn narrow ns)) (ap (λ (s : Sight). saw s ns′) (sym x) ∙ g))
 
     pub look-noted : (revised open′ : ℕ) → sight ≡ Seen revised open′ → (clients′ : List ℕ) → clients′ ≡ withClient narrow clients d (noted narrow look revised open′ (clientIn narrow clients d)) → (t a y : List ℕ)
         → resultWith Accepted (mem t ns′ a clients′) y ≡ readResult (mem t ns a clients) y d (queryAt (shapeOf k) (clientIn narrow clients d)) (made clients d)
     look-noted revised open′ x clients′ u t a y =
         rw (look-is (mem t ns a clients) y d (queryAt (shapeOf k) (clientIn narrow clients d)) (made clients d) h, ← label-is)
-        (look-given t a y ns ns′ clients clients′ d (made clients d) revised open′ p (ensured p (storeIn ns)) (ap (λ (s : Sight). saw s ns′) (sym x) ∙ g) (u ∙ rw l))
+        (look-given t a y ns ns′ clients clients′ d (made clients d) revised open′ p (ensured narrow p (storeIn narrow ns)) (ap (λ (s : Sight). saw s ns′) (sym x) ∙ g) (u ∙ rw l))

@@ -59,7 +59,7 @@ module _ (clients : List ℕ) (d k : ℕ) (r : Reads clients d k) where
 -- the client's own entry, as a part of the memory
 -- ---- which step it is
 module _ (m : Mem) (y : List ℕ) (d : ℕ) (q : Query) (i : ℕ) where
-  pub look-is : i < readCount q → readResult m y d q i ≡ lookResult m y d i (labelWords (readNode q i)) (ensured (labelWords (readNode q i)) (storeIn (m .nodes)))
+  pub look-is : i < readCount q → readResult m y d q i ≡ lookResult m y d i (labelWords (readNode q i)) (ensured narrow (labelWords (readNode q i)) (storeIn narrow (m .nodes)))
   unfolding readResult
   look-is h = rw (lt-ltb i (readCount q) h)
 

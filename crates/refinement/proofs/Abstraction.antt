@@ -76,7 +76,7 @@ unfoldable pub stateOf : Mem → State
 stateOf m = record {
   shape = shape m;
   tab = recordsIn (columns m) (m .table);
-  store = storeIn (m .nodes);
+  store = storeIn narrow (m .nodes);
   filed = filedOf m;
   clients = phasesOf m;
 }

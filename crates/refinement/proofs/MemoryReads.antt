@@ -64,11 +64,11 @@ wide-each [] h = tt
 wide-each (n ∷ ns) h = (h .0, wide-each ns (h .1))
 
 module _ (s : List ℕ) (long : nodesLeast narrow ≤ length s) (count : getD s 1 0 ≤ maxNodes) where
-  pub rows-nodes : AllRows (storeIn s .nodes)
+  pub rows-nodes : AllRows (storeIn narrow s .nodes)
   unfolding storeIn
   rows-nodes = wide-each (entriesIn 1 8 s) (wide-entries 1 8 s (omega arith))
 
-  pub length-nodes : length (storeIn s .nodes) ≡ getD s 1 0
+  pub length-nodes : length (storeIn narrow s .nodes) ≡ getD s 1 0
   unfolding storeIn
   length-nodes = length-entries 1 8 s
 
@@ -76,25 +76,25 @@ module _ (s : List ℕ) (long : nodesLeast narrow ≤ length s) (count : getD s 
     nodes-there : length (withEntries 1 8 s (t .nodes)) ≡ length s
     nodes-there = length-with 1 8 s (t .nodes) (rows-wide (t .nodes) r) (omega arith) (omega arith)
 
-    floor-back : getD (withStore s t) 0 0 ≡ t .floor
+    floor-back : getD (withStore narrow s t) 0 0 ≡ t .floor
     unfolding withStore
     floor-back = let a = nodes-there in getD-set-same (withEntries 1 8 s (t .nodes)) 0 (t .floor) 0 (omega arith)
 
-    nodes-back : entriesIn 1 8 (withStore s t) ≡ t .nodes
+    nodes-back : entriesIn 1 8 (withStore narrow s t) ≡ t .nodes
     unfolding withStore
     nodes-back =
         entries-header 1 8 (withEntries 1 8 s (t .nodes)) 0 (t .floor) (omega arith) (λ e. omega arith)
         ∙ entries-with 1 8 s (t .nodes) (rows-wide (t .nodes) r) (omega arith) (omega arith) (omega arith)
 
-    pub store-with : storeIn (withStore s t) ≡ t
+    pub store-with : storeIn narrow (withStore narrow s t) ≡ t
     unfolding storeIn
     store-with = λ i. record { floor = floor-back i; nodes = nodes-back i }
 
-    pub length-with-store : length (withStore s t) ≡ length s
+    pub length-with-store : length (withStore narrow s t) ≡ length s
     unfolding withStore
     length-with-store = length-set (withEntries 1 8 s (t .nodes)) 0 (t .floor) ∙ nodes-there
 
-    pub count-nodes : getD (withStore s t) 1 0 ≡ length (t .nodes)
+    pub count-nodes : getD (withStore narrow s t) 1 0 ≡ length (t .nodes)
     unfolding withStore
     count-nodes =
         getD-set-other (withEntries 1 8 s (t .nodes)) 0 1 (t .floor) 0 (λ e. omega arith)

@@ -141,7 +141,7 @@ module _ (m : Mem) (d : ℕ) (g : Going m d) where
 
   taken-back-simulated : (ps : List Words) (o : Option Store) → (kind (client m d) ≡ reads → ⊥)
       → stepsAt m d ≤ writeLabelsAt m d
-      → ps ≡ take (stepsAt m d) (writeLabels (wroteAt m d)) → ReleasedAllOk ps (storeIn (m .nodes)) o
+      → ps ≡ take (stepsAt m d) (writeLabels (wroteAt m d)) → ReleasedAllOk ps (storeIn narrow (m .nodes)) o
       → Simulated m (abandon d) (untrayed (takenBack m d o))
   unfolding takenBack untrayed responseIn stateOf
   taken-back-simulated ps none r h e k = refused-simulated m (abandon d) 3 [] (g .fits) (omega arith) (λ z. omega arith)
@@ -168,14 +168,14 @@ module _ (m : Mem) (d : ℕ) (g : Going m d) where
       (λ t. rw t (back (eqb-false (kind (client m d)) reads t)))
     where
       back : (kind (client m d) ≡ reads → ⊥)
-          → Simulated m (abandon d) (untrayed (takenBack m d (releasedAll (announcedLabels (askedAt m d) (stepsAt m d)) (storeIn (m .nodes)))))
+          → Simulated m (abandon d) (untrayed (takenBack m d (releasedAll (announcedLabels (askedAt m d) (stepsAt m d)) (storeIn narrow (m .nodes)))))
       back r =
           let f = g .fits in
           let t = write-target (shape m) (client m d) (g .busy) in
           taken-back-simulated _ _ r (rw t (h r)) (announced-labels (wroteAt m d) (askedAt m d) (stepsAt m d) t (h r))
-          (releasedAll-ok _ (storeIn (m .nodes)) (g .once) (rows-nodes (m .nodes) (f .nodes-long) (f .nodes)))
+          (releasedAll-ok _ (storeIn narrow (m .nodes)) (g .once) (rows-nodes (m .nodes) (f .nodes-long) (f .nodes)))
 
-pub abandon-simulated : (m : Mem) (d : ℕ) → Fits m → NoDup (storeIn (m .nodes) .nodes) → Simulated m (abandon d) (untrayed (abandonResult m d))
+pub abandon-simulated : (m : Mem) (d : ℕ) → Fits m → NoDup (storeIn narrow (m .nodes) .nodes) → Simulated m (abandon d) (untrayed (abandonResult m d))
 unfolding abandonResult
 abandon-simulated m d f once = unless-simulated m _ (abandonCode m d) _ f (abandon-low m d) (λ e.
     let t = abandon-passed m d e in abandoned-simulated m d (going m f once d (t .0 .below) (t .0 .busy)) (steps-before m d (t .1)))
@@ -198,16 +198,16 @@ pub evict-answer-simulated : (m : Mem) (i : ℕ) → Fits m → Simulated m (evi
 unfolding evictAnswerResult
 evict-answer-simulated m i f = unless-simulated m _ (evictAnswerCode m i) _ f (evict-answer-low m i) (λ e. evicted-simulated m i f (evict-answer-passed m i e .1))
 
-pub evict-node-simulated : (m : Mem) (i : ℕ) → Fits m → NoDup (storeIn (m .nodes) .nodes) → Simulated m (evict-node i) (untrayed (evictNodeResult m i))
+pub evict-node-simulated : (m : Mem) (i : ℕ) → Fits m → NoDup (storeIn narrow (m .nodes) .nodes) → Simulated m (evict-node i) (untrayed (evictNodeResult m i))
 unfolding evictNodeResult untrayed responseIn stateOf
 evict-node-simulated m i f once = unless-simulated m _ (evictNodeCode m i) _ f (evict-node-low m i) (λ e.
     let t = evict-node-passed m i e in
     let n = length-nodes (m .nodes) (f .nodes-long) (f .nodes) in
     let y = f .nodes in
     let a = t .1 in
-    let k = evict-ok i (storeIn (m .nodes)) once (rows-nodes (m .nodes) (f .nodes-long) (f .nodes)) (omega arith) (t .2) in
+    let k = evict-ok i (storeIn narrow (m .nodes)) once (rows-nodes (m .nodes) (f .nodes-long) (f .nodes)) (omega arith) (t .2) in
     let z = k .2 in
-    simulated Accepted [] (at-store m f (evictNode i (storeIn (m .nodes))) (k .1) (omega arith)) (steps-of.evicted-node (omega arith) (k .0)))
+    simulated Accepted [] (at-store m f (evictNode narrow i (storeIn narrow (m .nodes))) (k .1) (omega arith)) (steps-of.evicted-node (omega arith) (k .0)))
 
 -- ---- Renewals
 all-idle : (m : Mem) → ((d : ℕ) → d < maxClients → isIdle narrow (client m d) ≡ true) → (d : ℕ) → stateOf m .clients d ≡ idle

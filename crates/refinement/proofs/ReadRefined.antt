@@ -70,12 +70,12 @@ module _ (m : Mem) (tray : List ℕ) (d : ℕ) (g : Going m d) (r : kind (client
   -- what the look leaves at its desk
   look-left : (p : Words) (t : Store) → p ≡ node (keyAt m d) (length (revisionsIn (stepsAt m d) (entryAt m d)))
       → has (t .nodes) p ≡ true → stepsAt m d < looksAt m d
-      → Left (shape m) (noted narrow (stepsAt m d) (revision (nodeOf p t)) (pending (nodeOf p t)) (client m d))
+      → Left (shape m) (noted narrow (stepsAt m d) (revision narrow (nodeOf p t)) (pending (nodeOf p t)) (client m d))
       (looking (keyAt m d)
       (revisionsIn (stepsAt m d) (entryAt m d) ++ (effective t (node (keyAt m d) (length (revisionsIn (stepsAt m d) (entryAt m d)))) ∷ []))
       (sawPending (client m d) || ltb 0 (pendingOf t (node (keyAt m d) (length (revisionsIn (stepsAt m d) (entryAt m d)))))))
   look-left p t e k h =
-      left-to (noted-left (shape m) (client m d) (g .wide) (g .fits .few) (g .busy) r (revision (nodeOf p t)) (pending (nodeOf p t)) h)
+      left-to (noted-left (shape m) (client m d) (g .wide) (g .fits .few) (g .busy) r (revision narrow (nodeOf p t)) (pending (nodeOf p t)) h)
       (rw (node-effective p t k, node-pending-of p t k, e) refl)
 
   looks-left : stepsAt m d < looksAt m d
@@ -83,7 +83,7 @@ module _ (m : Mem) (tray : List ℕ) (d : ℕ) (g : Going m d) (r : kind (client
   looks-left h = let a = length-noted (omega arith) in let b = length-looks (shape m) (entryAt m d) in omega arith
 
   look-simulated : (p : Words) (o : Option Store) → p ≡ labelWords (readNode (askedAt m d) (stepsAt m d))
-      → stepsAt m d < looksAt m d → EnsuredOk p (storeIn (m .nodes)) o
+      → stepsAt m d < looksAt m d → EnsuredOk p (storeIn narrow (m .nodes)) o
       → Simulated m (step d) (lookResult m tray d (stepsAt m d) p o)
   unfolding lookResult responseIn stateOf
   look-simulated p none e h k = refused-simulated m (step d) 3 tray (g .fits) (omega arith) (λ z. omega arith)
@@ -278,7 +278,7 @@ module _ (m : Mem) (tray : List ℕ) (d : ℕ) (g : Going m d) (r : kind (client
       let i : ℕ = stepsAt m d in
       let e = looks-is in
       byTest (ltb i n)
-      (λ t. let z = ltb-true i n t in rw t (look-simulated _ _ refl (omega arith) (ensured-ok _ (storeIn (m .nodes)) five (g .once) (rows-nodes (m .nodes) (f .nodes-long) (f .nodes)))))
+      (λ t. let z = ltb-true i n t in rw t (look-simulated _ _ refl (omega arith) (ensured-ok _ (storeIn narrow (m .nodes)) five (g .once) (rows-nodes (m .nodes) (f .nodes-long) (f .nodes)))))
       (λ t. let z = ltb-false i n t in rw t (byTest (eqb i n)
       (λ u. let y = eqb-true i n u in rw u (fetch-simulated _ (ap (λ (j : ℕ). fetchPlace narrow j (entryAt m d) (answersIn narrow (m .answers))) e) (omega arith)))
       (λ u. let y = eqb-false i n u in rw u (byTest (eqb i (n + 1))

@@ -17,6 +17,7 @@ use Rattle.rules.specs.Refusals.{shape, columns, client, stepCode}
 use Rattle.rules.proofs.PassedChecks.{step-passed}
 use Rattle.rules.specs.Steps.{progress}
 use Rattle.rules.specs.Calls.{stepResult}
+use Rattle.query.specs.Shape.{narrow}
 use Rattle.rules.specs.History.{Call, beginRead, beginInsert, beginDelete, step, abandon, evictAnswer, evictNode, renew, callResult}
 use Rattle.revisions.proofs.EffectiveRevision.{NoDup}
 use Rattle.machine.proofs.Machine as machine
@@ -37,7 +38,7 @@ progress-simulated m tray d g =
     (λ t. rw t (read-simulated m tray d g (eqb-true (kind (client m d)) reads t)))
     (λ t. rw t (write-simulated m tray d g (eqb-false (kind (client m d)) reads t)))
 
-step-simulated : (m : Mem) (tray : List ℕ) (d : ℕ) → Fits m → NoDup (storeIn (m .nodes) .nodes) → Simulated m (machine.step d) (stepResult m tray d)
+step-simulated : (m : Mem) (tray : List ℕ) (d : ℕ) → Fits m → NoDup (storeIn narrow (m .nodes) .nodes) → Simulated m (machine.step d) (stepResult m tray d)
 unfolding stepResult
 step-simulated m tray d f once =
     byTest (eqb (stepCode m tray d) 0)
@@ -45,7 +46,7 @@ step-simulated m tray d f once =
     (λ t. rw t (refused-simulated m (machine.step d) (stepCode m tray d) tray f (step-low m tray d) (eqb-false (stepCode m tray d) 0 t)))
 
 -- ---- Every call
-pub call-simulated : (m : Mem) (c : Call) → Fits m → NoDup (storeIn (m .nodes) .nodes) → Simulated m (callOf c) (callResult m c)
+pub call-simulated : (m : Mem) (c : Call) → Fits m → NoDup (storeIn narrow (m .nodes) .nodes) → Simulated m (callOf c) (callResult m c)
 unfolding callResult callOf
 call-simulated m (beginRead d a) f once = begin-read-simulated m f d a
 call-simulated m (beginInsert d a) f once = begin-insert-simulated m f d a
@@ -56,12 +57,12 @@ call-simulated m (evictAnswer i) f once = evict-answer-simulated m i f
 call-simulated m (evictNode i) f once = evict-node-simulated m i f once
 call-simulated m renew f once = renew-simulated m f
 
-pub refines : (m : Mem) (c : Call) → Fits m → NoDup (storeIn (m .nodes) .nodes)
+pub refines : (m : Mem) (c : Call) → Fits m → NoDup (storeIn narrow (m .nodes) .nodes)
     → Transition (stateOf m) (callOf c) (responseOf (shape m) (callResult m c)) (stateOf (callResult m c .mem)) × Fits (callResult m c .mem)
 refines m c f once = let l = call-simulated m c f once in (l .transition, l .fits)
 
 -- the shape stays
-pub shape-stays : (m : Mem) (c : Call) → Fits m → NoDup (storeIn (m .nodes) .nodes) → shape (callResult m c .mem) ≡ shape m
+pub shape-stays : (m : Mem) (c : Call) → Fits m → NoDup (storeIn narrow (m .nodes) .nodes) → shape (callResult m c .mem) ≡ shape m
 shape-stays m c f once = call-simulated m c f once .same
 
 -- ---- The number that a call returns is the machine's

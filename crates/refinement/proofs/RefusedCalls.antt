@@ -55,7 +55,7 @@ unfolding beginCode
 begin-low m x d a =
     low (isShort narrow (shape m) m) 1 _ (omega arith) (low (badQuery (shape m) x a) 2 _ (omega arith) (low (isUnsound m) 3 _ (omega arith) (low (noClient d) 4 _ (omega arith)
     (low (isBad narrow (shape m) (client m d)) 3 _ (omega arith) (low (not (isIdle narrow (client m d))) 5 _ (omega arith)
-    (low (not (eqb x reads) && isWorn narrow (shape m) (storeIn (m .nodes))) 10 0 (omega arith) (omega arith)))))))
+    (low (not (eqb x reads) && isWorn narrow (shape m) (storeIn narrow (m .nodes))) 10 0 (omega arith) (omega arith)))))))
 
 -- ---- Steps and abandonings
 atClient-low : (m : Mem) (d : ℕ) → atClient m d ≤ 11
@@ -84,7 +84,7 @@ pub evict-node-low : (m : Mem) (i : ℕ) → evictNodeCode m i ≤ 11
 unfolding evictNodeCode
 evict-node-low m i =
     low (isShort narrow (shape m) m) 1 _ (omega arith) (low (isUnsound m) 3 _ (omega arith) (low (leb (getD (m .nodes) nodeCountOffset 0) i) 8 _ (omega arith)
-    (low (ltb 0 (pending (getD (storeIn (m .nodes) .nodes) i []))) 9 0 (omega arith) (omega arith))))
+    (low (ltb 0 (pending (getD (storeIn narrow (m .nodes) .nodes) i []))) 9 0 (omega arith) (omega arith))))
 
 pub renew-low : (m : Mem) → renewCode m ≤ 11
 unfolding renewCode

@@ -63,7 +63,7 @@ askedAt m d = queryAt (shape m) (client m d)
 -- ---- A desk that is busy
 pub record Going (m : Mem) (d : ℕ) : Type 0 where
   pub fits : Fits m
-  pub once : NoDup (storeIn (m .nodes) .nodes)
+  pub once : NoDup (storeIn narrow (m .nodes) .nodes)
   pub below : d < maxClients
   pub busy : Busy (shape m) (client m d)
   pub wide : length (client m d) ≡ clientWidth narrow
@@ -72,7 +72,7 @@ wide-at-client : (m : Mem) → Fits m → (d : ℕ) → d < maxClients → lengt
 unfolding client
 wide-at-client m f d h = client-wide (m .clients) d (let z = f .clients-long in omega arith)
 
-pub going : (m : Mem) → Fits m → NoDup (storeIn (m .nodes) .nodes) → (d : ℕ) → d < maxClients → isIdle narrow (client m d) ≡ false → Going m d
+pub going : (m : Mem) → Fits m → NoDup (storeIn narrow (m .nodes) .nodes) → (d : ℕ) → d < maxClients → isIdle narrow (client m d) ≡ false → Going m d
 going m f once d h e = record {
   fits = f;
   once = once;

@@ -63,7 +63,7 @@ module _ (m : Mem) (tray : List ℕ) (d : ℕ) (g : Going m d) (r : kind (client
 
   -- ---- A mark
   announce-simulated : (p : Words) (o : Option Store) → p ≡ getD (writeLabels (wroteAt m d)) (stepsAt m d) []
-      → stepsAt m d < writeLabelsAt m d → AnnouncedOk p (storeIn (m .nodes)) o → Simulated m (step d) (announceResult m tray d o)
+      → stepsAt m d < writeLabelsAt m d → AnnouncedOk p (storeIn narrow (m .nodes)) o → Simulated m (step d) (announceResult m tray d o)
   unfolding announceResult responseIn stateOf
   announce-simulated p none e h k = refused-simulated m (step d) 3 tray (g .fits) (omega arith) (λ z. omega arith)
   announce-simulated p (some t) e h k =
@@ -97,7 +97,7 @@ module _ (m : Mem) (tray : List ℕ) (d : ℕ) (g : Going m d) (r : kind (client
   unfolding responseIn endOf write-end
   end-is = byTest (foundFull (client m d)) (λ e. rw e) (λ e. rw e)
 
-  raised-after : (p : Words) (t : Store) → RaisedTo true (p ∷ []) (storeIn (m .nodes)) t → After m (storeBack m t) (with-store (stateOf m) t)
+  raised-after : (p : Words) (t : Store) → RaisedTo true (p ∷ []) (storeIn narrow (m .nodes)) t → After m (storeBack m t) (with-store (stateOf m) t)
   raised-after p t k =
       let f = g .fits in
       let n = length-nodes (m .nodes) (f .nodes-long) (f .nodes) in
@@ -123,7 +123,7 @@ module _ (m : Mem) (tray : List ℕ) (d : ℕ) (g : Going m d) (r : kind (client
       → p ≡ getD (writeLabels (wroteAt m d)) (stepsAt m d - (writeLabelsAt m d + 1)) []
       → writeLabelsAt m d < stepsAt m d
       → eqb (stepsAt m d) (writeLabelsAt m d + writeLabelsAt m d) ≡ isLast
-      → RaisedOk p (storeIn (m .nodes)) o → Simulated m (step d) (raiseResult m tray d isLast o)
+      → RaisedOk p (storeIn narrow (m .nodes)) o → Simulated m (step d) (raiseResult m tray d isLast o)
   unfolding raiseResult responseIn stateOf
   raise-simulated p none isLast e h l k = refused-simulated m (step d) 3 tray (g .fits) (omega arith) (λ z. omega arith)
   raise-simulated p (some t) true e h l k =
@@ -158,7 +158,7 @@ module _ (m : Mem) (tray : List ℕ) (d : ℕ) (g : Going m d) (r : kind (client
       let b = g .busy .going in
       let o = last-write (shape m) (client m d) r in
       byTest (ltb i n)
-      (λ t. let z = ltb-true i n t in rw t (announce-simulated _ _ (label-is i (omega arith)) (omega arith) (announced-ok _ (storeIn (m .nodes)) (five i) (g .once) rows)))
+      (λ t. let z = ltb-true i n t in rw t (announce-simulated _ _ (label-is i (omega arith)) (omega arith) (announced-ok _ (storeIn narrow (m .nodes)) (five i) (g .once) rows)))
       (λ t. let z = ltb-false i n t in rw t (byTest (eqb i n)
       (λ u. let y = eqb-true i n u in rw u (write-table-simulated (omega arith)))
-      (λ u. let y = eqb-false i n u in rw u (raise-simulated _ _ _ (raised-label (omega arith)) (omega arith) (raised-last refl) (raised-ok _ (storeIn (m .nodes)) (g .once) rows)))))
+      (λ u. let y = eqb-false i n u in rw u (raise-simulated _ _ _ (raised-label (omega arith)) (omega arith) (raised-last refl) (raised-ok _ (storeIn narrow (m .nodes)) (g .once) rows)))))

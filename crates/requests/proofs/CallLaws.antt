@@ -66,12 +66,12 @@ module _ (m : Mem) (n : ℕ) where
   unfolding evictAnswerResult
   answer-goes i s e h f = rw f (done m (evictAnswerCode m i) n e _ h)
 
-  pub node-goes : (i : ℕ) (s : List ℕ) → n ≡ evictNodeCode m i → n ≡ 0 → s ≡ withStore (m .nodes) (evictNode i (storeIn (m .nodes)))
+  pub node-goes : (i : ℕ) (s : List ℕ) → n ≡ evictNodeCode m i → n ≡ 0 → s ≡ withStore narrow (m .nodes) (evictNode narrow i (storeIn narrow (m .nodes)))
       → result Accepted (mem (m .table) s (m .answers) (m .clients)) ≡ evictNodeResult m i
   unfolding evictNodeResult storeBack
   node-goes i s e h f = rw f (done m (evictNodeCode m i) n e _ h)
 
-  pub renews : (s t : List ℕ) → n ≡ renewCode m → n ≡ 0 → s ≡ withStore (m .nodes) (store 1 []) → t ≡ withAnswers narrow (m .answers) []
+  pub renews : (s t : List ℕ) → n ≡ renewCode m → n ≡ 0 → s ≡ withStore narrow (m .nodes) (store 1 []) → t ≡ withAnswers narrow (m .answers) []
       → result Accepted (mem (m .table) s t (m .clients)) ≡ renewResult m
   unfolding renewResult renewed
   renews s t e h f g = rw (f, g) (done m (renewCode m) n e _ h)

@@ -5,6 +5,7 @@ use mathlib.Core.Bool.{Bool, true, false, cond, _||_}
 use mathlib.Core.List.{List, [], _∷_}
 use Prim.Native.Nat.{ℕ, _+_, _≤_}
 use Rattle.lists.specs.Lists.{same}
+use Rattle.query.specs.Shape.{narrow}
 use Rattle.rules.specs.Nodes.{Words, Node, Store, labelIn, pending, revision}
 
 -- a label's first node: whether there is one, its revision (the floor where there is none), its pending writes
@@ -14,7 +15,7 @@ has (n ∷ ns) p = same (labelIn n) p || has ns p
 
 unfoldable pub effectiveIn : List Node → ℕ → Words → ℕ
 effectiveIn [] f p = f
-effectiveIn (n ∷ ns) f p = cond (same (labelIn n) p) (revision n) (effectiveIn ns f p)
+effectiveIn (n ∷ ns) f p = cond (same (labelIn n) p) (revision narrow n) (effectiveIn ns f p)
 
 unfoldable pub pendingIn : List Node → Words → ℕ
 pendingIn [] p = 0

@@ -35,7 +35,7 @@ pub node-label : (p : Words) (s : Store) → has (s .nodes) p ≡ true → label
 unfolding nodeOf
 node-label p s h = place-label p (s .nodes) h
 
-pub node-effective : (p : Words) (s : Store) → has (s .nodes) p ≡ true → revision (nodeOf p s) ≡ effective s p
+pub node-effective : (p : Words) (s : Store) → has (s .nodes) p ≡ true → revision narrow (nodeOf p s) ≡ effective s p
 unfolding nodeOf effective
 node-effective p s h = place-effective-in p (s .nodes) (s .floor) h
 
@@ -75,7 +75,7 @@ pub record Stored (p : Words) (x y : ℕ) (s t : Store) : Type 0 where
   pub size : length (t .nodes) ≡ length (s .nodes)
 
 pub stored-ok : (p : Words) (m : Node) (s : Store) → labelIn m ≡ p → Wide m → has (s .nodes) p ≡ true → NoDup (s .nodes) → AllRows (s .nodes)
-    → Stored p (pending m) (revision m) s (withNode p m s)
+    → Stored p (pending m) (revision narrow m) s (withNode p m s)
 unfolding withNode effective pendingOf
 stored-ok p m s l w h d r = record {
   revisions = λ q. stored-effective-in p m l (s .nodes) (s .floor) q h;
@@ -96,16 +96,16 @@ module _ (p : Words) (s : Store) (d : NoDup (s .nodes)) (r : AllRows (s .nodes))
       rw (pending-pending n x w, pending-revision n x, node-effective p s h) at k
 
   -- another revision
-  pub revision-stored : (y : ℕ) → Stored p (pendingOf s p) y s (withNode p (withRevision (nodeOf p s) y) s)
+  pub revision-stored : (y : ℕ) → Stored p (pendingOf s p) y s (withNode p (withRevision narrow (nodeOf p s) y) s)
   revision-stored y =
       let n = nodeOf p s in
       let w = node-wide p s r h in
-      let k = stored-ok p (withRevision n y) s (revision-label n y ∙ node-label p s h) (revision-wide n y w) h d r in
+      let k = stored-ok p (withRevision narrow n y) s (revision-label n y ∙ node-label p s h) (revision-wide n y w) h d r in
       rw (revision-pending n y, revision-revision n y w, node-pending-of p s h) at k
 
 -- ---- A node leaves, a node comes
 pub evict-ok : (i : ℕ) (s : Store) → NoDup (s .nodes) → AllRows (s .nodes) → i < length (s .nodes) → pending (getD (s .nodes) i []) ≡ 0
-    → Grew s (evictNode i s) × AllRows (evictNode i s .nodes) × (suc (length (evictNode i s .nodes)) ≡ length (s .nodes))
+    → Grew s (evictNode narrow i s) × AllRows (evictNode narrow i s .nodes) × (suc (length (evictNode narrow i s .nodes)) ≡ length (s .nodes))
 unfolding evictNode effective pendingOf
 evict-ok i s d r h z =
     let o = without-out (s .nodes) i h in (
@@ -119,7 +119,7 @@ evict-ok i s d r h z =
       out-length o,
     )
 
-evict-has : (i : ℕ) (s : Store) (p : Words) → i < length (s .nodes) → has (s .nodes) p ≡ false → has (evictNode i s .nodes) p ≡ false
+evict-has : (i : ℕ) (s : Store) (p : Words) → i < length (s .nodes) → has (s .nodes) p ≡ false → has (evictNode narrow i s .nodes) p ≡ false
 unfolding evictNode
 evict-has i s p h e = out-has p (without-out (s .nodes) i h) e
 
@@ -145,11 +145,11 @@ grew-trans g k back = record {
 }
 
 module _ (p : Words) (five : length p ≡ labelWidth) where
-  added-has : (s : Store) (q : Words) → has (added p s .nodes) q ≡ (has (s .nodes) q || same p q)
+  added-has : (s : Store) (q : Words) → has (added narrow p s .nodes) q ≡ (has (s .nodes) q || same p q)
   unfolding added
   added-has s q = last-has _ (s .nodes) q ∙ rw (fresh-label p (s .floor) five) refl
 
-  added-grew : (s : Store) → NoDup (s .nodes) → has (s .nodes) p ≡ false → Grew s (added p s)
+  added-grew : (s : Store) → NoDup (s .nodes) → has (s .nodes) p ≡ false → Grew s (added narrow p s)
   unfolding added effective pendingOf
   added-grew s d h =
       let n : Node = p ++ (0 ∷ s .floor ∷ 0 ∷ []) in
@@ -162,16 +162,16 @@ module _ (p : Words) (five : length p ≡ labelWidth) where
         stay = λ q a b. c q;
       }
 
-  added-rows : (s : Store) → AllRows (s .nodes) → AllRows (added p s .nodes)
+  added-rows : (s : Store) → AllRows (s .nodes) → AllRows (added narrow p s .nodes)
   unfolding added
   added-rows s r = each-added Wide (s .nodes) _ r (fresh-wide p (s .floor) five)
 
-  added-size : (s : Store) → length (added p s .nodes) ≡ suc (length (s .nodes))
+  added-size : (s : Store) → length (added narrow p s .nodes) ≡ suc (length (s .nodes))
   unfolding added
   added-size s = simp length-append (omega arith)
 
   added-ok : (s t : Store) → Grew s t → AllRows (t .nodes) → (length (s .nodes) ≤ maxNodes → length (t .nodes) < maxNodes)
-      → has (s .nodes) p ≡ false → has (t .nodes) p ≡ false → Ensured p s (added p t)
+      → has (s .nodes) p ≡ false → has (t .nodes) p ≡ false → Ensured p s (added narrow p t)
   added-ok s t g r l e h = (
     grew-trans g (added-grew t (g .once) h)
         (λ q a b. sym (or-false (has (t .nodes) q)) ∙ (rw (has-apart (s .nodes) p q e a) at (sym (added-has t q) ∙ b))),
@@ -187,14 +187,14 @@ RoomOk s (some t) =
     Grew s t × AllRows (t .nodes) × (length (s .nodes) ≤ maxNodes → length (t .nodes) < maxNodes)
     × ((q : Words) → has (s .nodes) q ≡ false → has (t .nodes) q ≡ false)
 
-pub room-ok : (s : Store) → NoDup (s .nodes) → AllRows (s .nodes) → RoomOk s (makeRoom s)
+pub room-ok : (s : Store) → NoDup (s .nodes) → AllRows (s .nodes) → RoomOk s (makeRoom narrow s)
 unfolding makeRoom
 room-ok s d r =
     byTest (ltb (length (s .nodes)) maxNodes)
     (λ a. rw a (grew-refl s d, r, (λ k. ltb-true _ _ a), λ q e. e))
     (λ a. rw a (byTest (ltb (oldestFree (s .nodes)) (length (s .nodes))) (λ b. rw b (evicted (ltb-true _ _ b))) (λ b. rw b tt)))
   where
-    evicted : oldestFree (s .nodes) < length (s .nodes) → RoomOk s (some (evictNode (oldestFree (s .nodes)) s))
+    evicted : oldestFree (s .nodes) < length (s .nodes) → RoomOk s (some (evictNode narrow (oldestFree (s .nodes)) s))
     evicted h =
         let g = evict-ok (oldestFree (s .nodes)) s d r h (free-at (s .nodes) h) in
         (g .0, g .1, (λ k. let z = g .2 in omega arith), λ q e. evict-has (oldestFree (s .nodes)) s q h e)
@@ -204,7 +204,7 @@ abbrev pub RoomNone : Store → Option Store → Type 0
 RoomNone s none = (maxNodes ≤ length (s .nodes)) × Each (λ n. 0 < pending n) (s .nodes)
 RoomNone s (some t) = Unit
 
-pub room-none : (s : Store) → RoomNone s (makeRoom s)
+pub room-none : (s : Store) → RoomNone s (makeRoom narrow s)
 unfolding makeRoom
 room-none s =
     byTest (ltb (length (s .nodes)) maxNodes)
@@ -213,35 +213,35 @@ room-none s =
     (λ b. rw b tt)
     (λ b. rw b (ltb-false _ _ a, free-none (s .nodes) (ltb-false _ _ b)))))
 
-addedIn-ok : (p : Words) (s : Store) (o : Option Store) → length p ≡ labelWidth → has (s .nodes) p ≡ false → RoomOk s o → EnsuredOk p s (addedIn p o)
+addedIn-ok : (p : Words) (s : Store) (o : Option Store) → length p ≡ labelWidth → has (s .nodes) p ≡ false → RoomOk s o → EnsuredOk p s (addedIn narrow p o)
 unfolding addedIn
 addedIn-ok p s none five e k = tt
 addedIn-ok p s (some t) five e k = added-ok p five s t (k .0) (k .1) (k .2) e (k .3 p e)
 
 -- the store with the label's node
-pub ensured-ok : (p : Words) (s : Store) → length p ≡ labelWidth → NoDup (s .nodes) → AllRows (s .nodes) → EnsuredOk p s (ensured p s)
+pub ensured-ok : (p : Words) (s : Store) → length p ≡ labelWidth → NoDup (s .nodes) → AllRows (s .nodes) → EnsuredOk p s (ensured narrow p s)
 unfolding ensured
 ensured-ok p s five d r =
     byTest (has (s .nodes) p)
     (λ e. rw (present-has p s, e) (grew-refl s d, e, r, λ k. k))
-    (λ e. rw (present-has p s, e) (addedIn-ok p s (makeRoom s) five e (room-ok s d r)))
+    (λ e. rw (present-has p s, e) (addedIn-ok p s (makeRoom narrow s) five e (room-ok s d r)))
 
 -- there is none only if the node is missing and there is no room
 abbrev pub EnsuredNone : Words → Store → Option Store → Type 0
 EnsuredNone p s none = (has (s .nodes) p ≡ false) × (maxNodes ≤ length (s .nodes)) × Each (λ n. 0 < pending n) (s .nodes)
 EnsuredNone p s (some t) = Unit
 
-addedIn-none : (p : Words) (s : Store) (o : Option Store) → has (s .nodes) p ≡ false → RoomNone s o → EnsuredNone p s (addedIn p o)
+addedIn-none : (p : Words) (s : Store) (o : Option Store) → has (s .nodes) p ≡ false → RoomNone s o → EnsuredNone p s (addedIn narrow p o)
 unfolding addedIn
 addedIn-none p s none e k = (e, k .0, k .1)
 addedIn-none p s (some t) e k = tt
 
-pub ensured-none : (p : Words) (s : Store) → EnsuredNone p s (ensured p s)
+pub ensured-none : (p : Words) (s : Store) → EnsuredNone p s (ensured narrow p s)
 unfolding ensured
 ensured-none p s =
     byTest (has (s .nodes) p)
     (λ e. rw (present-has p s, e) tt)
-    (λ e. rw (present-has p s, e) (addedIn-none p s (makeRoom s) e (room-none s)))
+    (λ e. rw (present-has p s, e) (addedIn-none p s (makeRoom narrow s) e (room-none s)))
 
 -- ---- One pending write more, or less; the revision one up
 -- what each label has, at p and elsewhere
@@ -281,9 +281,9 @@ announcedIn-ok p s (some t) h =
     )))
 
 -- *mark*
-pub announced-ok : (p : Words) (s : Store) → length p ≡ labelWidth → NoDup (s .nodes) → AllRows (s .nodes) → AnnouncedOk p s (announced p s)
+pub announced-ok : (p : Words) (s : Store) → length p ≡ labelWidth → NoDup (s .nodes) → AllRows (s .nodes) → AnnouncedOk p s (announced narrow p s)
 unfolding announced
-announced-ok p s five d r = announcedIn-ok p s (ensured p s) (ensured-ok p s five d r)
+announced-ok p s five d r = announcedIn-ok p s (ensured narrow p s) (ensured-ok p s five d r)
 
 -- what marks taken off leave
 abbrev pub RaisedTo : Bool → List Words → Store → Store → Type 0
@@ -311,10 +311,10 @@ RaisedOk p s none = (has (s .nodes) p ≡ false) ⊎ ((pendingOf s p ≡ 0) ⊎ 
 RaisedOk p s (some t) = RaisedTo true (p ∷ []) s t
 
 lifted-ok : (p : Words) (s : Store) → NoDup (s .nodes) → AllRows (s .nodes) → has (s .nodes) p ≡ true → 0 < pendingOf s p
-    → RaisedTo true (p ∷ []) s (released p (withNode p (withRevision (nodeOf p s) (effective s p + 1)) s))
+    → RaisedTo true (p ∷ []) s (released p (withNode p (withRevision narrow (nodeOf p s) (effective s p + 1)) s))
 unfolding tally lifts
 lifted-ok p s d r h l =
-    let u = withNode p (withRevision (nodeOf p s) (effective s p + 1)) s in
+    let u = withNode p (withRevision narrow (nodeOf p s) (effective s p + 1)) s in
     let k = revision-stored p s d r h (effective s p + 1) in
     let m : (q : Words) → pendingOf u q ≡ pendingOf s q = λ q. k .pendings q ∙ at-label (pendingOf s) p q in
     let g = released-ok p u (k .once) (k .rows) (let z = m p in omega arith) in (
@@ -329,7 +329,7 @@ lifted-ok p s d r h l =
     )
 
 raised-here : (p : Words) (s : Store) → NoDup (s .nodes) → AllRows (s .nodes) → has (s .nodes) p ≡ true → RaisedOk p s
-    (cond (ltb 0 (pendingOf s p) && ltb (effective s p) (maxRevision narrow)) (some (released p (withNode p (withRevision (nodeOf p s) (effective s p + 1)) s))) none)
+    (cond (ltb 0 (pendingOf s p) && ltb (effective s p) (maxRevision narrow)) (some (released p (withNode p (withRevision narrow (nodeOf p s) (effective s p + 1)) s))) none)
 raised-here p s d r h =
     byTest (ltb 0 (pendingOf s p))
     (λ a. byTest (ltb (effective s p) (maxRevision narrow))

@@ -15,6 +15,7 @@ use Rattle.lists.specs.Lists.{same, place, without}
 use Rattle.rules.specs.Nodes.{Words, Node, labelIn, pending, revision, withPending, withRevision, hasLabel, nodePlace, isFree, oldestFree}
 use Rattle.revisions.proofs.LabelTests.{same-off, same-apart}
 use Rattle.revisions.proofs.EffectiveRevision.{has, effectiveIn, pendingIn, NoDup}
+use Rattle.query.specs.Shape.{narrow}
 use Rattle.query.specs.Encoding.{labelWidth}
 
 -- ---- A fact of every node
@@ -114,7 +115,7 @@ module _ (p : Words) where
   unfolding nodePlace hasLabel
   place-label ns h = same-eq _ p (place-found (hasLabel p) ns (ltb-true _ _ (place-has p ns ∙ h)))
 
-  pub place-effective-in : (ns : List Node) (f : ℕ) → has ns p ≡ true → revision (getD ns (nodePlace p ns) []) ≡ effectiveIn ns f p
+  pub place-effective-in : (ns : List Node) (f : ℕ) → has ns p ≡ true → revision narrow (getD ns (nodePlace p ns) []) ≡ effectiveIn ns f p
   unfolding nodePlace place hasLabel has effectiveIn
   place-effective-in [] f h = absurd (false≢true h)
   place-effective-in (n ∷ ns) f h =
@@ -180,7 +181,7 @@ module _ (p : Words) (m : Node) (l : labelIn m ≡ p) where
       (λ e. rw (e, stored-place ns q) refl)
 
   pub stored-effective-in : (ns : List Node) (f : ℕ) (q : Words) → has ns p ≡ true
-      → effectiveIn (set ns (nodePlace p ns) m) f q ≡ cond (same p q) (revision m) (effectiveIn ns f q)
+      → effectiveIn (set ns (nodePlace p ns) m) f q ≡ cond (same p q) (revision narrow m) (effectiveIn ns f q)
   unfolding nodePlace place hasLabel has effectiveIn
   stored-effective-in [] f q h = absurd (false≢true h)
   stored-effective-in (n ∷ ns) f q h =
@@ -228,11 +229,11 @@ unfolding effectiveIn has
 effective-in-has [] f g p e = absurd (false≢true e)
 effective-in-has (n ∷ ns) f g p e = byTest (same (labelIn n) p) (λ q. rw q refl) (λ q. rw q (effective-in-has ns f g p (rw q at e)))
 
-pub out-effective-in : {n : Node} {ns rs : List Node} (f : ℕ) (p : Words) → Out n ns rs → NoDup ns → effectiveIn ns f p ≤ effectiveIn rs (max f (revision n)) p
+pub out-effective-in : {n : Node} {ns rs : List Node} (f : ℕ) (p : Words) → Out n ns rs → NoDup ns → effectiveIn ns f p ≤ effectiveIn rs (max f (revision narrow n)) p
 unfolding effectiveIn NoDup
 out-effective-in {n} f p (first {ns}) d =
     byTest (same (labelIn n) p)
-    (λ q. rw (q, effective-in-absent ns (max f (revision n)) p (has-same ns (labelIn n) p q (d .0))) (omega arith))
+    (λ q. rw (q, effective-in-absent ns (max f (revision narrow n)) p (has-same ns (labelIn n) p q (d .0))) (omega arith))
     (λ q. rw q (effective-in-floor ns p (omega arith)))
 out-effective-in f p (later {m} o) d =
     byTest (same (labelIn m) p) (λ q. rw q (omega arith)) (λ q. rw q (out-effective-in f p o (d .1)))
@@ -248,9 +249,9 @@ out-stays f g p (later {m} o) d e =
 
 -- ---- A node m is added last
 module _ (m : Node) where
-  pub last-effective-in : (ns : List Node) (q : Words) → effectiveIn (ns ++ (m ∷ [])) (revision m) q ≡ effectiveIn ns (revision m) q
+  pub last-effective-in : (ns : List Node) (q : Words) → effectiveIn (ns ++ (m ∷ [])) (revision narrow m) q ≡ effectiveIn ns (revision narrow m) q
   unfolding effectiveIn
-  last-effective-in [] q = cond-same (same (labelIn m) q) (revision m)
+  last-effective-in [] q = cond-same (same (labelIn m) q) (revision narrow m)
   last-effective-in (n ∷ ns) q = rw (last-effective-in ns q) refl
 
   pub last-pending-in : (ns : List Node) (q : Words) → pending m ≡ 0 → pendingIn (ns ++ (m ∷ [])) q ≡ pendingIn ns q
@@ -279,7 +280,7 @@ pub fresh-pending : (p : Words) (f : ℕ) → length p ≡ labelWidth → pendin
 unfolding pending
 fresh-pending p f h = getD-at p 0 _ 0 5 h
 
-pub fresh-revision : (p : Words) (f : ℕ) → length p ≡ labelWidth → revision (p ++ (0 ∷ f ∷ 0 ∷ [])) ≡ f
+pub fresh-revision : (p : Words) (f : ℕ) → length p ≡ labelWidth → revision narrow (p ++ (0 ∷ f ∷ 0 ∷ [])) ≡ f
 unfolding revision
 fresh-revision p f h = rw h at (getD-append-add p (0 ∷ f ∷ 0 ∷ []) 1 0)
 
@@ -291,7 +292,7 @@ module _ (n : Node) (x : ℕ) where
   unfolding labelIn withPending
   pending-label = take-set-le 5 n 5 x (omega arith)
 
-  pub pending-revision : revision (withPending n x) ≡ revision n
+  pub pending-revision : revision narrow (withPending n x) ≡ revision narrow n
   unfolding revision withPending
   pending-revision = getD-set-other n 5 6 x 0 (λ e. omega arith)
 
@@ -303,18 +304,18 @@ module _ (n : Node) (x : ℕ) where
   unfolding withPending
   pending-wide w = length-set n 5 x ∙ w
 
-  pub revision-label : labelIn (withRevision n x) ≡ labelIn n
+  pub revision-label : labelIn (withRevision narrow n x) ≡ labelIn n
   unfolding labelIn withRevision
   revision-label = take-set-le 5 n 6 x (omega arith)
 
-  pub revision-pending : pending (withRevision n x) ≡ pending n
+  pub revision-pending : pending (withRevision narrow n x) ≡ pending n
   unfolding pending withRevision
   revision-pending = getD-set-other n 6 5 x 0 (λ e. omega arith)
 
-  pub revision-revision : Wide n → revision (withRevision n x) ≡ x
+  pub revision-revision : Wide n → revision narrow (withRevision narrow n x) ≡ x
   unfolding revision withRevision
   revision-revision w = getD-set-same n 6 x 0 (omega arith)
 
-  pub revision-wide : Wide n → Wide (withRevision n x)
+  pub revision-wide : Wide n → Wide (withRevision narrow n x)
   unfolding withRevision
   revision-wide w = length-set n 6 x ∙ w

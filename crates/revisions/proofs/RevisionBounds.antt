@@ -21,7 +21,7 @@ use Rattle.revisions.proofs.NodeRows.{Each, each-set, each-added, each-
 
 -- a node's revision is at most b
 abbrev pub Low : ℕ → Node → Type 0
-Low b n = revision n ≤ b
+Low b n = revision narrow n ≤ b
 
 -- every revision and the floor are at most b
 unfoldable pub Below : ℕ → Store → Type 0
@@ -49,7 +49,7 @@ pub worn-below : (sh : Shape) (s : Store) → isWorn narrow sh s ≡ false → B
 unfolding isWorn isHigh Below
 worn-below sh s h = (
   ltb-false (wornAbove narrow sh) (s .floor) (or-false-l (ltb (wornAbove narrow sh) (s .floor)) _ h),
-  each-map (λ n e. ltb-false (wornAbove narrow sh) (revision n) e) (s .nodes)
+  each-map (λ n e. ltb-false (wornAbove narrow sh) (revision narrow n) e) (s .nodes)
       (place-none (isHigh narrow sh) (s .nodes) (ltb-false _ _ (or-false-r (ltb (wornAbove narrow sh) (s .floor)) _ h))),
 )
 
@@ -71,30 +71,30 @@ stored-below : (b : ℕ) (p : Words) (m : Node) (s : Store) → Low b m → Belo
 unfolding Below withNode
 stored-below b p m s l h = (h .0, each-set (Low b) (s .nodes) (nodePlace p (s .nodes)) m (h .1) l)
 
-pub evict-bound : (b i : ℕ) (s : Store) → Below b s → Below b (evictNode i s)
+pub evict-bound : (b i : ℕ) (s : Store) → Below b s → Below b (evictNode narrow i s)
 unfolding Below evictNode
 evict-bound b i s h = let l = node-low b (s .nodes) i (h .1) in (omega arith, without-low b (s .nodes) i (h .1))
 
-added-below : (b : ℕ) (p : Words) (s : Store) → length p ≡ labelWidth → Below b s → Below b (added p s)
+added-below : (b : ℕ) (p : Words) (s : Store) → length p ≡ labelWidth → Below b s → Below b (added narrow p s)
 unfolding Below added
 added-below b p s five h = (h .0, each-added (Low b) (s .nodes) _ (h .1) (rw (fresh-revision p (s .floor) five) (h .0)))
 
-room-bound : (b : ℕ) (s : Store) → Below b s → BelowIn b (makeRoom s)
+room-bound : (b : ℕ) (s : Store) → Below b s → BelowIn b (makeRoom narrow s)
 unfolding makeRoom
 room-bound b s h =
     byTest (ltb (length (s .nodes)) maxNodes)
     (λ a. rw a h)
     (λ a. rw a (byTest (ltb (oldestFree (s .nodes)) (length (s .nodes))) (λ o. rw o (evict-bound b _ s h)) (λ o. rw o tt)))
 
-addedIn-bound : (b : ℕ) (p : Words) (o : Option Store) → length p ≡ labelWidth → BelowIn b o → BelowIn b (addedIn p o)
+addedIn-bound : (b : ℕ) (p : Words) (o : Option Store) → length p ≡ labelWidth → BelowIn b o → BelowIn b (addedIn narrow p o)
 unfolding addedIn
 addedIn-bound b p none five h = tt
 addedIn-bound b p (some s) five h = added-below b p s five h
 
-pub ensured-bound : (b : ℕ) (p : Words) (s : Store) → length p ≡ labelWidth → Below b s → BelowIn b (ensured p s)
+pub ensured-bound : (b : ℕ) (p : Words) (s : Store) → length p ≡ labelWidth → Below b s → BelowIn b (ensured narrow p s)
 unfolding ensured
 ensured-bound b p s five h =
-    byTest (isPresent p s) (λ e. rw e h) (λ e. rw e (addedIn-bound b p (makeRoom s) five (room-bound b s h)))
+    byTest (isPresent p s) (λ e. rw e h) (λ e. rw e (addedIn-bound b p (makeRoom narrow s) five (room-bound b s h)))
 
 node-below : (b : ℕ) (p : Words) (s : Store) → Below b s → Low b (nodeOf p s)
 unfolding Below nodeOf
@@ -110,7 +110,7 @@ announcedIn-bound b p none h = tt
 announcedIn-bound b p (some s) h =
     byTest (leb maxPending (pending (nodeOf p s))) (λ e. rw e tt) (λ e. rw e (repended-below b p _ s h))
 
-pub announced-bound : (b : ℕ) (p : Words) (s : Store) → length p ≡ labelWidth → Below b s → BelowIn b (announced p s)
+pub announced-bound : (b : ℕ) (p : Words) (s : Store) → length p ≡ labelWidth → Below b s → BelowIn b (announced narrow p s)
 unfolding announced
 announced-bound b p s five h = announcedIn-bound b p _ (ensured-bound b p s five h)
 
@@ -130,13 +130,13 @@ set-most b [] i x h k = k
 set-most b (y ∷ l) zero x h k = h
 set-most b (y ∷ l) (suc i) x h k = set-most b l i x h k
 
-lifted-low : (b : ℕ) (n : Node) → Low b n → Low (b + 1) (withRevision n (revision n + 1))
+lifted-low : (b : ℕ) (n : Node) → Low b n → Low (b + 1) (withRevision narrow n (revision narrow n + 1))
 unfolding withRevision revision
 lifted-low b n h = set-most (b + 1) n 6 _ (omega arith) (omega arith)
 
 pub raised-bound : (b : ℕ) (p : Words) (s : Store) → Below b s → BelowIn (b + 1) (raised narrow p s)
 unfolding raised
 raised-bound b p s h =
-    byTest (isPending p s && ltb (revision (nodeOf p s)) (maxRevision narrow))
+    byTest (isPending p s && ltb (revision narrow (nodeOf p s)) (maxRevision narrow))
     (λ e. rw e (released-bound (b + 1) p _ (stored-below (b + 1) p _ s (lifted-low b (nodeOf p s) (node-below b p s h)) (below-more s (omega arith) h))))
     (λ e. rw e tt)

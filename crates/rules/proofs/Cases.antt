@@ -113,9 +113,9 @@ plays m (filed-under i l ∷ ls) = same (take (length l) (drop 8 (getD (answersI
 plays m (filed-count n ∷ ls) = eqb (length (answersIn narrow (m .answers))) n && plays m ls
 plays m (table-count n ∷ ls) = eqb (length (recordsIn 1 (m .table))) n && plays m ls
 plays m (node-is i p x ∷ ls) =
-    let n = getD (storeIn (m .nodes) .nodes) i [] in
-    same (labelIn n) (labelWords p) && (eqb (revision n) x && plays m ls)
-plays m (floor-is f ∷ ls) = eqb (storeIn (m .nodes) .floor) f && plays m ls
+    let n = getD (storeIn narrow (m .nodes) .nodes) i [] in
+    same (labelIn n) (labelWords p) && (eqb (revision narrow n) x && plays m ls)
+plays m (floor-is f ∷ ls) = eqb (storeIn narrow (m .nodes) .floor) f && plays m ls
 
 pub data Row : Type 0 where
   states : nodes.Row → Row

@@ -143,7 +143,7 @@ pub record Begins (m : Mem) (x d : ℕ) (a : List ℕ) : Type 0 where
   pub names : x ≡ inserts → namesAll (queryOf a) ≡ true
   pub below : d < maxClients
   pub rests : isIdle narrow (client m d) ≡ true
-  pub fresh : (x ≡ reads → ⊥) → isWorn narrow (shape m) (storeIn (m .nodes)) ≡ false
+  pub fresh : (x ≡ reads → ⊥) → isWorn narrow (shape m) (storeIn narrow (m .nodes)) ≡ false
 
 -- of two tests that do not both pass, where the first does
 and-rest : (a b : Bool) → a && b ≡ false → a ≡ true → b ≡ false
@@ -164,7 +164,7 @@ begin-passed m x d a e =
     let p4 = passed (noClient d) 3 _ (p3 .1) in
     let p5 = passed (isBad narrow (shape m) (client m d)) 2 _ (p4 .1) in
     let p6 = passed (not (isIdle narrow (client m d))) 4 _ (p5 .1) in
-    let p7 = passed (not (eqb x reads) && isWorn narrow (shape m) (storeIn (m .nodes))) 9 0 (p6 .1) in
+    let p7 = passed (not (eqb x reads) && isWorn narrow (shape m) (storeIn narrow (m .nodes))) 9 0 (p6 .1) in
     let q = query-passed (columns m) x a (p2 .0) in
     record {
       memories = sound m (p1 .0) (p3 .0);
@@ -189,12 +189,12 @@ evict-answer-passed m i e =
     (p .0, leb-false _ _ (passed (leb (getD (m .answers) answerCountOffset 0) i) 7 0 (p .1) .0))
 
 pub evict-node-passed : (m : Mem) (i : ℕ) → evictNodeCode m i ≡ 0
-    → Sound m × (i < getD (m .nodes) nodeCountOffset 0) × (pending (getD (storeIn (m .nodes) .nodes) i []) ≡ 0)
+    → Sound m × (i < getD (m .nodes) nodeCountOffset 0) × (pending (getD (storeIn narrow (m .nodes) .nodes) i []) ≡ 0)
 unfolding evictNodeCode
 evict-node-passed m i e =
     let p = sound-passed m _ e in
     let r = passed (leb (getD (m .nodes) nodeCountOffset 0) i) 7 _ (p .1) in
-    let s = ltb-false 0 (pending (getD (storeIn (m .nodes) .nodes) i [])) (passed (ltb 0 (pending (getD (storeIn (m .nodes) .nodes) i []))) 8 0 (r .1) .0) in
+    let s = ltb-false 0 (pending (getD (storeIn narrow (m .nodes) .nodes) i [])) (passed (ltb 0 (pending (getD (storeIn narrow (m .nodes) .nodes) i []))) 8 0 (r .1) .0) in
     (p .0, leb-false _ _ (r .0), omega arith)
 
 pub renew-passed : (m : Mem) → renewCode m ≡ 0 → Sound m × ((d : ℕ) → d < maxClients → isIdle narrow (client m d) ≡ true)

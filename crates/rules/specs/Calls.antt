@@ -45,7 +45,7 @@ unfoldable pub abandoned : Mem → ℕ → Result
 abandoned m d =
     cond (eqb (kind (client m d)) reads) (result Accepted (nowAt m d (idle (form m))))
     (takenBack m d
-    (releasedAll (announcedLabels (queryAt (shape m) (client m d)) (steps (client m d))) (storeIn (m .nodes))))
+    (releasedAll (announcedLabels (queryAt (shape m) (client m d)) (steps (client m d))) (storeIn (form m) (m .nodes))))
 
 unfoldable pub abandonResult : Mem → ℕ → Result
 abandonResult m d = unless (abandonCode m d) m (abandoned m d)
@@ -57,7 +57,7 @@ evictAnswerResult m i =
     (result Accepted (withFiled m (withAnswers (form m) (m .answers) (without i (answersIn (form m) (m .answers))))))
 
 unfoldable pub evictNodeResult : Mem → ℕ → Result
-evictNodeResult m i = unless (evictNodeCode m i) m (result Accepted (storeBack m (evictNode i (storeIn (m .nodes)))))
+evictNodeResult m i = unless (evictNodeCode m i) m (result Accepted (storeBack m (evictNode (form m) i (storeIn (form m) (m .nodes)))))
 
 -- "**Renew.** With all desks idle: answers and nodes are emptied, the floor is 1, the table stays."
 unfoldable pub renewResult : Mem → Result

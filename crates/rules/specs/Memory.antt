@@ -31,11 +31,11 @@ unfoldable pub withRecords : ℕ → List ℕ → Table → List ℕ
 withRecords k s t = withEntries recordCountOffset k s t
 
 -- nodes: the floor, how many nodes; the nodes
-unfoldable pub storeIn : List ℕ → Store
-storeIn s = store (getD s floorOffset 0) (entriesIn nodeCountOffset nodeWidth s)
+unfoldable pub storeIn : Form → List ℕ → Store
+storeIn f s = store (getD s floorOffset 0) (entriesIn nodeCountOffset nodeWidth s)
 
-unfoldable pub withStore : List ℕ → Store → List ℕ
-withStore s st = set (withEntries nodeCountOffset nodeWidth s (st .nodes)) floorOffset (st .floor)
+unfoldable pub withStore : Form → List ℕ → Store → List ℕ
+withStore f s st = set (withEntries nodeCountOffset nodeWidth s (st .nodes)) floorOffset (st .floor)
 
 -- answers: how many; the filed answers
 unfoldable pub answersIn : Form → List ℕ → List Entry
@@ -69,7 +69,7 @@ opened f sh m =
 -- "Renew. ..: answers and nodes are emptied, the floor is 1, the table stays."
 unfoldable pub renewed : Mem → Mem
 renewed m =
-    mem (m .table) (withStore (m .nodes) (store firstFloor [])) (withAnswers (formIn (m .clients)) (m .answers) []) (m .clients)
+    mem (m .table) (withStore (formIn (m .clients)) (m .nodes) (store firstFloor [])) (withAnswers (formIn (m .clients)) (m .answers) []) (m .clients)
 
 -- a record has no update: one function for each memory that a call changes
 abbrev pub withTable : Mem → List ℕ → Mem

@@ -25,14 +25,14 @@ labelIn n = take labelWidth n
 unfoldable pub pending : Node → ℕ
 pending n = getD n pendingOffset 0
 
-unfoldable pub revision : Node → ℕ
-revision n = getD n revisionOffset 0
+unfoldable pub revision : Form → Node → ℕ
+revision f n = getD n revisionOffset 0
 
 unfoldable pub withPending : Node → ℕ → Node
 withPending n x = set n pendingOffset x
 
-unfoldable pub withRevision : Node → ℕ → Node
-withRevision n x = set n revisionOffset x
+unfoldable pub withRevision : Form → Node → ℕ → Node
+withRevision f n x = set n revisionOffset x
 
 -- "the floor, then the nodes, oldest first"
 pub record Store : Type 0 where
@@ -60,12 +60,12 @@ unfoldable pub withNode : Words → Node → Store → Store
 withNode p n s = store (s .floor) (set (s .nodes) (nodePlace p (s .nodes)) n)
 
 -- "A node's leaving sets the floor to the larger of floor and its counter." (The paper's putting out is an eviction.)
-unfoldable pub evictNode : ℕ → Store → Store
-evictNode i s = store (max (s .floor) (revision (getD (s .nodes) i []))) (without i (s .nodes))
+unfoldable pub evictNode : Form → ℕ → Store → Store
+evictNode f i s = store (max (s .floor) (revision f (getD (s .nodes) i []))) (without i (s .nodes))
 
 -- "A missing node is added last, with the floor as counter and 0 marks"
-unfoldable pub added : Words → Store → Store
-added p s = store (s .floor) (s .nodes ++ ((p ++ (0 ∷ s .floor ∷ 0 ∷ [])) ∷ []))
+unfoldable pub added : Form → Words → Store → Store
+added f p s = store (s .floor) (s .nodes ++ ((p ++ (0 ∷ s .floor ∷ 0 ∷ [])) ∷ []))
 
 -- "if 1,024 are there, the oldest unmarked one is put out first"
 unfoldable pub isFree : Node → Bool
@@ -74,19 +74,19 @@ isFree n = eqb (pending n) 0
 unfoldable pub oldestFree : List Node → ℕ
 oldestFree ns = place isFree ns
 
-unfoldable pub makeRoom : Store → Option Store
-makeRoom s =
+unfoldable pub makeRoom : Form → Store → Option Store
+makeRoom f s =
     cond (ltb (length (s .nodes)) maxNodes) (some s)
-    (cond (ltb (oldestFree (s .nodes)) (length (s .nodes))) (some (evictNode (oldestFree (s .nodes)) s)) none)
+    (cond (ltb (oldestFree (s .nodes)) (length (s .nodes))) (some (evictNode f (oldestFree (s .nodes)) s)) none)
 
 -- "and the floor is the one after that": the node takes the floor as the eviction has left it
-unfoldable pub addedIn : Words → Option Store → Option Store
-addedIn p none = none
-addedIn p (some s) = some (added p s)
+unfoldable pub addedIn : Form → Words → Option Store → Option Store
+addedIn f p none = none
+addedIn f p (some s) = some (added f p s)
 
 -- the store with the label's node present, or none: "no unmarked node to put out" (3)
-unfoldable pub ensured : Words → Store → Option Store
-ensured p s = cond (isPresent p s) (some s) (addedIn p (makeRoom s))
+unfoldable pub ensured : Form → Words → Store → Option Store
+ensured f p s = cond (isPresent p s) (some s) (addedIn f p (makeRoom f s))
 
 -- *mark*: "marks go up by one, a missing node being added as above"; none: "marks at 12 or more to add to" (3)
 unfoldable pub announcedIn : Words → Option Store → Option Store
@@ -94,8 +94,8 @@ announcedIn p none = none
 announcedIn p (some s) =
     cond (leb maxPending (pending (nodeOf p s))) none (some (withNode p (withPending (nodeOf p s) (pending (nodeOf p s) + 1)) s))
 
-unfoldable pub announced : Words → Store → Option Store
-announced p s = announcedIn p (ensured p s)
+unfoldable pub announced : Form → Words → Store → Option Store
+announced f p s = announcedIn p (ensured f p s)
 
 -- "a raise or the taking back of a mark finds its node missing or unmarked" (3)
 unfoldable pub isPending : Words → Store → Bool
@@ -108,8 +108,8 @@ released p s = withNode p (withPending (nodeOf p s) (pending (nodeOf p s) - 1)) 
 -- *raise*: "counter up by one, marks down by one"; none: also "a counter at its largest to raise" (3)
 unfoldable pub raised : Form → Words → Store → Option Store
 raised f p s =
-    cond (isPending p s && ltb (revision (nodeOf p s)) (maxRevision f))
-    (some (released p (withNode p (withRevision (nodeOf p s) (revision (nodeOf p s) + 1)) s))) none
+    cond (isPending p s && ltb (revision f (nodeOf p s)) (maxRevision f))
+    (some (released p (withNode p (withRevision f (nodeOf p s) (revision f (nodeOf p s) + 1)) s))) none
 
 -- "takes back the marks it has set": all of them, or none where one is not there to be taken back
 unfoldable pub releasedAll : List Words → Store → Option Store
@@ -118,7 +118,7 @@ releasedAll (p ∷ ps) s = cond (isPending p s) (releasedAll ps (released p s)) 
 
 -- "the floor or a counter is above 4,294,967,103" (10)
 unfoldable pub isHigh : Form → Shape → Node → Bool
-isHigh f sh n = ltb (wornAbove f sh) (revision n)
+isHigh f sh n = ltb (wornAbove f sh) (revision f n)
 
 unfoldable pub isWorn : Form → Shape → Store → Bool
 isWorn f sh s = ltb (wornAbove f sh) (s .floor) || ltb (place (isHigh f sh) (s .nodes)) (length (s .nodes))

@@ -81,7 +81,7 @@ beginCode m x d a =
     (refuse (noClient d) refusedNoClient
     (refuse (isBad (form m) (shape m) (client m d)) refusedUnsound
     (refuse (not (isIdle (form m) (client m d))) refusedTaken
-    (refuse (not (eqb x reads) && isWorn (form m) (shape m) (storeIn (m .nodes))) refusedWorn 0))))))
+    (refuse (not (eqb x reads) && isWorn (form m) (shape m) (storeIn (form m) (m .nodes))) refusedWorn 0))))))
 
 -- "6 idle: step or abandon at an idle desk"
 unfoldable pub atClient : Mem → ℕ → ℕ
@@ -110,7 +110,7 @@ evictNodeCode m i =
     refuse (isShort (form m) (shape m) m) refusedShort
     (refuse (isUnsound m) refusedUnsound
     (refuse (leb (getD (m .nodes) nodeCountOffset 0) i) refusedNoEntry
-    (refuse (ltb 0 (pending (getD (storeIn (m .nodes) .nodes) i []))) refusedPending 0)))
+    (refuse (ltb 0 (pending (getD (storeIn (form m) (m .nodes) .nodes) i []))) refusedPending 0)))
 
 unfoldable pub renewCode : Mem → ℕ
 renewCode m =

@@ -25,7 +25,7 @@ unfoldable pub nowAt : Mem → ℕ → Client → Mem
 nowAt m d c = withClients m (withClient (form m) (m .clients) d c)
 
 unfoldable pub storeBack : Mem → Store → Mem
-storeBack m s = withNodes m (withStore (m .nodes) s)
+storeBack m s = withNodes m (withStore (form m) (m .nodes) s)
 
 -- "An answer writes its records, k numbers each, from the tray's start and reports their count and whether it was filed before;
 -- the rest of the tray keeps its contents."
@@ -36,7 +36,7 @@ answered m tray d n l cached = resultWith (Answered n cached) (nowAt m d (idle (
 unfoldable pub lookResult : Mem → List ℕ → ℕ → ℕ → Words → Option Store → StepResult
 lookResult m tray d j p none = resultWith (Refused refusedUnsound) m tray
 lookResult m tray d j p (some s) =
-    resultWith Accepted (nowAt (storeBack m s) d (noted (form m) j (revision (nodeOf p s)) (pending (nodeOf p s)) (client m d))) tray
+    resultWith Accepted (nowAt (storeBack m s) d (noted (form m) j (revision (form m) (nodeOf p s)) (pending (nodeOf p s)) (client m d))) tray
 
 -- "Then *fetch*: if no look saw a mark and an answer is filed for this query whose revision at every node is at least the one noted,
 -- the read answers with it."
@@ -63,7 +63,7 @@ fileResult m tray d e =
 
 unfoldable pub readResult : Mem → List ℕ → ℕ → Query → ℕ → StepResult
 readResult m tray d q i =
-    cond (ltb i (readCount q)) (lookResult m tray d i (labelWords (readNode q i)) (ensured (labelWords (readNode q i)) (storeIn (m .nodes))))
+    cond (ltb i (readCount q)) (lookResult m tray d i (labelWords (readNode q i)) (ensured (form m) (labelWords (readNode q i)) (storeIn (form m) (m .nodes))))
     (cond (eqb i (readCount q)) (fetchResult m tray d (fetchPlace (form m) (readCount q) (entryOf (client m d)) (answersIn (form m) (m .answers))))
     (cond (eqb i (readCount q + 1)) (tableResult m tray d (listOf q (recordsIn (columns m) (m .table))))
     (fileResult m tray d (entryOf (client m d)))))
@@ -93,10 +93,10 @@ raiseResult m tray d isLast (some s) =
 
 unfoldable pub writeResult : Mem → List ℕ → ℕ → Write → Query → ℕ → StepResult
 writeResult m tray d w q i =
-    cond (ltb i (writeCount q)) (announceResult m tray d (announced (labelWords (writeNode q i)) (storeIn (m .nodes))))
+    cond (ltb i (writeCount q)) (announceResult m tray d (announced (form m) (labelWords (writeNode q i)) (storeIn (form m) (m .nodes))))
     (cond (eqb i (writeCount q)) (writeTableResult m tray d w)
     (raiseResult m tray d (eqb i (writeCount q + writeCount q))
-    (raised (form m) (labelWords (writeNode q (i - (writeCount q + 1)))) (storeIn (m .nodes)))))
+    (raised (form m) (labelWords (writeNode q (i - (writeCount q + 1)))) (storeIn (form m) (m .nodes)))))
 
 unfoldable pub progress : Mem → List ℕ → ℕ → StepResult
 progress m tray d =

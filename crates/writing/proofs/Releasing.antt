@@ -86,20 +86,20 @@ found-cond true s = refl
 found-cond false s = refl
 
 module _ (q : Query) (n : ℕ) (s : List ℕ) where
-  pub test-start : n ≤ writeCount q → isFound (releasedAll (announcedLabels q n) (storeIn s)) ≡ allPending (rest q n 0) (storeIn s)
+  pub test-start : n ≤ writeCount q → isFound (releasedAll (announcedLabels q n) (storeIn narrow s)) ≡ allPending (rest q n 0) (storeIn narrow s)
   unfolding announcedLabels rest
   test-start h =
       let z : n - 0 ≡ n = omega arith in
       let l : List Words = listed (labelAt q) 0 n in
-      rw z (ap isFound (releasedAll-tests l (storeIn s) (apart q 0 n (omega arith))) ∙ found-cond (allPending l (storeIn s)) (releasedEach l (storeIn s)))
+      rw z (ap isFound (releasedAll-tests l (storeIn narrow s) (apart q 0 n (omega arith))) ∙ found-cond (allPending l (storeIn narrow s)) (releasedEach l (storeIn narrow s)))
 
-  module _ (b : Bool) (j : ℕ) (e : b ≡ allPending (rest q n j) (storeIn s)) where
+  module _ (b : Bool) (j : ℕ) (e : b ≡ allPending (rest q n j) (storeIn narrow s)) where
     pub test-end : n ≤ j → true ≡ b
     unfolding allPending
     test-end h = sym (e ∙ rw (rest-none q n j h))
 
-    module _ (p : Words) (r : Bool) (f : p ≡ labelAt q j) (g : r ≡ isPending p (storeIn s)) (h : j < n) where
-      pub test-next : r ≡ true → b ≡ allPending (rest q n (j + 1)) (storeIn s)
+    module _ (p : Words) (r : Bool) (f : p ≡ labelAt q j) (g : r ≡ isPending p (storeIn narrow s)) (h : j < n) where
+      pub test-next : r ≡ true → b ≡ allPending (rest q n (j + 1)) (storeIn narrow s)
       unfolding allPending
       test-next z = e ∙ rw (rest-more q n j h, ← f, ← g, z)
 
@@ -169,11 +169,11 @@ few-nodes k cols n h e =
 pub record Taking (l s₀ s : List ℕ) (j : ℕ) : Type 0 where
   pub fit : Fit s
   pub size : length s ≡ length s₀
-  pub can : CanTakeOff (drop j l) (storeIn s)
-  pub left : takenOff (drop j l) (storeIn s) ≡ takenOff l (storeIn s₀)
-  pub mem : s ≡ withStore s₀ (storeIn s)
+  pub can : CanTakeOff (drop j l) (storeIn narrow s)
+  pub left : takenOff (drop j l) (storeIn narrow s) ≡ takenOff l (storeIn narrow s₀)
+  pub mem : s ≡ withStore narrow s₀ (storeIn narrow s)
 
-pub taking-none : (l s : List ℕ) → Fit s → CanTakeOff l (storeIn s) → Taking l s s 0
+pub taking-none : (l s : List ℕ) → Fit s → CanTakeOff l (storeIn narrow s) → Taking l s s 0
 taking-none l s f c = record { fit = f; size = refl; can = c; left = refl; mem = sym (store-self s f) }
 
 length-released : (i : ℕ) (s : Store) → length (releasedAt i s .nodes) ≡ length (s .nodes)
@@ -185,34 +185,34 @@ module _ (l s₀ s : List ℕ) (j : ℕ) (x : Taking l s₀ s j) where
     next : drop j l ≡ getD l j 0 ∷ drop (j + 1) l
     next = drop-cons l j 0 h ∙ ap (λ (m : ℕ). getD l j 0 ∷ drop m l) (sym (add-one j))
 
-    can-take : ((getD l j 0 < length (storeIn s .nodes)) × (0 < pending (getD (storeIn s .nodes) (getD l j 0) []))) × CanTakeOff (drop (j + 1) l) (releasedAt (getD l j 0) (storeIn s))
+    can-take : ((getD l j 0 < length (storeIn narrow s .nodes)) × (0 < pending (getD (storeIn narrow s .nodes) (getD l j 0) []))) × CanTakeOff (drop (j + 1) l) (releasedAt (getD l j 0) (storeIn narrow s))
     unfolding CanTakeOff
-    can-take = subst (λ (m : List ℕ). CanTakeOff m (storeIn s)) next (x .can)
+    can-take = subst (λ (m : List ℕ). CanTakeOff m (storeIn narrow s)) next (x .can)
 
-    pub taking-pending : (getD l j 0 < getD s 1 0) × (0 < pending (getD (storeIn s .nodes) (getD l j 0) []))
-    taking-pending = let n : length (storeIn s .nodes) ≡ getD s 1 0 = count-nodes s in let c = can-take .0 in (omega arith, c .1)
+    pub taking-pending : (getD l j 0 < getD s 1 0) × (0 < pending (getD (storeIn narrow s .nodes) (getD l j 0) []))
+    taking-pending = let n : length (storeIn narrow s .nodes) ≡ getD s 1 0 = count-nodes s in let c = can-take .0 in (omega arith, c .1)
 
-    pub taking-more : Fit s₀ → (u : List ℕ) → u ≡ withStore s (releasedAt (getD l j 0) (storeIn s)) → Taking l s₀ u (j + 1)
+    pub taking-more : Fit s₀ → (u : List ℕ) → u ≡ withStore narrow s (releasedAt (getD l j 0) (storeIn narrow s)) → Taking l s₀ u (j + 1)
     unfolding takenOff
     taking-more f₀ u e =
-        let t : Store = releasedAt (getD l j 0) (storeIn s) in
-        let z : Sized t = sized-released-at (getD l j 0) (storeIn s) (can-take .0 .0) (sized-in s (x .fit)) in
-        let k : Keeps s (withStore s t) = keeps-released-at s (x .fit) (getD l j 0) (taking-pending .0) in
-        let b : storeIn u ≡ t = ap storeIn e ∙ store-back s t (x .fit) z in
+        let t : Store = releasedAt (getD l j 0) (storeIn narrow s) in
+        let z : Sized t = sized-released-at (getD l j 0) (storeIn narrow s) (can-take .0 .0) (sized-in s (x .fit)) in
+        let k : Keeps s (withStore narrow s t) = keeps-released-at s (x .fit) (getD l j 0) (taking-pending .0) in
+        let b : storeIn narrow u ≡ t = ap (storeIn narrow) e ∙ store-back s t (x .fit) z in
         record {
           fit = rw e (k .fit);
           size = ap length e ∙ k .size ∙ x .size;
           can = subst (CanTakeOff (drop (j + 1) l)) (sym b) (can-take .1);
-          left = ap (takenOff (drop (j + 1) l)) b ∙ sym (ap (λ (m : List ℕ). takenOff m (storeIn s)) next) ∙ x .left;
+          left = ap (takenOff (drop (j + 1) l)) b ∙ sym (ap (λ (m : List ℕ). takenOff m (storeIn narrow s)) next) ∙ x .left;
           mem =
-              e ∙ ap (λ (y : List ℕ). withStore y t) (x .mem)
-              ∙ store-twice s₀ (storeIn s) t f₀ (sized-in s (x .fit)) z (λ y. omega (arith, length-released (getD l j 0) (storeIn s)))
-              ∙ ap (withStore s₀) (sym b);
+              e ∙ ap (λ (y : List ℕ). withStore narrow y t) (x .mem)
+              ∙ store-twice s₀ (storeIn narrow s) t f₀ (sized-in s (x .fit)) z (λ y. omega (arith, length-released (getD l j 0) (storeIn narrow s)))
+              ∙ ap (withStore narrow s₀) (sym b);
         }
 
-  pub taking-all : length l ≤ j → s ≡ withStore s₀ (takenOff l (storeIn s₀))
+  pub taking-all : length l ≤ j → s ≡ withStore narrow s₀ (takenOff l (storeIn narrow s₀))
   unfolding takenOff
-  taking-all h = x .mem ∙ ap (withStore s₀) (sym (ap (λ (m : List ℕ). takenOff m (storeIn s)) (drop-of-length-le l h)) ∙ x .left)
+  taking-all h = x .mem ∙ ap (withStore narrow s₀) (sym (ap (λ (m : List ℕ). takenOff m (storeIn narrow s)) (drop-of-length-le l h)) ∙ x .left)
 
 -- ---- by places as by labels
 found-first : (p : Words) (l : List Words) (s : Store) → isFound (releasedAll (p ∷ l) s) ≡ true
@@ -254,18 +254,18 @@ by-places (p ∷ ps) s h =
       f .1 ∙ r .1 ∙ ap₂ (λ (l : List ℕ) (t : Store). some (takenOff l t)) e u,
     )
 
-module _ (ps : List Words) (s l : List ℕ) (o : isFound (releasedAll ps (storeIn s)) ≡ true) (e : l ≡ placesOf ps (storeIn s)) where
-  pub can-take-off : CanTakeOff l (storeIn s)
-  can-take-off = subst (λ (m : List ℕ). CanTakeOff m (storeIn s)) (sym e) (by-places ps (storeIn s) o .0)
+module _ (ps : List Words) (s l : List ℕ) (o : isFound (releasedAll ps (storeIn narrow s)) ≡ true) (e : l ≡ placesOf ps (storeIn narrow s)) where
+  pub can-take-off : CanTakeOff l (storeIn narrow s)
+  can-take-off = subst (λ (m : List ℕ). CanTakeOff m (storeIn narrow s)) (sym e) (by-places ps (storeIn narrow s) o .0)
 
-  pub took-off : (u : List ℕ) → u ≡ withStore s (takenOff l (storeIn s)) → contracts.attempt true u ≡ tried s (releasedAll ps (storeIn s))
+  pub took-off : (u : List ℕ) → u ≡ withStore narrow s (takenOff l (storeIn narrow s)) → contracts.attempt true u ≡ tried s (releasedAll ps (storeIn narrow s))
   unfolding tried
   took-off u f =
-      ap (contracts.attempt true) (f ∙ ap (λ (m : List ℕ). withStore s (takenOff m (storeIn s))) e)
-      ∙ ap (tried s) (sym (by-places ps (storeIn s) o .1))
+      ap (contracts.attempt true) (f ∙ ap (λ (m : List ℕ). withStore narrow s (takenOff m (storeIn narrow s))) e)
+      ∙ ap (tried s) (sym (by-places ps (storeIn narrow s) o .1))
 
 -- ---- the call
-back-stored : (t n a s : List ℕ) (d : ℕ) (o : Option Store) (u : List ℕ) (st : Store) (v : List ℕ) → o ≡ some st → u ≡ withStore n st → v ≡ withClient narrow s d (idle narrow)
+back-stored : (t n a s : List ℕ) (d : ℕ) (o : Option Store) (u : List ℕ) (st : Store) (v : List ℕ) → o ≡ some st → u ≡ withStore narrow n st → v ≡ withClient narrow s d (idle narrow)
     → result Accepted (mem t u a v) ≡ takenBack (mem t n a s) d o
 unfolding takenBack nowAt storeBack
 back-stored t n a s d o u st v e f l = rw (e, f, l)
@@ -282,15 +282,15 @@ pub back-few : (k : ℕ) (c : Client) (cols : List Column) (i : ℕ) → cols �
 back-few k c cols i e f h m = few-nodes k cols i m (back-fits k c cols i e f h)
 
 module _ (t n a s : List ℕ) (d k : ℕ) (cols : List Column) (i : ℕ) (e : cols ≡ four (queryAt (shapeOf k) (clientIn narrow s d))) (f : i ≡ steps (clientIn narrow s d)) where
-  same-labels : releasedAll (announcedLabels (take k cols) i) (storeIn n) ≡ releasedAll (announcedLabels (queryAt (shapeOf k) (clientIn narrow s d)) (steps (clientIn narrow s d))) (storeIn n)
+  same-labels : releasedAll (announcedLabels (take k cols) i) (storeIn narrow n) ≡ releasedAll (announcedLabels (queryAt (shapeOf k) (clientIn narrow s d)) (steps (clientIn narrow s d))) (storeIn narrow n)
   same-labels = rw (columns-back k (clientIn narrow s d) cols e, f)
 
-  pub back-refused : (b : Bool) → b ≡ isFound (releasedAll (announcedLabels (take k cols) i) (storeIn n)) → b ≡ false
-      → result (Refused 3) (mem t n a s) ≡ takenBack (mem t n a s) d (releasedAll (announcedLabels (queryAt (shapeOf k) (clientIn narrow s d)) (steps (clientIn narrow s d))) (storeIn n))
+  pub back-refused : (b : Bool) → b ≡ isFound (releasedAll (announcedLabels (take k cols) i) (storeIn narrow n)) → b ≡ false
+      → result (Refused 3) (mem t n a s) ≡ takenBack (mem t n a s) d (releasedAll (announcedLabels (queryAt (shapeOf k) (clientIn narrow s d)) (steps (clientIn narrow s d))) (storeIn narrow n))
   back-refused b g z = back-none (mem t n a s) d _ (sym (ap isFound same-labels) ∙ sym g ∙ z)
 
-  pub back-done : (u v : List ℕ) → contracts.attempt true u ≡ tried n (releasedAll (announcedLabels (take k cols) i) (storeIn n)) → v ≡ withClient narrow s d (idle narrow)
-      → result Accepted (mem t u a v) ≡ takenBack (mem t n a s) d (releasedAll (announcedLabels (queryAt (shapeOf k) (clientIn narrow s d)) (steps (clientIn narrow s d))) (storeIn n))
+  pub back-done : (u v : List ℕ) → contracts.attempt true u ≡ tried n (releasedAll (announcedLabels (take k cols) i) (storeIn narrow n)) → v ≡ withClient narrow s d (idle narrow)
+      → result Accepted (mem t u a v) ≡ takenBack (mem t n a s) d (releasedAll (announcedLabels (queryAt (shapeOf k) (clientIn narrow s d)) (steps (clientIn narrow s d))) (storeIn narrow n))
   back-done u v g l =
       let x : Went n _ u = went-well n _ u (g ∙ ap (tried n) same-labels) in
       back-stored t n a s d _ u (x .store) v (x .is) (x .mem) l

@@ -84,12 +84,12 @@ label-is k c cols j i p e f g = rw (e, columns-back k c cols f, g)
 
 -- ---- the steps
 module _ (t n a s y : List ℕ) (d : ℕ) (w : Write) (q : Query) (i : ℕ) (u : List ℕ) (st : Store) (v : List ℕ) where
-  announce-stored : i < writeCount q → announced (labelWords (writeNode q i)) (storeIn n) ≡ some st → u ≡ withStore n st → v ≡ withClient narrow s d (stepped (clientIn narrow s d))
+  announce-stored : i < writeCount q → announced narrow (labelWords (writeNode q i)) (storeIn narrow n) ≡ some st → u ≡ withStore narrow n st → v ≡ withClient narrow s d (stepped (clientIn narrow s d))
       → resultWith Accepted (mem t u a v) y ≡ writeResult (mem t n a s) y d w q i
   unfolding writeResult announceResult nowAt storeBack client
   announce-stored h e f l = rw (lt-ltb i (writeCount q) h, e, f, l)
 
-  raise-stored : writeCount q < i → raised narrow (labelWords (writeNode q (i - (writeCount q + 1)))) (storeIn n) ≡ some st → u ≡ withStore n st
+  raise-stored : writeCount q < i → raised narrow (labelWords (writeNode q (i - (writeCount q + 1)))) (storeIn narrow n) ≡ some st → u ≡ withStore narrow n st
       → (last : Bool) (o : Outcome) → last ≡ eqb i (writeCount q + writeCount q) → (o ≡ raiseEnd last (clientIn narrow s d)) × (v ≡ withClient narrow s d (raiseLeft last (clientIn narrow s d)))
       → resultWith o (mem t u a v) y ≡ writeResult (mem t n a s) y d w q i
   unfolding writeResult raiseResult nowAt storeBack client raiseEnd raiseLeft
@@ -97,36 +97,36 @@ module _ (t n a s y : List ℕ) (d : ℕ) (w : Write) (q : Query) (i : ℕ) (u :
       rw (le-ltb i (writeCount q) (omega arith), ne-eqb i (writeCount q) (λ r. omega arith), e, ← m, f, l .0, l .1) (go last)
     where
       go : (f : Bool)
-          → resultWith (cond f (endOf (clientIn narrow s d)) Accepted) (mem t (withStore n st) a (withClient narrow s d (cond f (idle narrow) (stepped (clientIn narrow s d))))) y
-          ≡ cond f (resultWith (endOf (clientIn narrow s d)) (mem t (withStore n st) a (withClient narrow s d (idle narrow))) y) (resultWith Accepted (mem t (withStore n st) a (withClient narrow s d (stepped (clientIn narrow s d)))) y)
+          → resultWith (cond f (endOf (clientIn narrow s d)) Accepted) (mem t (withStore narrow n st) a (withClient narrow s d (cond f (idle narrow) (stepped (clientIn narrow s d))))) y
+          ≡ cond f (resultWith (endOf (clientIn narrow s d)) (mem t (withStore narrow n st) a (withClient narrow s d (idle narrow))) y) (resultWith Accepted (mem t (withStore narrow n st) a (withClient narrow s d (stepped (clientIn narrow s d)))) y)
       go true = refl
       go false = refl
 
 module _ (t n a s y : List ℕ) (d : ℕ) (w : Write) (q : Query) (i : ℕ) (p : Words) (b : Bool) (u : List ℕ) where
-  module _ (e : p ≡ labelWords (writeNode q i)) (g : attempt b u ≡ tried n (announced p (storeIn n))) (h : i < writeCount q) where
+  module _ (e : p ≡ labelWords (writeNode q i)) (g : attempt b u ≡ tried n (announced narrow p (storeIn narrow n))) (h : i < writeCount q) where
     pub announce-refused : b ≡ false → resultWith (Refused 3) (mem t u a s) y ≡ writeResult (mem t n a s) y d w q i
     unfolding writeResult announceResult
     announce-refused z =
-        let x = went-not n (announced p (storeIn n)) u (rw z at g) in
+        let x = went-not n (announced narrow p (storeIn narrow n)) u (rw z at g) in
         rw (lt-ltb i (writeCount q) h, ← e, x .0, x .1)
 
     pub announce-done : b ≡ true → (v : List ℕ) → v ≡ withClient narrow s d (stepped (clientIn narrow s d)) → resultWith Accepted (mem t u a v) y ≡ writeResult (mem t n a s) y d w q i
     announce-done z v l =
-        let x : Went n (announced p (storeIn n)) u = went-well n (announced p (storeIn n)) u (rw z at g) in
-        announce-stored t n a s y d w q i u (x .store) v h (ap (λ (m : Words). announced m (storeIn n)) (sym e) ∙ x .is) (x .mem) l
+        let x : Went n (announced narrow p (storeIn narrow n)) u = went-well n (announced narrow p (storeIn narrow n)) u (rw z at g) in
+        announce-stored t n a s y d w q i u (x .store) v h (ap (λ (m : Words). announced narrow m (storeIn narrow n)) (sym e) ∙ x .is) (x .mem) l
 
-  module _ (e : p ≡ labelWords (writeNode q (i - (writeCount q + 1)))) (g : attempt b u ≡ tried n (raised narrow p (storeIn n))) (h : writeCount q < i) where
+  module _ (e : p ≡ labelWords (writeNode q (i - (writeCount q + 1)))) (g : attempt b u ≡ tried n (raised narrow p (storeIn narrow n))) (h : writeCount q < i) where
     pub raise-refused : b ≡ false → resultWith (Refused 3) (mem t u a s) y ≡ writeResult (mem t n a s) y d w q i
     unfolding writeResult raiseResult
     raise-refused z =
-        let x = went-not n (raised narrow p (storeIn n)) u (rw z at g) in
+        let x = went-not n (raised narrow p (storeIn narrow n)) u (rw z at g) in
         rw (le-ltb i (writeCount q) (omega arith), ne-eqb i (writeCount q) (λ m. omega arith), ← e, x .0, x .1)
 
     pub raise-done : b ≡ true → (last : Bool) (o : Outcome) (v : List ℕ) → last ≡ eqb i (writeCount q + writeCount q)
         → (o ≡ raiseEnd last (clientIn narrow s d)) × (v ≡ withClient narrow s d (raiseLeft last (clientIn narrow s d))) → resultWith o (mem t u a v) y ≡ writeResult (mem t n a s) y d w q i
     raise-done z last o v m l =
-        let x : Went n (raised narrow p (storeIn n)) u = went-well n (raised narrow p (storeIn n)) u (rw z at g) in
-        raise-stored t n a s y d w q i u (x .store) v h (ap (λ (m : Words). raised narrow m (storeIn n)) (sym e) ∙ x .is) (x .mem) last o m l
+        let x : Went n (raised narrow p (storeIn narrow n)) u = went-well n (raised narrow p (storeIn narrow n)) u (rw z at g) in
+        raise-stored t n a s y d w q i u (x .store) v h (ap (λ (m : Words). raised narrow m (storeIn narrow n)) (sym e) ∙ x .is) (x .mem) last o m l
 
 pub table-done : (t n a s y : List ℕ) (d k : ℕ) (w w′ : Write) (q : Query) (i : ℕ) (x v : List ℕ) (r : Report) → i ≡ writeCount q → k ≡ shapeIn s .columns → w′ ≡ w
     → (r ≡ reported w′ (recordsIn k t)) × (x ≡ withRecords k t (effect w′ (recordsIn k t))) → v ≡ withClient narrow s d (wrote (r .changed) (r .full) (clientIn narrow s d))

@@ -47,7 +47,7 @@ stepOf k m tray d = writeResult m tray d (writeAt (shapeOf k) (clientIn narrow (
 
 -- what the taking back of its marks leaves
 abbrev pub backOf : ℕ → Mem → ℕ → Result
-backOf k m d = takenBack m d (releasedAll (announcedLabels (queryAt (shapeOf k) (clientIn narrow (m .clients) d)) (steps (clientIn narrow (m .clients) d))) (storeIn (m .nodes)))
+backOf k m d = takenBack m d (releasedAll (announcedLabels (queryAt (shapeOf k) (clientIn narrow (m .clients) d)) (steps (clientIn narrow (m .clients) d))) (storeIn narrow (m .nodes)))
 
 -- the write of a kind and a query
 unfoldable pub writeOf : ℕ → Query → Write

@@ -187,7 +187,7 @@ fn can_take_back(
 ) -> bool
     requires { ⌜ NodeContracts.Fit (now nodes) × ((k ≤ maxColumns) × (n ≤ writeCount (take k cols))) ⌝ }
     requires { ⌜ n ≤ length (now places) ⌝ }
-    ensures { λ r. ⌜ (r ≡ isFound (releasedAll (announcedLabels (take k cols) n) (storeIn (now (nodes .entry))))) × (r ≡ true → take n (now (places .exit)) ≡ placesOf (announcedLabels (take k cols) n) (storeIn (now (nodes .entry)))) ⌝ }
+    ensures { λ r. ⌜ (r ≡ isFound (releasedAll (announcedLabels (take k cols) n) (storeIn narrow (now (nodes .entry))))) × (r ≡ true → take n (now (places .exit)) ≡ placesOf (announcedLabels (take k cols) n) (storeIn narrow (now (nodes .entry)))) ⌝ }
 {
     let mut j = 0;
     while j < n {
@@ -205,8 +205,8 @@ fn can_take_back(
 // Takes one off the node at each place. The places are kept from the test, so no label is searched for twice.
 fn take_off(nodes: &mut [u32], places: &[usize])
     requires { ⌜ NodeContracts.Fit (now nodes) ⌝ }
-    requires { ⌜ CanTakeOff (now places) (storeIn (now nodes)) ⌝ }
-    ensures { λ _. ⌜ now (nodes .exit) ≡ withStore (now (nodes .entry)) (takenOff (now (places .entry)) (storeIn (now (nodes .entry)))) ⌝ }
+    requires { ⌜ CanTakeOff (now places) (storeIn narrow (now nodes)) ⌝ }
+    ensures { λ _. ⌜ now (nodes .exit) ≡ withStore narrow (now (nodes .entry)) (takenOff (now (places .entry)) (storeIn narrow (now (nodes .entry)))) ⌝ }
 {
     let mut done = 0;
     while done < places.len() {

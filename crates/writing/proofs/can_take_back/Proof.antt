@@ -6,6 +6,7 @@ use lib.ListN.{take}
 use Rattle.laws.proofs.TestLaws.{clash}
 use Rattle.rules.specs.Nodes.{releasedAll}
 use Rattle.rules.specs.Memory.{storeIn}
+use Rattle.query.specs.Shape.{narrow}
 use Rattle.rules.specs.Calls.{announcedLabels}
 use Rattle.revisions.proofs.Releases.{allPending}
 use Rattle.writing.specs.WriteContracts.{isFound}
@@ -16,7 +17,7 @@ use Rattle.writing.proofs.can_take_back.Tie as tie
 
 abbrev Inv-loop : tie.InvT-loop
 Inv-loop nodes cols k n places₀ j₀ places j =
-    (j ≤ n) × ((isFound (releasedAll (announcedLabels (take k cols) n) (storeIn nodes)) ≡ allPending (rest (take k cols) n j) (storeIn nodes)) × Kept (take k cols) (storeIn nodes) places₀ places j)
+    (j ≤ n) × ((isFound (releasedAll (announcedLabels (take k cols) n) (storeIn narrow nodes)) ≡ allPending (rest (take k cols) n j) (storeIn narrow nodes)) × Kept (take k cols) (storeIn narrow nodes) places₀ places j)
 
 abbrev μ-loop : tie.MeasureT-loop
 μ-loop nodes cols k n places₀ j₀ places j = n - j
