@@ -15,7 +15,7 @@ use Rattle.laws.proofs.EntryLaws.{with-append, with-remove, with-replace, with-
 use Rattle.rules.specs.Answers.{Entry, lengthIn, listIn, keyPlace, filed}
 use Rattle.lists.specs.Lists.{header}
 use Rattle.query.specs.Shape.{shapeOf, maxColumns, narrow}
-use Rattle.rules.specs.Layout.{maxAnswers, maxList, answerCountOffset, lengthOffset, listOffset, listWidth, entryWidth}
+use Rattle.rules.specs.Layout.{maxAnswers, maxList, answerCountOffset, lengthOffset, listOffset, listRoom, entryWidth}
 use Rattle.rules.specs.Memory.{answersIn, withAnswers}
 use Rattle.answers.specs.AnswerContracts.{Fit, Gave}
 use Rattle.answers.proofs.AnswerScan.{count-is, part-is}
@@ -76,7 +76,7 @@ module _ (s : List ℕ) where
       rw (← e, le-ltb i (length (answersIn narrow s)) (omega arith), le-ltb (length (answersIn narrow s)) maxAnswers (omega arith))
 
 -- ---- what is given
-pub list-fits : (e : Entry) (k : ℕ) → lengthIn e ≤ maxList → k ≤ maxColumns → getD e lengthOffset 0 * k ≤ listWidth
+pub list-fits : (e : Entry) (k : ℕ) → lengthIn e ≤ maxList → k ≤ maxColumns → getD e lengthOffset 0 * k ≤ listRoom
 unfolding lengthIn
 list-fits e k h g = let a : getD e lengthOffset 0 * k ≤ maxList * k = mul-le-mul-right k h in omega arith
 

@@ -9,7 +9,7 @@ ghost use Rattle.lists.specs.Lists.{without, allBelow};
 ghost use Rattle.rules.specs.Answers.{hasKeyOf, atLeast, serves, fetchPlace, keyPlace, filed, someLong, lengthIn};
 ghost use Rattle.query.specs.Encoding.{keyWidth};
 ghost use Rattle.query.specs.Shape.{maxColumns, narrow};
-ghost use Rattle.rules.specs.Layout.{maxAnswers, maxList, trayLeast, answerCountOffset, maxLooks, entryWidth};
+ghost use Rattle.rules.specs.Layout.{maxAnswers, maxList, trayLeast, answerCountOffset, lookRoom, entryWidth};
 ghost use Rattle.rules.specs.Memory.{answersIn, withAnswers};
 ghost use Rattle.answers.specs.AnswerContracts.{Fit, Gave};
 
@@ -26,7 +26,7 @@ fn has_key(e: &[u32], x: &[u32]) -> bool
 
 // Whether each of e's first n revisions is at least x's.
 fn is_recent(e: &[u32], x: &[u32], n: usize) -> bool
-    requires { ⌜ (length (now e) ≡ entryWidth narrow) × ((length (now x) ≡ entryWidth narrow) × (n ≤ maxLooks)) ⌝ }
+    requires { ⌜ (length (now e) ≡ entryWidth narrow) × ((length (now x) ≡ entryWidth narrow) × (n ≤ lookRoom)) ⌝ }
     ensures { λ r. ⌜ r ≡ allBelow n (atLeast narrow (now (x .entry)) (now (e .entry))) ⌝ }
 {
     let mut j = 0;
@@ -41,7 +41,7 @@ fn is_recent(e: &[u32], x: &[u32], n: usize) -> bool
 
 // Whether e may be answered with to the client whose own entry x is. Few entries have the key, so it is compared first.
 fn may_serve(e: &[u32], x: &[u32], n: usize) -> bool
-    requires { ⌜ (length (now e) ≡ entryWidth narrow) × ((length (now x) ≡ entryWidth narrow) × (n ≤ maxLooks)) ⌝ }
+    requires { ⌜ (length (now e) ≡ entryWidth narrow) × ((length (now x) ≡ entryWidth narrow) × (n ≤ lookRoom)) ⌝ }
     ensures { λ r. ⌜ r ≡ serves narrow n (now (x .entry)) (now (e .entry)) ⌝ }
 {
     if has_key(e, x) {
@@ -53,7 +53,7 @@ fn may_serve(e: &[u32], x: &[u32], n: usize) -> bool
 
 // The place of the first entry that may be answered with, or the count where none may.
 pub fn fetch(answers: &[u32], entry: &[u32], n: usize) -> usize
-    requires { ⌜ Fit (now answers) × ((length (now entry) ≡ entryWidth narrow) × (n ≤ maxLooks)) ⌝ }
+    requires { ⌜ Fit (now answers) × ((length (now entry) ≡ entryWidth narrow) × (n ≤ lookRoom)) ⌝ }
     ensures { λ r. ⌜ r ≡ fetchPlace narrow n (now (entry .entry)) (answersIn narrow (now (answers .entry))) ⌝ }
 {
     let count = answers[Hall::ANSWER_COUNT_OFFSET] as usize;

@@ -18,7 +18,7 @@ use Rattle.query.proofs.EncodingLaws.{key-words-length}
 use Rattle.rules.specs.Client.{Client, steps, idle, begun, stepped, flag, noted, holding, wrote}
 use Rattle.query.specs.Encoding.{keyWidth}
 use Rattle.query.specs.Shape.{Shape, shapeOf, narrow}
-use Rattle.rules.specs.Layout.{listWidth, entryOffset, clientWidth, clientOffset, heldLengthOffset, notedOffset, heldListOffset}
+use Rattle.rules.specs.Layout.{listRoom, entryOffset, clientWidth, clientOffset, heldLengthOffset, notedOffset, heldListOffset}
 use Rattle.rules.specs.Memory.{clientIn, withClient}
 use Rattle.clients.specs.ClientContracts.{Fit, begunWith, listSet}
 use Rattle.clients.proofs.ClientMemory.{client-room, length-client, with-self, client-same, with-twice, with-words, part-cleared, length-kept}
@@ -41,12 +41,12 @@ module _ (c : Client) where
   unfolding wrote
   length-wrote changed full = simp length-set length-stepped
 
-  pub length-holding : (sh : Shape) (l : List Record) → length (flat l) ≤ listWidth → length c ≡ clientWidth narrow → length (holding narrow sh l c) ≡ clientWidth narrow
+  pub length-holding : (sh : Shape) (l : List Record) → length (flat l) ≤ listRoom → length c ≡ clientWidth narrow → length (holding narrow sh l c) ≡ clientWidth narrow
   unfolding holding
   length-holding sh l h e =
-      let n : length (padded listWidth (flat l)) ≡ listWidth = length-padded listWidth (flat l) h in
+      let n : length (padded listRoom (flat l)) ≡ listRoom = length-padded listRoom (flat l) h in
       let m : length (set (stepped c) heldLengthOffset (length l)) ≡ clientWidth narrow = simp length-set (length-stepped ∙ e) in
-      length-written (set (stepped c) heldLengthOffset (length l)) (heldListOffset narrow sh) (padded listWidth (flat l)) (omega arith) ∙ m
+      length-written (set (stepped c) heldLengthOffset (length l)) (heldListOffset narrow sh) (padded listRoom (flat l)) (omega arith) ∙ m
 
 pub length-begun : (x : ℕ) (q : Query) → length q ≤ 6 → length (begun narrow x q) ≡ clientWidth narrow
 unfolding begun
@@ -77,7 +77,7 @@ quiet c j revision pending z =
     rw (eq-eqb pending 0 z, ← b) (set-getD (set u (notedOffset narrow j) revision) 2 0)
 
 -- zeros behind the list
-list-in : (c : Client) (n k : ℕ) → length c ≡ clientWidth narrow → n * k ≤ listWidth
+list-in : (c : Client) (n k : ℕ) → length c ≡ clientWidth narrow → n * k ≤ listRoom
     → listSet n (shapeOf k) c ≡ written (set (stepped c) heldLengthOffset n) (heldListOffset narrow (shapeOf k) + n * k) (replicate (clientWidth narrow - (heldListOffset narrow (shapeOf k) + n * k)) 0)
 unfolding listSet padded stepped
 list-in c n k e h =
@@ -85,7 +85,7 @@ list-in c n k e h =
     let l : length u ≡ clientWidth narrow = simp length-set e in
     let a : drop (heldListOffset narrow (shapeOf k)) u ≡ drop (heldListOffset narrow (shapeOf k)) c = drop-set-lt (heldListOffset narrow (shapeOf k)) (set c 1 (steps c + 1)) heldLengthOffset n (omega arith) ∙ drop-set-lt (heldListOffset narrow (shapeOf k)) c 1 (steps c + 1) (omega arith) in
     let m : length (take (n * k) (drop (heldListOffset narrow (shapeOf k)) c)) ≡ n * k = length-take-le (n * k) (drop (heldListOffset narrow (shapeOf k)) c) (rw length-drop (omega arith)) in
-    let z : listWidth - n * k ≡ clientWidth narrow - (heldListOffset narrow (shapeOf k) + n * k) = omega arith in
+    let z : listRoom - n * k ≡ clientWidth narrow - (heldListOffset narrow (shapeOf k) + n * k) = omega arith in
     rw (m, z, ← a) (written-front u (heldListOffset narrow (shapeOf k)) (n * k) (replicate (clientWidth narrow - (heldListOffset narrow (shapeOf k) + n * k)) 0) (omega arith))
 
 -- whatever lay in the list's place before, the list taken there and set is the table step's
@@ -96,16 +96,16 @@ head-set sh c₁ c n e =
     λ x. rw (take-set-lt (heldListOffset narrow sh) (set x 1 (getD x 1 0 + 1)) heldLengthOffset n (omega arith), take-set-lt (heldListOffset narrow sh) x 1 (getD x 1 0 + 1) (omega arith), getD-take (heldListOffset narrow sh) x 1 0 (omega arith)) in
     g c₁ ∙ rw e (sym (g c))
 
-behind-head : (sh : Shape) (x v : List ℕ) → length x ≡ clientWidth narrow → length v ≡ listWidth → written x (heldListOffset narrow sh) v ≡ take (heldListOffset narrow sh) x ++ v
+behind-head : (sh : Shape) (x v : List ℕ) → length x ≡ clientWidth narrow → length v ≡ listRoom → written x (heldListOffset narrow sh) v ≡ take (heldListOffset narrow sh) x ++ v
 unfolding written
 behind-head sh x v h k = let l : length x ≤ heldListOffset narrow sh + length v = omega arith in rw (drop-of-length-le x l) (append-nil (take (heldListOffset narrow sh) x ++ v))
 
 pub list-holds : (c₁ c : Client) (n k : ℕ) (l : List Record) → length c₁ ≡ clientWidth narrow → length c ≡ clientWidth narrow → take (heldListOffset narrow (shapeOf k)) c₁ ≡ take (heldListOffset narrow (shapeOf k)) c → take (n * k) (drop (heldListOffset narrow (shapeOf k)) c₁) ≡ flat l → length l ≡ n
-    → length (flat l) ≤ listWidth → listSet n (shapeOf k) c₁ ≡ holding narrow (shapeOf k) l c
+    → length (flat l) ≤ listRoom → listSet n (shapeOf k) c₁ ≡ holding narrow (shapeOf k) l c
 unfolding listSet holding
 list-holds c₁ c n k l h g e f m o =
-    let p : List ℕ = padded listWidth (flat l) in
-    let q : length p ≡ listWidth = length-padded listWidth (flat l) o in
+    let p : List ℕ = padded listRoom (flat l) in
+    let q : length p ≡ listRoom = length-padded listRoom (flat l) o in
     let a : length (set (stepped c₁) heldLengthOffset n) ≡ clientWidth narrow = length-set (stepped c₁) heldLengthOffset n ∙ length-stepped c₁ ∙ h in
     let b : length (set (stepped c) heldLengthOffset n) ≡ clientWidth narrow = length-set (stepped c) heldLengthOffset n ∙ length-stepped c ∙ g in
     rw (f, m) (behind-head (shapeOf k) (set (stepped c₁) heldLengthOffset n) p a q ∙ rw (head-set (shapeOf k) c₁ c n e) (sym (behind-head (shapeOf k) (set (stepped c) heldLengthOffset n) p b q)))
@@ -172,7 +172,7 @@ module _ (s : List ℕ) (d : ℕ) (f : Fit s d) where
 
   pub list-left : (s₁ s₂ t : List ℕ) (n k : ℕ) → s₁ ≡ withClient narrow s d (stepped (clientIn narrow s d)) → s₂ ≡ withClient narrow s₁ d (set (clientIn narrow s₁ d) heldLengthOffset n)
       → t ≡ replicate (clientWidth narrow - (heldListOffset narrow (shapeOf k) + n * k)) 0 ++ drop (clientWidth narrow - (heldListOffset narrow (shapeOf k) + n * k)) (take (clientOffset narrow d + clientWidth narrow - (clientOffset narrow d + (heldListOffset narrow (shapeOf k) + n * k))) (drop (clientOffset narrow d + (heldListOffset narrow (shapeOf k) + n * k)) s₂))
-      → n * k ≤ listWidth → putMid (clientOffset narrow d + (heldListOffset narrow (shapeOf k) + n * k)) (clientOffset narrow d + clientWidth narrow - (clientOffset narrow d + (heldListOffset narrow (shapeOf k) + n * k))) s₂ t ≡ withClient narrow s d (listSet n (shapeOf k) (clientIn narrow s d))
+      → n * k ≤ listRoom → putMid (clientOffset narrow d + (heldListOffset narrow (shapeOf k) + n * k)) (clientOffset narrow d + clientWidth narrow - (clientOffset narrow d + (heldListOffset narrow (shapeOf k) + n * k))) s₂ t ≡ withClient narrow s d (listSet n (shapeOf k) (clientIn narrow s d))
   list-left s₁ s₂ t n k e g h m =
       let c : Client = set (stepped (clientIn narrow s d)) heldLengthOffset n in
       let o : length c ≡ clientWidth narrow = length-set (stepped (clientIn narrow s d)) heldLengthOffset n ∙ length-after in
@@ -185,14 +185,14 @@ module _ (s : List ℕ) (d : ℕ) (f : Fit s d) where
 
 -- ---- a list written into its place and then set
 pub list-held : (s : List ℕ) (d : ℕ) → Fit s d → (s₁ c₁ : List ℕ) (n k : ℕ) (l : List Record) → s₁ ≡ withClient narrow s d c₁ → length c₁ ≡ clientWidth narrow
-    → take (heldListOffset narrow (shapeOf k)) c₁ ≡ take (heldListOffset narrow (shapeOf k)) (clientIn narrow s d) → take (n * k) (drop (heldListOffset narrow (shapeOf k)) c₁) ≡ flat l → length l ≡ n → length (flat l) ≤ listWidth
+    → take (heldListOffset narrow (shapeOf k)) c₁ ≡ take (heldListOffset narrow (shapeOf k)) (clientIn narrow s d) → take (n * k) (drop (heldListOffset narrow (shapeOf k)) c₁) ≡ flat l → length l ≡ n → length (flat l) ≤ listRoom
     → withClient narrow s₁ d (listSet n (shapeOf k) (clientIn narrow s₁ d)) ≡ withClient narrow s d (holding narrow (shapeOf k) l (clientIn narrow s d))
 list-held s d f s₁ c₁ n k l e h g q m o =
     let a : listSet n (shapeOf k) c₁ ≡ holding narrow (shapeOf k) l (clientIn narrow s d) = list-holds c₁ (clientIn narrow s d) n k l h (length-client s d f) g q m o in
     rw (e, client-same s d f c₁ h, a) (with-twice s d f c₁ h (holding narrow (shapeOf k) l (clientIn narrow s d)) (length-holding (clientIn narrow s d) (shapeOf k) l o (length-client s d f)))
 
 pub list-written : (s : List ℕ) (d : ℕ) → Fit s d → (s₁ : List ℕ) (n k : ℕ) (l : List Record) → s₁ ≡ written s (clientOffset narrow d + heldListOffset narrow (shapeOf k)) (flat l) → length l ≡ n
-    → length (flat l) ≡ n * k → n * k ≤ listWidth → withClient narrow s₁ d (listSet n (shapeOf k) (clientIn narrow s₁ d)) ≡ withClient narrow s d (holding narrow (shapeOf k) l (clientIn narrow s d))
+    → length (flat l) ≡ n * k → n * k ≤ listRoom → withClient narrow s₁ d (listSet n (shapeOf k) (clientIn narrow s₁ d)) ≡ withClient narrow s d (holding narrow (shapeOf k) l (clientIn narrow s d))
 list-written s d f s₁ n k l e m q o =
     let c : Client = clientIn narrow s d in
     let j : length c ≡ clientWidth narrow = length-client s d f in

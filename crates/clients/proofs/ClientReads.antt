@@ -16,7 +16,7 @@ use Rattle.rules.specs.Memory.{Mem, clientIn}
 use Rattle.rules.specs.Refusals.{client, allIdle}
 use Rattle.query.specs.Encoding.{keyWidth}
 use Rattle.query.specs.Shape.{shapeOf, maxColumns, narrow}
-use Rattle.rules.specs.Layout.{maxClients, maxList, listOffset, listWidth, entryWidth, entryOffset, clientWidth, clientOffset}
+use Rattle.rules.specs.Layout.{maxClients, maxList, listOffset, listRoom, entryWidth, entryOffset, clientWidth, clientOffset}
 use Rattle.rules.specs.Layout.{heldValuesOffset, heldLengthOffset, heldListOffset}
 use Rattle.rules.proofs.ClientLaws.{list-room}
 use Rattle.clients.specs.ClientContracts.{Fit, idleAt}
@@ -80,10 +80,10 @@ pub length-read : (c : Client) → getD c heldLengthOffset 0 ≡ lengthIn (entry
 unfolding lengthIn entryOf
 length-read c = sym (getD-drop 5 c 7 0)
 
-pub list-fits : (c : Client) (n k : ℕ) → n ≡ getD c heldLengthOffset 0 → lengthIn (entryOf c) ≤ maxList → k ≤ maxColumns → n * k ≤ listWidth
+pub list-fits : (c : Client) (n k : ℕ) → n ≡ getD c heldLengthOffset 0 → lengthIn (entryOf c) ≤ maxList → k ≤ maxColumns → n * k ≤ listRoom
 list-fits c n k e h g = let l = length-read c in list-room n k (omega arith) g
 
-pub list-read : (s : List ℕ) (d k n : ℕ) → n ≡ getD (clientIn narrow s d) heldLengthOffset 0 → n * k ≤ listWidth
+pub list-read : (s : List ℕ) (d k n : ℕ) → n ≡ getD (clientIn narrow s d) heldLengthOffset 0 → n * k ≤ listRoom
     → take (clientOffset narrow d + heldListOffset narrow (shapeOf k) + n * k - (clientOffset narrow d + heldListOffset narrow (shapeOf k))) (drop (clientOffset narrow d + heldListOffset narrow (shapeOf k)) s) ≡ listIn narrow (shapeOf k) (entryOf (clientIn narrow s d))
 unfolding listIn
 list-read s d k n e h =

@@ -19,13 +19,13 @@ use Rattle.query.proofs.EncodingLaws.{query-in-length}
 use Rattle.columns.specs.ColumnContracts.{four}
 use Rattle.columns.proofs.ColumnLoops.{four-back}
 use Rattle.query.specs.Shape.{shapeOf, maxColumns, narrow}
-use Rattle.rules.specs.Layout.{maxList, maxLooks, inserts, deletes}
+use Rattle.rules.specs.Layout.{maxList, lookRoom, inserts, deletes}
 use Rattle.rules.specs.Answers.{keyIn, lengthIn}
 use Rattle.rules.specs.Client.{Client, kind, steps, entryOf, idle, isIdle, queryAt, stepsInAll, isBad}
 use Rattle.rules.proofs.ClientLaws.{busy-of}
 
 -- ---- counts of nodes
-pub power-small : (n p : ℕ) → p ≡ 2 ^ n → n ≤ maxColumns → p ≤ maxLooks
+pub power-small : (n p : ℕ) → p ≡ 2 ^ n → n ≤ maxColumns → p ≤ lookRoom
 power-small n p e h = rw e (pow-le-pow-right {n = 2} (omega arith) {i = n} {j = 4} h)
 
 pub named-small : (n k : ℕ) (cols : List Column) → n ≡ named (take k cols) → k ≤ length cols → k ≤ maxColumns → n ≤ maxColumns
@@ -46,7 +46,7 @@ pub last-most : (x : ℕ) (q : Query) → length q ≤ maxColumns → stepsInAll
 unfolding stepsInAll
 last-most x q h = go (eqb x 1) (read-count-most q h) (write-count-most q h)
   where
-    go : (y : Bool) → readCount q ≤ maxLooks → writeCount q ≤ maxLooks → cond y (readCount q + 3) (writeCount q + 1 + writeCount q) ≤ 33
+    go : (y : Bool) → readCount q ≤ lookRoom → writeCount q ≤ lookRoom → cond y (readCount q + 3) (writeCount q + 1 + writeCount q) ≤ 33
     go true a b = omega arith
     go false a b = omega arith
 

@@ -27,4 +27,4 @@ begunWith x key = padded (clientWidth narrow) (x ∷ 0 ∷ 0 ∷ 0 ∷ 0 ∷ key
 unfoldable pub listSet : ℕ → Shape → Client → Client
 listSet n sh c =
     written (set (stepped c) heldLengthOffset n) (heldListOffset narrow sh)
-    (padded listWidth (take (n * sh .columns) (drop (heldListOffset narrow sh) c)))
+    (padded (listWidth sh) (take (n * sh .columns) (drop (heldListOffset narrow sh) c)))

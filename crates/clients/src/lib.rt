@@ -13,7 +13,7 @@ ghost use Rattle.rules.specs.Answers.{keyIn, lengthIn, listIn};
 ghost use Rattle.rules.specs.Client.{kind, steps, sawPending, didChange, foundFull, entryOf, idle, isIdle, queryAt, stepsInAll, isBad, stepped, flag, noted, wrote};
 ghost use Rattle.query.specs.Encoding.{keyWidth};
 ghost use Rattle.query.specs.Shape.{shapeOf, maxColumns, narrow};
-ghost use Rattle.rules.specs.Layout.{maxClients, maxList, maxWord, trayLeast, maxLooks, clientWidth, clientOffset, clientsEnd, heldListOffset};
+ghost use Rattle.rules.specs.Layout.{maxClients, maxList, maxWord, trayLeast, lookRoom, clientWidth, clientOffset, clientsEnd, heldListOffset};
 ghost use Rattle.rules.specs.Layout.{inserts};
 ghost use Rattle.rules.specs.Memory.{clientIn, withClient};
 ghost use Rattle.clients.specs.ClientContracts.{Fit, idleAt, begunWith, listSet};
@@ -177,7 +177,7 @@ pub fn advance(clients: &mut [u32], d: usize)
 
 // Look j: notes a node's revision and whether writes are pending there, and counts the step.
 pub fn note(clients: &mut [u32], d: usize, j: usize, revision: u32, pending: u32)
-    requires { ⌜ Fit (now clients) d × ((j < maxLooks) × (steps (clientIn narrow (now clients) d) < maxWord)) ⌝ }
+    requires { ⌜ Fit (now clients) d × ((j < lookRoom) × (steps (clientIn narrow (now clients) d) < maxWord)) ⌝ }
     ensures { λ _. ⌜ now (clients .exit) ≡ withClient narrow (now (clients .entry)) d (noted narrow j revision pending (clientIn narrow (now (clients .entry)) d)) ⌝ }
 {
     advance(clients, d);

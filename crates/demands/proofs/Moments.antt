@@ -20,7 +20,7 @@ use Rattle.rules.specs.Nodes.{isPresent}
 use Rattle.rules.specs.Answers.{Entry}
 use Rattle.rules.specs.Client.{Client, kind, steps, isIdle, entryOf, queryAt, writeAt, sawPending}
 use Rattle.query.specs.Shape.{Shape, narrow}
-use Rattle.rules.specs.Layout.{maxClients, maxLooks, clientWidth, reads}
+use Rattle.rules.specs.Layout.{maxClients, lookRoom, clientWidth, reads}
 use Rattle.rules.specs.Memory.{Mem, storeIn}
 use Rattle.rules.specs.Refusals.{shape, columns, client}
 use Rattle.revisions.proofs.EffectiveRevision.{NoDup, has}
@@ -90,7 +90,7 @@ key-is : (sh : Shape) (c : Client) (q : Query) → queryAt sh c ≡ q → keyOf 
 unfolding keyOf queryAt
 key-is sh c q e = λ i. record { asked = e i }
 
-revisions-length : (n : ℕ) (c : Client) → length c ≡ clientWidth narrow → n ≤ maxLooks → length (revisionsIn n (entryOf c)) ≡ n
+revisions-length : (n : ℕ) (c : Client) → length c ≡ clientWidth narrow → n ≤ lookRoom → length (revisionsIn n (entryOf c)) ≡ n
 unfolding revisionsIn entryOf
 revisions-length n c w l =
     let a = length-drop 5 c in

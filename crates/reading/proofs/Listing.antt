@@ -25,7 +25,7 @@ use Rattle.rules.specs.Outcome.{resultWith}
 use Rattle.rules.specs.Refusals.{columns, client}
 use Rattle.rules.specs.Steps.{nowAt, answered, tableResult, readResult}
 use Rattle.query.specs.Shape.{shapeOf, narrow}
-use Rattle.rules.specs.Layout.{maxList, listWidth, clientWidth, clientOffset, heldListOffset}
+use Rattle.rules.specs.Layout.{maxList, listRoom, clientWidth, clientOffset, heldListOffset}
 use Rattle.rules.proofs.ClientLaws.{list-room}
 use Rattle.clients.specs.ClientContracts.{listSet}
 use Rattle.clients.proofs.ClientMemory.{length-client, with-self, with-words, client-same, with-twice, written-inside}
@@ -71,7 +71,7 @@ abbrev pub listFor : List ℕ → List ℕ → ℕ → ℕ → List Record
 listFor s clients d k = listOf (queryAt (shapeOf k) (clientIn narrow clients d)) (recordsIn k s)
 
 module _ (s clients : List ℕ) (d k : ℕ) (r : Reads clients d k) (f : table.Fit k s) where
-  list-short : length (flat (take maxList (listFor s clients d k))) ≤ listWidth
+  list-short : length (flat (take maxList (listFor s clients d k))) ≤ listRoom
   list-short =
       let l : List Record = listFor s clients d k in
       let a : length (flat (take maxList l)) ≡ length (take maxList l) * k = length-flat k (take maxList l) (wide-take k maxList l (wide-list k s (queryAt (shapeOf k) (clientIn narrow clients d)) f)) in
@@ -85,14 +85,14 @@ module _ (s clients : List ℕ) (d k : ℕ) (r : Reads clients d k) (f : table.F
   -- at: where the client's list stands
   pub gather-left : (cols : List Column) (t : List ℕ) (at : ℕ) → at ≡ clientOffset narrow d + heldListOffset narrow (shapeOf k)
       → cols ≡ four (queryAt (shapeOf k) (clientIn narrow clients d))
-      → t ≡ written (take (at + listWidth - at) (drop at clients)) 0 (flat (take maxList (listOf (take k cols) (recordsIn k s))))
-      → putMid at (at + listWidth - at) clients t
+      → t ≡ written (take (at + listRoom - at) (drop at clients)) 0 (flat (take maxList (listOf (take k cols) (recordsIn k s))))
+      → putMid at (at + listRoom - at) clients t
       ≡ written clients (clientOffset narrow d + heldListOffset narrow (shapeOf k)) (flat (take maxList (listFor s clients d k)))
   gather-left cols t at a e g =
       let l = r .long in
       let b = r .below in
       rw a
-      (part-written clients (clientOffset narrow d + heldListOffset narrow (shapeOf k)) listWidth (flat (take maxList (listFor s clients d k))) t
+      (part-written clients (clientOffset narrow d + heldListOffset narrow (shapeOf k)) listRoom (flat (take maxList (listFor s clients d k))) t
       ((rw a at g) ∙ rw (read-columns clients d k r cols e)) list-short (omega arith))
 
   pub gather-count : (cols : List Column) (n : ℕ) → cols ≡ four (queryAt (shapeOf k) (clientIn narrow clients d)) → n ≡ gathered (listOf (take k cols) (recordsIn k s)) → n ≡ gathered (listFor s clients d k)
@@ -114,7 +114,7 @@ module _ (s clients : List ℕ) (d k : ℕ) (r : Reads clients d k) (f : table.F
     unfolding gathered-in
     gathered-is =
         let v : List ℕ = flat (take maxList (listFor s clients d k)) in
-        let h : length v ≤ listWidth = list-short in
+        let h : length v ≤ listRoom = list-short in
         g ∙ ap (λ (x : List ℕ). written x (clientOffset narrow d + heldListOffset narrow (shapeOf k)) v) (sym (with-self clients d (fit-clients clients d k r)))
         ∙ with-words clients d (fit-clients clients d k r) (clientIn narrow clients d) (length-client clients d (fit-clients clients d k r)) (heldListOffset narrow (shapeOf k)) v (omega arith)
 
@@ -153,7 +153,7 @@ module _ (s clients : List ℕ) (d k : ℕ) (r : Reads clients d k) (f : table.F
         many : length (listFor s clients d k) ≡ n
         many = counted (listFor s clients d k) n e o
 
-        room : n * k ≤ listWidth
+        room : n * k ≤ listRoom
         room = list-room n k o (r .most)
 
         long-flat : length (flat (listFor s clients d k)) ≡ n * k

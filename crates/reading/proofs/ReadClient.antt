@@ -16,7 +16,7 @@ use Rattle.rules.specs.Nodes.{ensured}
 use Rattle.rules.specs.Answers.{lengthIn, fetchPlace}
 use Rattle.rules.specs.Client.{kind, entryOf, queryAt, stepsInAll}
 use Rattle.query.specs.Shape.{shapeOf, narrow}
-use Rattle.rules.specs.Layout.{maxList, maxLooks, reads}
+use Rattle.rules.specs.Layout.{maxList, lookRoom, reads}
 use Rattle.rules.specs.Memory.{Mem, clientIn, storeIn, answersIn, recordsIn}
 use Rattle.rules.specs.Refusals.{columns, client}
 use Rattle.rules.specs.Steps.{lookResult, fetchResult, tableResult, fileResult, readResult}
@@ -33,7 +33,7 @@ module _ (clients : List ℕ) (d k : ℕ) (r : Reads clients d k) where
   pub sound-read : Sound k (clientIn narrow clients d)
   sound-read = sound-client k (clientIn narrow clients d) (r .most) (r .sound) (r .busy)
 
-  pub few-looks : looks clients d k ≤ maxLooks
+  pub few-looks : looks clients d k ≤ lookRoom
   few-looks = let l = length-query k (clientIn narrow clients d) in let m = r .most in read-count-most (queryAt (shapeOf k) (clientIn narrow clients d)) (omega arith)
 
   pub few-steps : made clients d < looks clients d k + 3

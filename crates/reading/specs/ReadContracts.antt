@@ -9,7 +9,7 @@ use Rattle.query.specs.Query.{readCount}
 use Rattle.rules.specs.Answers.{fetchPlace, someLong}
 use Rattle.rules.specs.Client.{Client, kind, steps, sawPending, entryOf, isIdle, isBad, queryAt}
 use Rattle.query.specs.Shape.{shapeOf, maxColumns, narrow}
-use Rattle.rules.specs.Layout.{maxClients, trayLeast, maxLooks, clientsEnd, reads}
+use Rattle.rules.specs.Layout.{maxClients, trayLeast, lookRoom, clientsEnd, reads}
 use Rattle.rules.specs.Memory.{shapeIn, clientIn, answersIn}
 use Rattle.nodes.specs.NodeContracts as nodes
 use Rattle.answers.specs.AnswerContracts as answers
@@ -44,7 +44,7 @@ pub record Looks (ns clients : List ℕ) (d k : ℕ) : Type 0 where
 pub record Finds (filed clients : List ℕ) (d : ℕ) : Type 0 where
   pub fit : answers.Fit filed
   pub client : client-contracts.Fit clients d
-  pub few : made clients d ≤ maxLooks
+  pub few : made clients d ≤ lookRoom
 
 unfoldable pub foundFor : List ℕ → Client → ℕ
 foundFor s c = cond (sawPending c) (getD s 0 0) (fetchPlace narrow (steps c) (entryOf c) (answersIn narrow s))

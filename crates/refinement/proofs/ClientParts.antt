@@ -21,7 +21,7 @@ use Rattle.rules.specs.Answers.{Entry, keyIn, lengthIn, listIn}
 use Rattle.rules.specs.Client.{Client, kind, steps, sawPending, didChange, foundFull, entryOf, begun, stepped, flag, noted, holding, wrote}
 use Rattle.query.specs.Encoding.{labelWidth, keyWidth}
 use Rattle.query.specs.Shape.{Shape, maxColumns, narrow}
-use Rattle.rules.specs.Layout.{maxList, maxLooks, listOffset, listWidth, entryWidth, clientWidth, notedOffset, heldListOffset}
+use Rattle.rules.specs.Layout.{maxList, lookRoom, listOffset, listRoom, entryWidth, clientWidth, notedOffset, heldListOffset}
 use Rattle.rules.proofs.ClientLaws.{list-room}
 use Rattle.refinement.proofs.Abstraction.{valueIn, revisionsIn}
 
@@ -188,24 +188,24 @@ counted : Client → ℕ → Entry
 counted c n = set (entryOf c) 7 n
 
 module _ (c : Client) (w : length c ≡ clientWidth narrow) (sh : Shape) (l : List Record) (wl : Wide (sh .columns) l) (few : sh .columns ≤ maxColumns) (short : length l ≤ maxList) where
-  length-list : length (padded listWidth (flat l)) ≡ listWidth
-  length-list = let a = length-flat (sh .columns) l wl in let b = list-room (length l) (sh .columns) short few in length-padded listWidth (flat l) (omega arith)
+  length-list : length (padded listRoom (flat l)) ≡ listRoom
+  length-list = let a = length-flat (sh .columns) l wl in let b = list-room (length l) (sh .columns) short few in length-padded listRoom (flat l) (omega arith)
 
   length-counted : length (counted c (length l)) ≡ entryWidth narrow
   unfolding counted
   length-counted = length-set (entryOf c) 7 (length l) ∙ length-entry c w
 
-  holding-entry : entryOf (holding narrow sh l c) ≡ written (counted c (length l)) (listOffset narrow sh) (padded listWidth (flat l))
+  holding-entry : entryOf (holding narrow sh l c) ≡ written (counted c (length l)) (listOffset narrow sh) (padded listRoom (flat l))
   unfolding holding entryOf stepped counted
   holding-entry =
-      drop-written-add 5 (listOffset narrow sh) (set (set c 1 (steps c + 1)) 12 (length l)) (padded listWidth (flat l)) (rw (length-set, length-set, w) (omega arith))
-      ∙ ap (λ (e : Entry). written e (listOffset narrow sh) (padded listWidth (flat l)))
+      drop-written-add 5 (listOffset narrow sh) (set (set c 1 (steps c + 1)) 12 (length l)) (padded listRoom (flat l)) (rw (length-set, length-set, w) (omega arith))
+      ∙ ap (λ (e : Entry). written e (listOffset narrow sh) (padded listRoom (flat l)))
       (drop-set-add 5 (set c 1 (steps c + 1)) 7 (length l) ∙ ap (λ (e : Entry). set e 7 (length l)) (drop-set-lt 5 c 1 (steps c + 1) (omega arith)))
 
   holding-front : (i : ℕ) → i < 5 → getD (holding narrow sh l c) i 0 ≡ getD (stepped c) i 0
   unfolding holding
   holding-front i h =
-      getD-before (set (stepped c) 12 (length l)) (heldListOffset narrow sh) (padded listWidth (flat l)) (rw (length-set, stepped-next c w .wide) (omega arith)) i 0 (omega arith)
+      getD-before (set (stepped c) 12 (length l)) (heldListOffset narrow sh) (padded listRoom (flat l)) (rw (length-set, stepped-next c w .wide) (omega arith)) i 0 (omega arith)
       ∙ getD-set-other (stepped c) 12 i (length l) 0 (λ e. omega arith)
 
   long-counted : listOffset narrow sh ≤ length (counted c (length l))
@@ -215,7 +215,7 @@ module _ (c : Client) (w : length c ≡ clientWidth narrow) (sh : Shape) (l : Li
   unfolding keyIn counted
   holding-key =
       ap (take keyWidth) holding-entry
-      ∙ take-written (counted c (length l)) (listOffset narrow sh) (padded listWidth (flat l)) long-counted 7 (omega arith)
+      ∙ take-written (counted c (length l)) (listOffset narrow sh) (padded listRoom (flat l)) long-counted 7 (omega arith)
       ∙ take-set-le 7 (entryOf c) 7 (length l) (omega arith)
 
   holding-wide : length (holding narrow sh l c) ≡ clientWidth narrow
@@ -224,7 +224,7 @@ module _ (c : Client) (w : length c ≡ clientWidth narrow) (sh : Shape) (l : Li
       let a = stepped-next c w .wide in
       let b = length-set (stepped c) 12 (length l) in
       let d = length-list in
-      length-written (set (stepped c) 12 (length l)) (heldListOffset narrow sh) (padded listWidth (flat l)) (omega arith) ∙ b ∙ a
+      length-written (set (stepped c) 12 (length l)) (heldListOffset narrow sh) (padded listRoom (flat l)) (omega arith) ∙ b ∙ a
 
   pub holding-next : Next c (holding narrow sh l c)
   unfolding kind steps
@@ -235,11 +235,11 @@ module _ (c : Client) (w : length c ≡ clientWidth narrow) (sh : Shape) (l : Li
     wide = holding-wide;
   }
 
-  pub holding-revisions : (n : ℕ) → n ≤ maxLooks → revisionsIn n (entryOf (holding narrow sh l c)) ≡ revisionsIn n (entryOf c)
+  pub holding-revisions : (n : ℕ) → n ≤ lookRoom → revisionsIn n (entryOf (holding narrow sh l c)) ≡ revisionsIn n (entryOf c)
   unfolding revisionsIn counted
   holding-revisions n h =
       let e : 8 + n - 8 ≡ n = omega arith in
-      let v : List ℕ = padded listWidth (flat l) in
+      let v : List ℕ = padded listRoom (flat l) in
       let a : take n (drop 8 (written (counted c (length l)) (listOffset narrow sh) v)) ≡ drop 8 (take (8 + n) (written (counted c (length l)) (listOffset narrow sh) v)) =
       rw (drop-take 8 (8 + n) (written (counted c (length l)) (listOffset narrow sh) v), e) in
       let b : drop 8 (take (8 + n) (counted c (length l))) ≡ take n (drop 8 (counted c (length l))) = rw (drop-take 8 (8 + n) (counted c (length l)), e) in
@@ -253,7 +253,7 @@ module _ (c : Client) (w : length c ≡ clientWidth narrow) (sh : Shape) (l : Li
   unfolding lengthIn counted
   holding-length =
       ap (λ (x : Entry). getD x 7 0) holding-entry
-      ∙ getD-before (counted c (length l)) (listOffset narrow sh) (padded listWidth (flat l)) long-counted 7 0 (omega arith)
+      ∙ getD-before (counted c (length l)) (listOffset narrow sh) (padded listRoom (flat l)) long-counted 7 0 (omega arith)
       ∙ getD-set-same (entryOf c) 7 (length l) 0 (let z = length-entry c w in omega arith)
 
   holding-list : listIn narrow sh (entryOf (holding narrow sh l c)) ≡ flat l
@@ -261,8 +261,8 @@ module _ (c : Client) (w : length c ≡ clientWidth narrow) (sh : Shape) (l : Li
   holding-list =
       rw holding-length (
       ap (λ (x : Entry). take (length l * sh .columns) (drop (listOffset narrow sh) x)) holding-entry
-      ∙ ap (take (length l * sh .columns)) (drop-of-written (counted c (length l)) (listOffset narrow sh) (padded listWidth (flat l)) long-counted)
-      ∙ padded-front listWidth (length l * sh .columns) (flat l) (drop (listOffset narrow sh + length (padded listWidth (flat l))) (counted c (length l))) (length-flat (sh .columns) l wl))
+      ∙ ap (take (length l * sh .columns)) (drop-of-written (counted c (length l)) (listOffset narrow sh) (padded listRoom (flat l)) long-counted)
+      ∙ padded-front listRoom (length l * sh .columns) (flat l) (drop (listOffset narrow sh + length (padded listRoom (flat l))) (counted c (length l))) (length-flat (sh .columns) l wl))
 
   pub holding-value : valueIn sh (entryOf (holding narrow sh l c)) ≡ record { count = length l; numbers = flat l }
   unfolding valueIn

@@ -13,7 +13,7 @@ use Rattle.query.specs.Query.{Record, writeCount}
 use Rattle.query.proofs.NodeLists.{read-count-most}
 use Rattle.query.proofs.EncodingLaws.{query-in-length}
 use Rattle.query.specs.Shape.{Shape, maxColumns, narrow}
-use Rattle.rules.specs.Layout.{maxList, maxLooks, clientWidth, reads}
+use Rattle.rules.specs.Layout.{maxList, lookRoom, clientWidth, reads}
 use Rattle.rules.specs.Table.{Write, target}
 use Rattle.rules.specs.Answers.{Entry, keyIn}
 use Rattle.rules.specs.Client.{Client, kind, steps, sawPending, didChange, foundFull, entryOf, queryAt, writeAt, stepsInAll, stepped, noted, holding, wrote}
@@ -27,7 +27,7 @@ use Rattle.refinement.proofs.ClientParts.{holding-next, holding-revisio
 use Rattle.refinement.proofs.ClientPhases.{Left, looking-eq, looking-phase, tabling-phase, filing-phase, announcing-phase, raising-phase, write-target}
 use Rattle.refinement.proofs.ClientPhases.{next-key, next-looks, next-write, next-busy, last-read, last-write}
 
-pub looks-most : (sh : Shape) (e : Entry) → sh .columns ≤ maxColumns → looksOf sh e ≤ maxLooks
+pub looks-most : (sh : Shape) (e : Entry) → sh .columns ≤ maxColumns → looksOf sh e ≤ lookRoom
 unfolding looksOf
 looks-most sh e h = read-count-most _ (let z = query-in-length sh (keyIn e) in omega arith)
 

@@ -14,7 +14,7 @@ use Rattle.query.specs.Query.{Query, readNode, writeNode, readNodes, writeNodes
 use Rattle.query.specs.Encoding.{labelWords, queryIn}
 use Rattle.query.proofs.NodeLists.{read-nodes-count, write-nodes-count, read-nodes-at, write-nodes-at}
 use Rattle.query.specs.Shape.{Shape, narrow}
-use Rattle.rules.specs.Layout.{maxClients, listOffset, listWidth, entryWidth, clientWidth}
+use Rattle.rules.specs.Layout.{maxClients, listOffset, listRoom, entryWidth, clientWidth}
 use Rattle.rules.specs.declared.Outcome.the-variants.{Answered}
 use Rattle.rules.specs.Table.{Write, target}
 use Rattle.rules.specs.Answers.{Entry, keyIn, lengthIn, listIn}
@@ -110,6 +110,6 @@ answered-simulated {m} tray l d x cached a h e y =
     simulated (Answered x cached) (written tray 0 l) (then-now a d h (rules.idle narrow) idle (idle-left (shape m))) (rw (written-read tray l (x * columns m) e) y)
 
 -- an entry's list
-pub length-list : (sh : Shape) (e : Entry) → length e ≡ entryWidth narrow → lengthIn e * sh .columns ≤ listWidth → length (listIn narrow sh e) ≡ lengthIn e * sh .columns
+pub length-list : (sh : Shape) (e : Entry) → length e ≡ entryWidth narrow → lengthIn e * sh .columns ≤ listRoom → length (listIn narrow sh e) ≡ lengthIn e * sh .columns
 unfolding listIn
 length-list sh e w h = length-take-le (lengthIn e * sh .columns) (drop (listOffset narrow sh) e) (rw length-drop (omega arith))

@@ -15,7 +15,7 @@ use Rattle.laws.proofs.TestLaws.{byTest, or-false}
 use Rattle.laws.proofs.WrittenLaws.{drop-take, take-written, drop-written, drop-of-written, getD-before, length-written}
 use Rattle.query.specs.Encoding.{isKey, namesAll}
 use Rattle.query.specs.Shape.{Shape, maxColumns, narrow}
-use Rattle.rules.specs.Layout.{maxList, columnsOffset, listWidth, clientWidth, clientOffset, inserts, deletes}
+use Rattle.rules.specs.Layout.{maxList, columnsOffset, listRoom, clientWidth, clientOffset, inserts, deletes}
 use Rattle.rules.specs.Answers.{keyIn, lengthIn}
 use Rattle.rules.specs.Client.{Client, kind, steps, entryOf, queryAt, stepsInAll, isIdle, isBad}
 use Rattle.rules.specs.Memory.{shapeIn, clientIn, withClient}
@@ -67,7 +67,7 @@ idle-sound sh c e = rw e
 
 -- ---- In the desks memory
 -- a list of at most 32 records of at most 4 numbers
-pub list-room : (n k : ℕ) → n ≤ maxList → k ≤ maxColumns → n * k ≤ listWidth
+pub list-room : (n k : ℕ) → n ≤ maxList → k ≤ maxColumns → n * k ≤ listRoom
 list-room n k h g = mul-le-mul h g
 
 pub client-wide : (s : List ℕ) (d : ℕ) → clientOffset narrow d + clientWidth narrow ≤ length s → length (clientIn narrow s d) ≡ clientWidth narrow

@@ -82,7 +82,7 @@ noted f j revision pending c = set (set (stepped c) (notedOffset f j) revision) 
 
 -- the list taken at the table step: its length, and its records in the entry's last numbers
 unfoldable pub holding : Form → Shape → List Record → Client → Client
-holding f sh l c = written (set (stepped c) heldLengthOffset (length l)) (heldListOffset f sh) (padded listWidth (flat l))
+holding f sh l c = written (set (stepped c) heldLengthOffset (length l)) (heldListOffset f sh) (padded (listWidth sh) (flat l))
 
 -- a write past its table step
 unfoldable pub wrote : Bool → Bool → Client → Client

@@ -94,21 +94,30 @@ lengthOffset = keyWidth
 abbrev pub revisionsOffset : ℕ
 revisionsOffset = lengthOffset + 1
 
--- the most looks of a read, and how many numbers a noted revision takes
-abbrev pub maxLooks : ℕ
-maxLooks = 16
+-- the most looks of a read
+abbrev pub maxLooks : Shape → ℕ
+maxLooks sh = 16
 
+-- how many numbers a noted revision takes
 abbrev pub revisionWidth : Form → ℕ
 revisionWidth f = 1
 
 abbrev pub listOffset : Form → Shape → ℕ
-listOffset f sh = revisionsOffset + maxLooks * revisionWidth f
+listOffset f sh = revisionsOffset + maxLooks sh * revisionWidth f
 
-abbrev pub listWidth : ℕ
-listWidth = maxList * maxColumns
+-- the most numbers of a list
+abbrev pub listWidth : Shape → ℕ
+listWidth sh = maxList * maxColumns
+
+-- an entry has room for so many revisions and so many numbers of a list: enough for every shape, so that its width does not depend on it
+abbrev pub lookRoom : ℕ
+lookRoom = 16
+
+abbrev pub listRoom : ℕ
+listRoom = maxList * maxColumns
 
 abbrev pub entryWidth : Form → ℕ
-entryWidth f = revisionsOffset + maxLooks * revisionWidth f + listWidth
+entryWidth f = revisionsOffset + lookRoom * revisionWidth f + listRoom
 
 -- where the last entry ends
 abbrev pub answersEnd : Form → ℕ

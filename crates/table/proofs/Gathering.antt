@@ -15,7 +15,7 @@ use Rattle.laws.proofs.EntryLaws.{drop-zeros}
 use Rattle.laws.proofs.RowLaws.{slot, slot-next, flat-snoc, length-flat, Wide, wide-keep, wide-take}
 use Rattle.query.specs.Query.{Record}
 use Rattle.query.specs.Shape.{maxColumns}
-use Rattle.rules.specs.Layout.{maxList, listWidth}
+use Rattle.rules.specs.Layout.{maxList, listRoom}
 use Rattle.rules.specs.Table.{Table}
 use Rattle.table.specs.TableContracts.{gathered}
 use Rattle.table.proofs.TableLists.{gathered-few, gathered-many}
@@ -55,7 +55,7 @@ gather-none p t k n out =
 
 module _ (p : Record → Bool) (t : Table) (k n : ℕ) (out₀ out : List ℕ) (i at j to : ℕ) (a : Gathering p t k n out₀ out i at j to) (h : i < n) (g : length t ≡ n) where
   -- x: the record that the scan stands at; what is behind the branch is named with a prime
-  module _ (x : Record) (y : x ≡ getD t i []) (w : length x ≡ k) (small : k ≤ maxColumns) (long : length out₀ ≡ listWidth) (m : j ≡ maxList → ⊥) where
+  module _ (x : Record) (y : x ≡ getD t i []) (w : length x ≡ k) (small : k ≤ maxColumns) (long : length out₀ ≡ listRoom) (m : j ≡ maxList → ⊥) where
     pub out-room : to + length x ≤ length out
     out-room =
         let b = a .few in
@@ -125,5 +125,5 @@ pub written-zeros : (n : ℕ) (v : List ℕ) → written (replicate n 0) 0 v ≡
 unfolding written padded
 written-zeros n v = rw (zero-add, drop-zeros (length v) n)
 
-pub gathered-padded : (l : List Record) → length l ≤ maxList → written (replicate listWidth 0) 0 (flat (take maxList l)) ≡ padded listWidth (flat l)
-gathered-padded l h = rw (take-all maxList l h) (written-zeros listWidth (flat l))
+pub gathered-padded : (l : List Record) → length l ≤ maxList → written (replicate listRoom 0) 0 (flat (take maxList l)) ≡ padded listRoom (flat l)
+gathered-padded l h = rw (take-all maxList l h) (written-zeros listRoom (flat l))

@@ -10,7 +10,7 @@ ghost use Rattle.table.specs.TableContracts.{Fit, gathered, spotOf, inse
 use hall::Hall;
 use query::Column;
 use words::Order;
-ghost use Rattle.rules.specs.Layout.{maxList, listWidth};
+ghost use Rattle.rules.specs.Layout.{maxList, listRoom};
 
 // The most records that a table holds, and that a read lists.
 const RECORDS: usize = Hall::RECORDS as usize;
@@ -37,7 +37,7 @@ enum Spot {
 // Writes the records in the query's subspace, at most 32, to `out`, and says how many there are, or 33 of more than 32.
 pub fn gather(table: &[u32], k: usize, cols: [Column; Hall::COLUMN_SLOTS], out: &mut [u32]) -> usize
     requires { ⌜ Fit k (now table) ⌝ }
-    requires { ⌜ length (now out) ≡ listWidth ⌝ }
+    requires { ⌜ length (now out) ≡ listRoom ⌝ }
     ensures { λ r. ⌜ r ≡ gathered (listOf (take k cols) (recordsIn k (now (table .entry)))) ⌝ }
     ensures { λ _. ⌜ now (out .exit) ≡ written (now (out .entry)) 0 (flat (take maxList (listOf (take k cols) (recordsIn k (now (table .entry)))))) ⌝ }
 {

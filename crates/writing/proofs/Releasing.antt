@@ -26,7 +26,7 @@ use Rattle.rules.specs.Memory.{Mem, mem, storeIn, withStore, clientIn, withClie
 use Rattle.rules.specs.Outcome.{result}
 use Rattle.rules.specs.Steps.{nowAt, storeBack}
 use Rattle.query.specs.Shape.{shapeOf, maxColumns, narrow}
-use Rattle.rules.specs.Layout.{maxLooks}
+use Rattle.rules.specs.Layout.{lookRoom}
 use Rattle.rules.specs.Calls.{announcedLabels, takenBack}
 use Rattle.columns.specs.ColumnContracts.{four}
 use Rattle.nodes.specs.NodeContracts as contracts
@@ -157,11 +157,11 @@ pub kept-all : (q : Query) (s : Store) (l₀ l : List ℕ) (j n : ℕ) → Kept 
 kept-all q s l₀ l j n x e = rw (← e) (x .are)
 
 -- at most 16 nodes
-few-nodes : (k : ℕ) (cols : List Column) (n : ℕ) → k ≤ maxColumns → n ≤ writeCount (take k cols) → n ≤ maxLooks
+few-nodes : (k : ℕ) (cols : List Column) (n : ℕ) → k ≤ maxColumns → n ≤ writeCount (take k cols) → n ≤ lookRoom
 unfolding writeCount
 few-nodes k cols n h e =
     let l : length (take k cols) ≤ maxColumns = rw length-take (omega arith) in
-    let m : 2 ^ length (take k cols) ≤ maxLooks = power-small (length (take k cols)) (2 ^ length (take k cols)) refl l in
+    let m : 2 ^ length (take k cols) ≤ lookRoom = power-small (length (take k cols)) (2 ^ length (take k cols)) refl l in
     omega arith
 
 -- ---- one taken off each
@@ -278,7 +278,7 @@ back-none m d (some st) h = let z : _≡_ {A = ℕ} 0 1 = cc in absurd (omega ar
 pub back-fits : (k : ℕ) (c : Client) (cols : List Column) (i : ℕ) → cols ≡ four (queryAt (shapeOf k) c) → i ≡ steps c → steps c ≤ writeCount (queryAt (shapeOf k) c) → i ≤ writeCount (take k cols)
 back-fits k c cols i e f h = rw (columns-back k c cols e, f) h
 
-pub back-few : (k : ℕ) (c : Client) (cols : List Column) (i : ℕ) → cols ≡ four (queryAt (shapeOf k) c) → i ≡ steps c → steps c ≤ writeCount (queryAt (shapeOf k) c) → k ≤ maxColumns → i ≤ maxLooks
+pub back-few : (k : ℕ) (c : Client) (cols : List Column) (i : ℕ) → cols ≡ four (queryAt (shapeOf k) c) → i ≡ steps c → steps c ≤ writeCount (queryAt (shapeOf k) c) → k ≤ maxColumns → i ≤ lookRoom
 back-few k c cols i e f h m = few-nodes k cols i m (back-fits k c cols i e f h)
 
 module _ (t n a s : List ℕ) (d k : ℕ) (cols : List Column) (i : ℕ) (e : cols ≡ four (queryAt (shapeOf k) (clientIn narrow s d))) (f : i ≡ steps (clientIn narrow s d)) where

@@ -20,7 +20,7 @@ use Rattle.rules.specs.Table.{Write, insert, delete, effect}
 use Rattle.rules.specs.Nodes.{Words, Store, announced, raised}
 use Rattle.rules.specs.Client.{Client, kind, steps, didChange, foundFull, idle, queryAt, writeAt, stepsInAll, stepped, wrote}
 use Rattle.query.specs.Shape.{shapeOf, maxColumns, narrow}
-use Rattle.rules.specs.Layout.{maxList, maxLooks, inserts}
+use Rattle.rules.specs.Layout.{maxList, lookRoom, inserts}
 use Rattle.rules.specs.Memory.{shapeIn, mem, recordsIn, withRecords, storeIn, withStore, clientIn, withClient}
 use Rattle.rules.specs.Outcome.{resultWith}
 use Rattle.rules.specs.Refusals.{columns, client}
@@ -57,7 +57,7 @@ module _ (s : List ℕ) (d k : ℕ) (w : Writer s d k) where
   pub count-is : writeCount (queryAt (shapeOf k) (clientIn narrow s d)) ≡ 2 ^ k
   count-is = count-power (queryAt (shapeOf k) (clientIn narrow s d)) k (length-query k (clientIn narrow s d))
 
-  pub count-small : writeCount (queryAt (shapeOf k) (clientIn narrow s d)) ≤ maxLooks
+  pub count-small : writeCount (queryAt (shapeOf k) (clientIn narrow s d)) ≤ lookRoom
   count-small = power-small k (writeCount (queryAt (shapeOf k) (clientIn narrow s d))) count-is (w .most)
 
   pub step-most : steps (clientIn narrow s d) ≤ writeCount (queryAt (shapeOf k) (clientIn narrow s d)) + writeCount (queryAt (shapeOf k) (clientIn narrow s d))

@@ -8,7 +8,7 @@ use Rattle.clients.proofs.ClientReads.{list-fits, list-read, length-rea
 use borrow.Author.Needs.{needs}
 use Rattle.clients.proofs.give_list.Statement.{statement}
 use Rattle.clients.proofs.give_list.Tie as tie
-use Rattle.rules.specs.Layout.{listWidth}
+use Rattle.rules.specs.Layout.{listRoom}
 
 word-requires : tie.Need-word-requires
 word-requires c κs = search needs
@@ -26,7 +26,7 @@ cast-end : tie.Need-cast-end
 cast-end c = search needs
 
 -- the list's numbers
-room : (c : tie.After-word) → c .word .result * c .before .before .before .args .k ≤ listWidth
+room : (c : tie.After-word) → c .word .result * c .before .before .before .args .k ≤ listRoom
 room c = let s = c .before .before .before in list-fits _ _ _ (c .word .ensures) (s .pre .1 .0) (s .pre .1 .1 .1 .0)
 
 mul-end : tie.Need-mul-end

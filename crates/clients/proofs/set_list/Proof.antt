@@ -6,7 +6,7 @@ use Rattle.clients.proofs.ClientChanges.{list-left}
 use borrow.Author.Needs.{needs}
 use Rattle.clients.proofs.set_list.Statement.{statement}
 use Rattle.clients.proofs.set_list.Tie as tie
-use Rattle.rules.specs.Layout.{listWidth}
+use Rattle.rules.specs.Layout.{listRoom}
 
 advance-requires : tie.Need-advance-requires
 advance-requires c κs = search needs
@@ -18,7 +18,7 @@ put-requires : tie.Need-put-requires
 put-requires c κs = search needs
 
 -- the list's numbers
-room : (c : tie.After-slice-known3) → c .before .before .before .before .before .before .before .before .before .args .n * c .before .before .before .before .before .before .before .before .before .args .k ≤ listWidth
+room : (c : tie.After-slice-known3) → c .before .before .before .before .before .before .before .before .before .args .n * c .before .before .before .before .before .before .before .before .before .args .k ≤ listRoom
 room c = let s = c .before .before .before .before .before .before .before .before .before in list-room _ _ (s .pre .1 .0) (s .pre .1 .1 .1 .0)
 
 mul-used : tie.Need-mul-used
