@@ -1,5 +1,5 @@
 // One client's numbers in the desks memory (docs/LAYOUT.md): read, changed, and checked for senseless contents.
-// The rules stand in rules, what a function takes for granted in specs/Clients.antt.
+// The rules stand in rules, what a function takes for granted in specs/ClientContracts.antt.
 use hall::Hall;
 ghost use mathlib.Core.Path.{_≡_};
 ghost use mathlib.Core.Bool.{not, _&&_};

@@ -24,7 +24,7 @@ pub struct Limits {
 }
 
 impl Hall {
-    // ---- Sizes. Each constant here is named in rules' Layout.
+    // ---- Sizes. The constants have their names in the definitions: rules' Layout, query's Shape and Encoding, lists' header.
     pub const RECORDS: u32 = 2048;
 
     pub const NODES: u32 = 1024;

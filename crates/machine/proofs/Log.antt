@@ -1,4 +1,4 @@
--- A history as its list of calls and results, and what the trace say told by places in that list: the plain table after so many calls,
+-- A history as its list of calls and results, and what the trace says told by places in that list: the plain table after so many calls,
 -- and which begin the job at a desk goes back to. Nothing of the state here. Leans on Trace and Claims. Assumes nothing.
 use mathlib.Core.Path.{_≡_, refl, sym, ap, _∙_, subst}
 use mathlib.Core.Bool.{Bool, true, false, _&&_, not, cond, true≢false, and-false}

@@ -7,7 +7,7 @@ use lib.Dec.{ltb, leb}
 use lib.ListN.{length, getD}
 use Rattle.lists.specs.Lists.{place, without, allBelow}
 use Rattle.query.specs.Shape.{Shape}
-use Rattle.rules.specs.Layout.{maxAnswers, firstFloor}
+use Rattle.rules.specs.Layout.{maxAnswers, firstFloor, endedLong, endedFull}
 use Rattle.rules.specs.Table.{Table, Write}
 use Rattle.rules.specs.Refusals.{shape}
 use Rattle.rules.specs.Nodes.{Store, store}
@@ -65,9 +65,9 @@ unfoldable pub number : Response → ℕ
 number (refused n) = n
 number went = 0
 number (answered l b) = 0
-number long = 12
+number long = endedLong
 number (ended b) = 0
-number full = 13
+number full = endedFull
 
 -- a write's end, from what its table step found
 unfoldable pub write-end : Bool → Bool → Response

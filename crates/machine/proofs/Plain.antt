@@ -1,5 +1,5 @@
 -- The plain table over the machine's calls: fed with a call and the number that it returned, by the clauses of document 01.
--- The state's table is the plain table, and what the plain table notes at a desk is the job that the trace have there.
+-- The state's table is the plain table, and what the plain table notes at a desk is the job that the trace has there.
 -- Leans on rules' History (the notes) and on TraceKept. Assumes nothing.
 use mathlib.Core.Path.{_≡_, refl, sym, ap, _∙_, subst}
 use mathlib.Core.Bool.{Bool, true, false, cond}

@@ -1,4 +1,4 @@
--- The trace of a history: kept from its calls, their results and the plain table after each, and from nothing else. They say for every begin
+-- The trace of a history: kept from its calls, their results and the plain table after each, and from nothing else. It says for every begin
 -- what became of it and at which call it stands: a read or write at its table step, a read answered from file just after a call.
 -- Leans on Machine. Definitions only. Assumes nothing.
 use mathlib.Core.Path.{_≡_}

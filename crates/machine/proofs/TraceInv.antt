@@ -125,7 +125,7 @@ pub record TraceInv (s : State) (B : Trace) : Type 0 where
   pub was : (q : Key) (r : List ℕ) (l : Val) (t : ℕ) → AnsAt s B q r l t → AnsWas B q l t
   pub reads : (d : ℕ) → ReadsAt s B (B .jobs d) (s .clients d)
 
--- the trace of the calls before stay
+-- what the trace says of the calls before stays
 pub record Ext (B C : Trace) (T : Table) : Type 0 where
   pub now : C .now ≡ suc (B .now)
   pub tabs : (j : ℕ) → j ≤ B .now → C .tabs j ≡ B .tabs j

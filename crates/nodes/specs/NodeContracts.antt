@@ -58,6 +58,6 @@ placed p s (some t) = put (At (nodePlace p (t .nodes))) (withStore narrow s t)
 unfoldable pub pendingSpot : Words → Store → Spot
 pendingSpot p s = cond (isPending p s) (At (nodePlace p (s .nodes))) Nowhere
 
--- ---- the taking back of one mark at node i: the rules' `unmarked` with the place in place of the label
+-- ---- the taking back of one mark at node i: the rules' `released` with the place in place of the label
 unfoldable pub releasedAt : ℕ → Store → Store
 releasedAt i s = store (s .floor) (set (s .nodes) i (withPending (getD (s .nodes) i []) (pending (getD (s .nodes) i []) - 1)))

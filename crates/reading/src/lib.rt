@@ -1,5 +1,5 @@
 // The four steps of a read, after its refusals: look, fetch, table, file. Each is lent only the memories that it needs; its contract says of
-// any others that they are left alone. What a step leaves stands in the rules' Steps.antt, what it takes for granted in specs/Reading.antt.
+// any others that they are left alone. What a step leaves stands in the rules' Steps.antt, what it takes for granted in specs/ReadContracts.antt.
 use hall::Hall;
 ghost use mathlib.Core.Path.{_≡_};
 ghost use mathlib.Core.List.{List};

@@ -11,7 +11,7 @@ use Rattle.query.specs.Query.{readCount, writeCount}
 use Rattle.query.specs.Encoding.{queryOf, recordOf, queryIn, isKey}
 use Rattle.query.specs.Shape.{Shape, maxColumns, narrow}
 use Rattle.rules.specs.Layout.{maxRecords, maxNodes, maxAnswers, maxClients, maxList, tableLeast, nodesLeast, answersLeast, clientsLeast}
-use Rattle.rules.specs.Layout.{recordCountOffset, nodeCountOffset, answerCountOffset, answersEnd, reads}
+use Rattle.rules.specs.Layout.{recordCountOffset, nodeCountOffset, answerCountOffset, revisionsOffset, answersEnd, reads}
 use Rattle.rules.specs.declared.Outcome.{Outcome}
 use Rattle.rules.specs.declared.Outcome.the-variants.{Refused, Accepted, Answered, Long, Ended, Full}
 use Rattle.rules.specs.Table.{Write, insert, delete, target}
@@ -36,7 +36,7 @@ valueIn sh e = record { count = lengthIn e; numbers = listIn narrow sh e }
 
 -- the first n revisions noted in an entry
 unfoldable pub revisionsIn : ℕ → Entry → List ℕ
-revisionsIn n e = take n (drop 8 e)
+revisionsIn n e = take n (drop revisionsOffset e)
 
 -- how many nodes its query has
 unfoldable pub looksOf : Shape → Entry → ℕ

@@ -29,7 +29,7 @@ use Rattle.rules.proofs.ClientLaws.{Busy, busy-sound}
 use Rattle.rules.proofs.PassedChecks.{Begins, begin-passed, abandon-passed, steps-before, evict-answer-passed, evict-node-passed, renew-passed}
 use Rattle.rules.specs.Outcome.{result}
 use Rattle.rules.specs.Steps.{nowAt, storeBack}
-use Rattle.rules.specs.Calls.{beginResult, announcedLabels, takenBack, abandoned, abandonResult, evictAnswerResult, evictNodeResult, renewResult}
+use Rattle.rules.specs.Calls.{beginResult, announcedLabels, releaseResult, abandoned, abandonResult, evictAnswerResult, evictNodeResult, renewResult}
 use Rattle.rules.specs.Refusals.{shape}
 use Rattle.rules.specs.History.{untrayed}
 use Rattle.revisions.proofs.EffectiveRevision.{NoDup}
@@ -139,13 +139,13 @@ module _ (m : Mem) (d : ℕ) (g : Going m d) where
       rw (client-at m d (g .below), busy-phase (shape m) (client m d) (g .busy), eq-eqb (kind (client m d)) reads r)
       (reader-is (shape m) (entryAt m d) (stepsAt m d) (sawPending (client m d)))
 
-  taken-back-simulated : (ps : List Words) (o : Option Store) → (kind (client m d) ≡ reads → ⊥)
+  release-simulated : (ps : List Words) (o : Option Store) → (kind (client m d) ≡ reads → ⊥)
       → stepsAt m d ≤ writeLabelsAt m d
       → ps ≡ take (stepsAt m d) (writeLabels (wroteAt m d)) → ReleasedAllOk ps (storeIn narrow (m .nodes)) o
-      → Simulated m (abandon d) (untrayed (takenBack m d o))
-  unfolding takenBack untrayed responseIn stateOf
-  taken-back-simulated ps none r h e k = refused-simulated m (abandon d) 3 [] (g .fits) (omega arith) (λ z. omega arith)
-  taken-back-simulated ps (some t) r h e k =
+      → Simulated m (abandon d) (untrayed (releaseResult m d o))
+  unfolding releaseResult untrayed responseIn stateOf
+  release-simulated ps none r h e k = refused-simulated m (abandon d) 3 [] (g .fits) (omega arith) (λ z. omega arith)
+  release-simulated ps (some t) r h e k =
       let f = g .fits in
       let n = length-nodes (m .nodes) (f .nodes-long) (f .nodes) in
       let y = f .nodes in
@@ -168,11 +168,11 @@ module _ (m : Mem) (d : ℕ) (g : Going m d) where
       (λ t. rw t (back (eqb-false (kind (client m d)) reads t)))
     where
       back : (kind (client m d) ≡ reads → ⊥)
-          → Simulated m (abandon d) (untrayed (takenBack m d (releasedAll (announcedLabels (askedAt m d) (stepsAt m d)) (storeIn narrow (m .nodes)))))
+          → Simulated m (abandon d) (untrayed (releaseResult m d (releasedAll (announcedLabels (askedAt m d) (stepsAt m d)) (storeIn narrow (m .nodes)))))
       back r =
           let f = g .fits in
           let t = write-target (shape m) (client m d) (g .busy) in
-          taken-back-simulated _ _ r (rw t (h r)) (announced-labels (wroteAt m d) (askedAt m d) (stepsAt m d) t (h r))
+          release-simulated _ _ r (rw t (h r)) (announced-labels (wroteAt m d) (askedAt m d) (stepsAt m d) t (h r))
           (releasedAll-ok _ (storeIn narrow (m .nodes)) (g .once) (rows-nodes (m .nodes) (f .nodes-long) (f .nodes)))
 
 pub abandon-simulated : (m : Mem) (d : ℕ) → Fits m → NoDup (storeIn narrow (m .nodes) .nodes) → Simulated m (abandon d) (untrayed (abandonResult m d))

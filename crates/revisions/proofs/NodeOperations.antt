@@ -1,4 +1,4 @@
--- The operations on the revision nodes, and what each does, told by Effect. Leans on NodeRows, EffectiveRevision and LabelTests. Assumes nothing.
+-- The operations on the revision nodes, and what each does, told by EffectiveRevision. Leans on NodeRows, EffectiveRevision and LabelTests. Assumes nothing.
 use mathlib.Core.Path.{_≡_, refl, sym, _∙_}
 use mathlib.Core.Logic.{_⊎_, inl, inr}
 use mathlib.Core.Option.{Option, none, some}
@@ -26,7 +26,7 @@ use Rattle.revisions.proofs.NodeRows.{last-effective-in, last-pending-i
 use Rattle.revisions.proofs.NodeRows.{pending-label, pending-revision, pending-pending, pending-wide, revision-label, revision-pending, revision-revision, revision-wide}
 use Rattle.revisions.proofs.NodeRows.{free-at, free-none}
 
--- ---- A label's node, and what Effect says of the label
+-- ---- A label's node, and what EffectiveRevision says of the label
 pub present-has : (p : Words) (s : Store) → isPresent p s ≡ has (s .nodes) p
 unfolding isPresent
 present-has p s = place-has p (s .nodes)

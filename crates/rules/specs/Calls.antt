@@ -37,14 +37,14 @@ stepResult m tray d = cond (eqb (stepCode m tray d) 0) (progress m tray d) (resu
 unfoldable pub announcedLabels : Query → ℕ → List Words
 announcedLabels q n = listed (λ j. labelWords (writeNode q j)) 0 n
 
-unfoldable pub takenBack : Mem → ℕ → Option Store → Result
-takenBack m d none = result (Refused refusedUnsound) m
-takenBack m d (some s) = result Accepted (nowAt (storeBack m s) d (idle (form m)))
+unfoldable pub releaseResult : Mem → ℕ → Option Store → Result
+releaseResult m d none = result (Refused refusedUnsound) m
+releaseResult m d (some s) = result Accepted (nowAt (storeBack m s) d (idle (form m)))
 
 unfoldable pub abandoned : Mem → ℕ → Result
 abandoned m d =
     cond (eqb (kind (client m d)) reads) (result Accepted (nowAt m d (idle (form m))))
-    (takenBack m d
+    (releaseResult m d
     (releasedAll (announcedLabels (queryAt (shape m) (client m d)) (steps (client m d))) (storeIn (form m) (m .nodes))))
 
 unfoldable pub abandonResult : Mem → ℕ → Result

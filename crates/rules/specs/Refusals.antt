@@ -1,5 +1,6 @@
 -- Document 01, "What the controller turns down": the smallest number that applies, or 0. Leans on Memory. Definitions only.
--- Assumes nothing. 3 that only a step or an abandoning can find (a node missing, unmarked, ..) stands in Steps.
+-- Assumes nothing. 3 that only a step or an abandoning can find (a node missing, unmarked, ..) stands in Steps
+-- and Calls.
 use mathlib.Core.Bool.{Bool, cond, not, _&&_, _||_}
 use mathlib.Core.List.{List, []}
 use Prim.Native.Nat.{ℕ}

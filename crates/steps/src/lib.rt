@@ -54,5 +54,5 @@ pub fn abandon(
         clients::set_idle(clients, d);
         return Outcome::Accepted;
     }
-    writing::take_back(nodes, clients, d, k)
+    writing::release_all(nodes, clients, d, k)
 }

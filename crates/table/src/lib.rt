@@ -1,5 +1,5 @@
 // The code over the table memory: its count at place 0, its records one after another from place 8 on (docs/LAYOUT.md).
-// What is listed, added and removed are the rules' definitions; specs/Table.antt names what they leave open.
+// What is listed, added and removed are the rules' definitions; specs/TableContracts.antt names what they leave open.
 ghost use mathlib.Core.Path.{_≡_};
 ghost use Prim.Native.Nat.{_+_, _≤_};
 ghost use lib.ListN.{length, take, drop};

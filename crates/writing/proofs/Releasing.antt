@@ -27,7 +27,7 @@ use Rattle.rules.specs.Outcome.{result}
 use Rattle.rules.specs.Steps.{nowAt, storeBack}
 use Rattle.query.specs.Shape.{shapeOf, maxColumns, narrow}
 use Rattle.rules.specs.Layout.{lookRoom}
-use Rattle.rules.specs.Calls.{announcedLabels, takenBack}
+use Rattle.rules.specs.Calls.{announcedLabels, releaseResult}
 use Rattle.columns.specs.ColumnContracts.{four}
 use Rattle.nodes.specs.NodeContracts as contracts
 use Rattle.nodes.specs.NodeContracts.{Fit, tried, pendingSpot, releasedAt}
@@ -266,12 +266,12 @@ module _ (ps : List Words) (s l : List ℕ) (o : isFound (releasedAll ps (storeI
 
 -- ---- the call
 back-stored : (t n a s : List ℕ) (d : ℕ) (o : Option Store) (u : List ℕ) (st : Store) (v : List ℕ) → o ≡ some st → u ≡ withStore narrow n st → v ≡ withClient narrow s d (idle narrow)
-    → result Accepted (mem t u a v) ≡ takenBack (mem t n a s) d o
-unfolding takenBack nowAt storeBack
+    → result Accepted (mem t u a v) ≡ releaseResult (mem t n a s) d o
+unfolding releaseResult nowAt storeBack
 back-stored t n a s d o u st v e f l = rw (e, f, l)
 
-back-none : (m : Mem) (d : ℕ) (o : Option Store) → isFound o ≡ false → result (Refused 3) m ≡ takenBack m d o
-unfolding takenBack isFound
+back-none : (m : Mem) (d : ℕ) (o : Option Store) → isFound o ≡ false → result (Refused 3) m ≡ releaseResult m d o
+unfolding releaseResult isFound
 back-none m d none h = refl
 back-none m d (some st) h = let z : _≡_ {A = ℕ} 0 1 = cc in absurd (omega arith)
 
@@ -286,11 +286,11 @@ module _ (t n a s : List ℕ) (d k : ℕ) (cols : List Column) (i : ℕ) (e : co
   same-labels = rw (columns-back k (clientIn narrow s d) cols e, f)
 
   pub back-refused : (b : Bool) → b ≡ isFound (releasedAll (announcedLabels (take k cols) i) (storeIn narrow n)) → b ≡ false
-      → result (Refused 3) (mem t n a s) ≡ takenBack (mem t n a s) d (releasedAll (announcedLabels (queryAt (shapeOf k) (clientIn narrow s d)) (steps (clientIn narrow s d))) (storeIn narrow n))
+      → result (Refused 3) (mem t n a s) ≡ releaseResult (mem t n a s) d (releasedAll (announcedLabels (queryAt (shapeOf k) (clientIn narrow s d)) (steps (clientIn narrow s d))) (storeIn narrow n))
   back-refused b g z = back-none (mem t n a s) d _ (sym (ap isFound same-labels) ∙ sym g ∙ z)
 
   pub back-done : (u v : List ℕ) → contracts.attempt true u ≡ tried n (releasedAll (announcedLabels (take k cols) i) (storeIn narrow n)) → v ≡ withClient narrow s d (idle narrow)
-      → result Accepted (mem t u a v) ≡ takenBack (mem t n a s) d (releasedAll (announcedLabels (queryAt (shapeOf k) (clientIn narrow s d)) (steps (clientIn narrow s d))) (storeIn narrow n))
+      → result Accepted (mem t u a v) ≡ releaseResult (mem t n a s) d (releasedAll (announcedLabels (queryAt (shapeOf k) (clientIn narrow s d)) (steps (clientIn narrow s d))) (storeIn narrow n))
   back-done u v g l =
       let x : Went n _ u = went-well n _ u (g ∙ ap (tried n) same-labels) in
       back-stored t n a s d _ u (x .store) v (x .is) (x .mem) l

@@ -19,7 +19,7 @@ use Rattle.rules.specs.Layout.{maxClients, clientsEnd, reads, inserts}
 use Rattle.rules.specs.Memory.{shapeIn, Mem, clientIn, storeIn}
 use Rattle.rules.specs.Outcome.{Result, StepResult}
 use Rattle.rules.specs.Steps.{writeResult, endOf}
-use Rattle.rules.specs.Calls.{announcedLabels, takenBack}
+use Rattle.rules.specs.Calls.{announcedLabels, releaseResult}
 use Rattle.nodes.specs.NodeContracts.{releasedAt}
 use Rattle.writing.specs.declared.Report.{Report}
 
@@ -47,7 +47,7 @@ stepOf k m tray d = writeResult m tray d (writeAt (shapeOf k) (clientIn narrow (
 
 -- what the taking back of its marks leaves
 abbrev pub backOf : ℕ → Mem → ℕ → Result
-backOf k m d = takenBack m d (releasedAll (announcedLabels (queryAt (shapeOf k) (clientIn narrow (m .clients) d)) (steps (clientIn narrow (m .clients) d))) (storeIn narrow (m .nodes)))
+backOf k m d = releaseResult m d (releasedAll (announcedLabels (queryAt (shapeOf k) (clientIn narrow (m .clients) d)) (steps (clientIn narrow (m .clients) d))) (storeIn narrow (m .nodes)))
 
 -- the write of a kind and a query
 unfoldable pub writeOf : ℕ → Query → Write

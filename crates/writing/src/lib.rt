@@ -1,5 +1,5 @@
 // The steps of a write at its client: a mark for each of its nodes, the table, a raise for each; and the taking back of its marks.
-// The rules stand in rules (Steps, Calls), what a function takes for granted in specs/Writing.antt.
+// The rules stand in rules (Steps, Calls), what a function takes for granted in specs/WriteContracts.antt.
 use hall::Hall;
 ghost use mathlib.Core.Path.{_≡_};
 ghost use mathlib.Core.Bool.{true};
@@ -178,7 +178,7 @@ pub fn write_step(
 
 // ---- The taking back of marks
 // Whether each of the write's first n nodes has a pending write; where all have, `places` begins with their places.
-fn can_take_back(
+fn can_release(
     nodes: &[u32],
     cols: [Column; Hall::COLUMN_SLOTS],
     k: usize,
@@ -216,7 +216,7 @@ fn take_off(nodes: &mut [u32], places: &[usize])
 }
 
 // Takes back the marks of a write before its table step; the client is idle then. Tests all before it alters one.
-pub fn take_back(nodes: &mut [u32], clients: &mut [u32], d: usize, k: usize) -> Outcome
+pub fn release_all(nodes: &mut [u32], clients: &mut [u32], d: usize, k: usize) -> Outcome
     requires { ⌜ Writer (now clients) d k ⌝ }
     requires { ⌜ NodeContracts.Fit (now nodes) ⌝ }
     requires { ⌜ stepAt (now clients) d ≤ countAt k (now clients) d ⌝ }
@@ -225,7 +225,7 @@ pub fn take_back(nodes: &mut [u32], clients: &mut [u32], d: usize, k: usize) -> 
     let cols = clients::columns_at(clients, d, k);
     let made = clients::steps_of(clients, d) as usize;
     let mut places = [0; 16];
-    if !can_take_back(nodes, cols, k, made, &mut places) {
+    if !can_release(nodes, cols, k, made, &mut places) {
         return Outcome::Refused(Hall::REFUSED_UNSOUND);
     }
     take_off(nodes, &places[..made]);

@@ -51,8 +51,8 @@ same-length-8 c = search needs
 returns-2 : tie.Need-returns-2
 returns-2 c = abandon-read _ _ _ (c .before .before .before .before .before .before .before .before .before .abandon-code .ensures) (c .before .before .before .before .before .before .before .before .if1 .left) _ (c .before .before .before .before .before .kind-of .ensures) _ (c .before .before .before .before .if2 .taken) (c .before .before .set-idle .ensures)
 
-take-back-requires : tie.Need-take-back-requires
-take-back-requires c κs = let z = c .before .before .before .before .before .before .if1 .left in let e = c .before .before .before .before .before .before .before .abandon-code .ensures in let f = c .before .before .before .kind-of .ensures in let r = c .before .before .if2 .left in (abandon-writes _ _ _ e z _ f r, (store-fit _ _ (abandon-busy _ _ _ e z), abandon-before _ _ _ e z _ f r))
+release-all-requires : tie.Need-release-all-requires
+release-all-requires c κs = let z = c .before .before .before .before .before .before .if1 .left in let e = c .before .before .before .before .before .before .before .abandon-code .ensures in let f = c .before .before .before .kind-of .ensures in let r = c .before .before .if2 .left in (abandon-writes _ _ _ e z _ f r, (store-fit _ _ (abandon-busy _ _ _ e z), abandon-before _ _ _ e z _ f r))
 
 same-length-9 : tie.Need-same-length-9
 same-length-9 c = search needs
@@ -67,7 +67,7 @@ same-length-12 : tie.Need-same-length-12
 same-length-12 c = search needs
 
 returns-3 : tie.Need-returns-3
-returns-3 c = c .before .before .before .before .take-back .ensures _ _ ∙ abandon-write _ _ _ (c .before .before .before .before .before .before .before .before .before .before .before .before .abandon-code .ensures) (c .before .before .before .before .before .before .before .before .before .before .before .if1 .left) _ (c .before .before .before .before .before .before .before .before .kind-of .ensures) (c .before .before .before .before .before .before .before .if2 .left)
+returns-3 c = c .before .before .before .before .release-all .ensures _ _ ∙ abandon-write _ _ _ (c .before .before .before .before .before .before .before .before .before .before .before .before .abandon-code .ensures) (c .before .before .before .before .before .before .before .before .before .before .before .if1 .left) _ (c .before .before .before .before .before .before .before .before .kind-of .ensures) (c .before .before .before .before .before .before .before .if2 .left)
 
 pub abandon-spec : {M : Type 1} → statement M
 abandon-spec =
@@ -88,7 +88,7 @@ abandon-spec =
     same-length-7
     same-length-8
     returns-2
-    take-back-requires
+    release-all-requires
     same-length-9
     same-length-10
     same-length-11

@@ -1,4 +1,4 @@
--- `columns::keys::is_key` meets its contract, by the rule of a key in proofs/Marks.antt. Assumes nothing.
+-- `columns::keys::is_key` meets its contract, by the rule of a key in proofs/KeyLoops.antt. Assumes nothing.
 use borrow.Author.Needs.{needs}
 use Rattle.columns.proofs.KeyLoops.{key-high, key-low}
 use Rattle.columns.proofs.keys.is_key.Statement.{statement}

@@ -1,4 +1,4 @@
--- `writing::take_back` meets its contract: the places that the test kept are those of the write's nodes. Assumes nothing.
+-- `writing::release_all` meets its contract: the places that the test kept are those of the write's nodes. Assumes nothing.
 use mathlib.Core.Path.{sym, _∙_}
 use Prim.Native.Nat.{_≤_}
 use native.Mathlib.Omega.{arith}
@@ -7,8 +7,8 @@ use lib.Seq.{length-take-le}
 use borrow.Author.Tests.{not-true, not-false}
 use Rattle.writing.proofs.Releasing.{back-fits, back-few, back-refused, back-done, can-take-off, took-off}
 use borrow.Author.Needs.{needs}
-use Rattle.writing.proofs.take_back.Statement.{statement}
-use Rattle.writing.proofs.take_back.Tie as tie
+use Rattle.writing.proofs.release_all.Statement.{statement}
+use Rattle.writing.proofs.release_all.Tie as tie
 
 columns-at-requires : tie.Need-columns-at-requires
 columns-at-requires c κs = search needs
@@ -19,11 +19,11 @@ steps-of-requires c κs = search needs
 cast-made : tie.Need-cast-made
 cast-made c = search needs
 
-slice-aggregate-can-take-back : tie.Need-slice-aggregate-can-take-back
-slice-aggregate-can-take-back c = search needs
+slice-aggregate-can-release : tie.Need-slice-aggregate-can-release
+slice-aggregate-can-release c = search needs
 
-can-take-back-requires : tie.Need-can-take-back-requires
-can-take-back-requires c κs =
+can-release-requires : tie.Need-can-release-requires
+can-release-requires c κs =
     let cols = c .before .before .before .before .columns-at .ensures in
     let made = c .before .before .steps-of .ensures in
     let p = c .before .before .before .before .before .before .before .before .pre in
@@ -36,14 +36,14 @@ same-length-2 : tie.Need-same-length-2
 same-length-2 c = search needs
 
 returns : tie.Need-returns
-returns c = λ t a. back-refused t _ a _ _ _ _ _ (c .before .before .before .before .before .before .before .columns-at .ensures) (c .before .before .before .before .before .steps-of .ensures) _ (c .before .before .can-take-back .ensures .0) (not-true _ (c .if1 .taken))
+returns c = λ t a. back-refused t _ a _ _ _ _ _ (c .before .before .before .before .before .before .before .columns-at .ensures) (c .before .before .before .before .before .steps-of .ensures) _ (c .before .before .can-release .ensures .0) (not-true _ (c .if1 .taken))
 
 -- the marks are no more than the places
-few : (c : tie.After-can-take-back) → c .before .before .before .steps-of .result ≤ length (c .can-take-back .last .1 .1 .1 .1 .0)
+few : (c : tie.After-can-release) → c .before .before .before .steps-of .result ≤ length (c .can-release .last .1 .1 .1 .1 .0)
 few c =
     let p = c .before .before .before .before .before .before .before .before .before .pre in
     let h = back-few _ _ _ _ (c .before .before .before .before .before .columns-at .ensures) (c .before .before .before .steps-of .ensures) (p .1 .1) (p .0 .most) in
-    omega (arith, c .can-take-back .kept .1 .1 .1 .1 .0)
+    omega (arith, c .can-release .kept .1 .1 .1 .1 .0)
 
 array-share-prefix-places : tie.Need-array-share-prefix-places
 array-share-prefix-places c = few (c .before .before .before)
@@ -53,7 +53,7 @@ slice-aggregate-take-off c = sym (length-take-le _ _ (few (c .before .before .be
 
 take-off-requires : tie.Need-take-off-requires
 take-off-requires c κs =
-    let tested = c .before .before .before .before .can-take-back .ensures in
+    let tested = c .before .before .before .before .can-release .ensures in
     let all = not-false _ (c .before .before .if1 .left) in
     (search needs, can-take-off _ _ _ (sym (tested .0) ∙ all) (tested .1 all))
 
@@ -68,19 +68,19 @@ same-length-4 c = search needs
 
 returns-2 : tie.Need-returns-2
 returns-2 c =
-    let tested = c .before .before .before .before .before .before .before .before .before .before .before .can-take-back .ensures in
+    let tested = c .before .before .before .before .before .before .before .before .before .before .before .can-release .ensures in
     let all = not-false _ (c .before .before .before .before .before .before .before .before .before .if1 .left) in
     λ t a. back-done t _ a _ _ _ _ _ (c .before .before .before .before .before .before .before .before .before .before .before .before .before .before .before .before .columns-at .ensures) (c .before .before .before .before .before .before .before .before .before .before .before .before .before .before .steps-of .ensures) _ _ (took-off _ _ _ (sym (tested .0) ∙ all) (tested .1 all) _ (c .before .before .before .before .before .before .take-off .ensures)) (c .before .before .set-idle .ensures)
 
-pub take-back-spec : {M : Type 1} → statement M
-take-back-spec =
+pub release-all-spec : {M : Type 1} → statement M
+release-all-spec =
     tie.close
     (tie.spec
     columns-at-requires
     steps-of-requires
     cast-made
-    slice-aggregate-can-take-back
-    can-take-back-requires
+    slice-aggregate-can-release
+    can-release-requires
     same-length
     same-length-2
     returns

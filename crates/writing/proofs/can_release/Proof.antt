@@ -1,4 +1,4 @@
--- `writing::can_take_back` meets its contract. Invariant: what is left to test decides, and the places of what is tested are kept. Assumes nothing.
+-- `writing::can_release` meets its contract. Invariant: what is left to test decides, and the places of what is tested are kept. Assumes nothing.
 use mathlib.Core.Path.{_≡_, refl}
 use Prim.Native.Nat.{_-_, _≤_}
 use native.Mathlib.Omega.{arith}
@@ -12,8 +12,8 @@ use Rattle.revisions.proofs.Releases.{allPending}
 use Rattle.writing.specs.WriteContracts.{isFound}
 use Rattle.writing.proofs.Releasing.{rest, test-start, test-next, test-stop, test-end, spot-pending, spot-idle, Kept, kept-none, kept-more, kept-all}
 use borrow.Author.Needs.{needs}
-use Rattle.writing.proofs.can_take_back.Statement.{statement}
-use Rattle.writing.proofs.can_take_back.Tie as tie
+use Rattle.writing.proofs.can_release.Statement.{statement}
+use Rattle.writing.proofs.can_release.Tie as tie
 
 abbrev Inv-loop : tie.InvT-loop
 Inv-loop nodes cols k n places₀ j₀ places j =
@@ -80,8 +80,8 @@ returns-2 c =
     let e : l .j ≡ c .before .before .before .before .args .n = omega arith in
     (test-end _ _ _ _ _ (l .inv .1 .0) (c .loop-test .left), λ z. kept-all _ _ _ _ _ _ (l .inv .1 .1) e)
 
-pub can-take-back-spec : {M : Type 1} → statement M
-can-take-back-spec =
+pub can-release-spec : {M : Type 1} → statement M
+can-release-spec =
     tie.close
     (tie.spec
     Inv-loop
