@@ -1,34 +1,36 @@
 -- The number at each way out of a check, in the terms of the tests that the code makes. Leans on the rules' Refusals and on the laws of columns
 -- and clients. Assumes nothing.
 use mathlib.Core.Path.{_≡_, refl, sym, ap, _∙_}
-use mathlib.Core.Bool.{Bool, true, false, cond, not, _&&_, _||_}
+use mathlib.Core.Bool.{Bool, true, false, cond, not, _&&_}
 use mathlib.Core.List.{List, [], _∷_}
-use Prim.Native.Nat.{ℕ, _+_, _-_, _*_, _^_, _≤_, _<_}
+use Prim.Native.Nat.{ℕ, _+_, _-_, _^_, _≤_, _<_}
 use native.Mathlib.Omega.{arith}
-use lib.Dec.{eqb, ltb, leb}
-use lib.ListN.{length, getD, take, drop, drop-of-length-le, length-drop}
-use borrow.Author.Tests.{lt-ltb, le-ltb, le-leb, lt-leb, eq-eqb, ne-eqb, not-true, not-false}
+use lib.Dec.{eqb, ltb}
+use lib.ListN.{length, getD, take, drop, length-drop}
+use borrow.Author.Tests.{lt-ltb, le-ltb, le-leb, lt-leb, eqb-true, eq-eqb, ne-eqb, not-true, not-false}
 use Rattle.lists.specs.Lists.{allBelow}
+use Rattle.laws.proofs.TestLaws.{byTest}
 use Rattle.query.specs.declared.Column.{Column}
 use Rattle.query.specs.declared.Column.the-variants.{Is, Wildcard}
 use Rattle.query.specs.Query.{named, writeCount}
 use Rattle.query.specs.Encoding.{columnOf, queryOf, isQuery, namesAll}
 use Rattle.columns.specs.ColumnContracts.{four}
 use Rattle.columns.proofs.ColumnLoops.{two-more, names-value, names-wildcard}
-use Rattle.query.specs.Shape.{shapeOf, maxColumns, narrow}
+use Rattle.query.specs.Shape.{Shape, shapeOf, maxColumns, narrow}
 use Rattle.rules.specs.Layout.{maxRecords, maxNodes, maxAnswers, maxClients, trayLeast, recordCountOffset, nodeCountOffset, answerCountOffset}
 use Rattle.rules.specs.Layout.{columnsOffset, reads, inserts, refusedShort, refusedColumns, refusedUnsound, refusedNoClient, refusedTaken}
 use Rattle.rules.specs.Layout.{refusedIdle, refusedCommitted, refusedNoEntry, refusedPending, refusedWorn, refusedOccupied}
+use Rattle.rules.specs.Work.{Request, isWrite, faultOf}
 use Rattle.rules.specs.Nodes.{isWorn, pending}
 use Rattle.rules.specs.Answers.{someLong}
 use Rattle.rules.specs.Client.{Client, kind, steps, isIdle, isBad}
 use Rattle.rules.specs.Memory.{Mem, clientIn, storeIn, answersIn}
 use Rattle.rules.specs.Refusals.{shape}
-use Rattle.rules.specs.Refusals.{columns, client, isShort, badColumns, badQuery, isUnsound, noClient, isCommitted, allIdle, atClient, beginCode, stepCode, abandonCode, evictAnswerCode, evictNodeCode, renewCode}
+use Rattle.rules.specs.Refusals.{client, isShort, badColumns, isUnsound, noClient, isCommitted, allIdle, atClient, beginCode, stepCode, abandonCode, evictAnswerCode, evictNodeCode, renewCode}
+use Rattle.rules.proofs.ClientLaws.{announcements-at}
 use Rattle.clients.specs.ClientContracts.{idleAt}
 use Rattle.clients.proofs.ClientSound.{length-query, kind-busy, none-idle}
-use Rattle.nodes.proofs.NodeStores.{node-word}
-use Rattle.checks.specs.CheckContracts.{soundCode, recordCode}
+use Rattle.checks.specs.CheckContracts.{soundCode, recordCode, requestOf}
 
 -- ---- Unsound memories
 module _ (m : Mem) where
@@ -135,23 +137,36 @@ pub record-end : (a : List ℕ) (from : ℕ) → Rest a from → length a ≤ fr
 unfolding recordCode
 record-end a from t h = rw (t, no-column (drop from a) (rw length-drop (omega arith)))
 
+-- what arrives, by the number of its kind
+named-or-not : (b c : Bool) → cond (b && c) 0 refusedColumns ≡ cond b (cond c 0 refusedColumns) refusedColumns
+named-or-not true c = refl
+named-or-not false c = refl
+
+fault-is : (sh : Shape) (x : ℕ) (a : List ℕ) → faultOf sh (requestOf x a) ≡ cond (isQuery sh a) (cond (eqb x inserts) (recordCode a) 0) refusedColumns
+unfolding faultOf recordCode
+fault-is sh x a = byTest (eqb x reads)
+    (λ e. let i : x ≡ inserts → ⊥ = (λ z. let y = eqb-true x reads e in omega arith) in rw (e, ne-eqb x inserts i))
+    (λ e. byTest (eqb x inserts) (λ i. rw (e, i) (named-or-not (isQuery sh a) (namesAll (queryOf a)))) (λ i. rw (e, i)))
+
+module _ (x : ℕ) (a : List ℕ) where
+  pub reads-only : x ≡ reads → isWrite (requestOf x a) ≡ false
+  unfolding isWrite
+  reads-only h = rw (eq-eqb x reads h)
+
+  pub writes-only : (x ≡ reads → ⊥) → isWrite (requestOf x a) ≡ true
+  unfolding isWrite
+  writes-only h = byTest (eqb x inserts) (λ i. rw (ne-eqb x reads h, i)) (λ i. rw (ne-eqb x reads h, i))
+
 module _ (k x : ℕ) (a : List ℕ) where
-  pub query-not : (r : Bool) → r ≡ isQuery (shapeOf k) a → not r ≡ true → true ≡ badQuery (shapeOf k) x a
-  unfolding badQuery
-  query-not r e h = rw (← e, not-true r h)
+  pub fault-query : (r : Bool) → r ≡ isQuery (shapeOf k) a → not r ≡ true → refusedColumns ≡ faultOf (shapeOf k) (requestOf x a)
+  fault-query r e h = rw (fault-is (shapeOf k) x a, ← e, not-true r h)
 
   module _ (r : Bool) (e : r ≡ isQuery (shapeOf k) a) (h : not r ≡ false) where
-    pub query-plain : (x ≡ inserts → ⊥) → false ≡ badQuery (shapeOf k) x a
-    unfolding badQuery
-    query-plain n = rw (← e, not-false r h, ne-eqb x inserts n)
+    pub fault-plain : (x ≡ inserts → ⊥) → 0 ≡ faultOf (shapeOf k) (requestOf x a)
+    fault-plain n = rw (fault-is (shapeOf k) x a, ← e, not-false r h, ne-eqb x inserts n)
 
-    pub query-record : (n : ℕ) → n ≡ recordCode a → x ≡ inserts → not (eqb n 0) ≡ badQuery (shapeOf k) x a
-    unfolding badQuery recordCode
-    query-record n c i = rw (← e, not-false r h, eq-eqb x inserts i, c) (go (namesAll (queryOf a)))
-      where
-        go : (b : Bool) → not (eqb (cond b 0 2) 0) ≡ not b
-        go true = refl
-        go false = refl
+    pub fault-record : (n : ℕ) → n ≡ recordCode a → x ≡ inserts → n ≡ faultOf (shapeOf k) (requestOf x a)
+    fault-record n c i = rw (fault-is (shapeOf k) x a, ← e, not-false r h, eq-eqb x inserts i) c
 
 -- what a client is found to be decides a begin, but for the last test
 begin-found : (u n b i : Bool) (r : ℕ)
@@ -164,41 +179,42 @@ begin-found false false true i r = refl
 begin-found false false false true r = refl
 begin-found false false false false r = refl
 
-module _ (m : Mem) (x d : ℕ) (a : List ℕ) where
-  pub begin-short : true ≡ isShort narrow (shape m) m → refusedShort ≡ beginCode m x d a
+module _ (m : Mem) (d : ℕ) (r : Request) where
+  pub begin-short : true ≡ isShort narrow (shape m) m → refusedShort ≡ beginCode m d r
   unfolding beginCode
   begin-short s = rw (← s)
 
-  module _ (s : false ≡ isShort narrow (shape m) m) where
-    pub begin-query : true ≡ badQuery (shapeOf (getD (m .clients) columnsOffset 0)) x a → refusedColumns ≡ beginCode m x d a
+  -- x: what it is turned down with for itself, n: what is found at the client
+  module _ (s : false ≡ isShort narrow (shape m) m) (x : ℕ) (q : x ≡ faultOf (shapeOf (getD (m .clients) columnsOffset 0)) r) where
+    pub begin-fault : (x ≡ 0 → ⊥) → x ≡ beginCode m d r
     unfolding beginCode
-    begin-query q = rw (← s, ← q)
+    begin-fault h = rw (← s, ← q, ne-eqb x 0 h)
 
-    module _ (q : false ≡ badQuery (shapeOf (getD (m .clients) columnsOffset 0)) x a) (n : ℕ) (f : n ≡ atClient m d) where
-      begin-rest : cond (eqb n 0) refusedTaken (cond (eqb n refusedIdle) (cond (not (eqb x reads) && isWorn narrow (shape m) (storeIn narrow (m .nodes))) refusedWorn 0) n) ≡ beginCode m x d a
+    module _ (z : x ≡ 0) (n : ℕ) (f : n ≡ atClient m d) where
+      begin-rest : cond (eqb n 0) refusedTaken (cond (eqb n refusedIdle) (cond (isWrite r && isWorn narrow (shape m) (storeIn narrow (m .nodes))) refusedWorn 0) n) ≡ beginCode m d r
       unfolding beginCode atClient
-      begin-rest = rw (← s, ← q, f)
+      begin-rest = rw (← s, ← q, eq-eqb x 0 z, f)
           (sym (begin-found (isUnsound m) (noClient d) (isBad narrow (shapeOf (getD (m .clients) columnsOffset 0)) (client m d)) (isIdle narrow (client m d))
-          (cond (not (eqb x reads) && isWorn narrow (shape m) (storeIn narrow (m .nodes))) refusedWorn 0)))
+          (cond (isWrite r && isWorn narrow (shape m) (storeIn narrow (m .nodes))) refusedWorn 0)))
 
-      pub begin-busy : n ≡ 0 → refusedTaken ≡ beginCode m x d a
+      pub begin-busy : n ≡ 0 → refusedTaken ≡ beginCode m d r
       begin-busy h = rw h at begin-rest
 
-      pub begin-other : (n ≡ 0 → ⊥) → (n ≡ 6 → ⊥) → n ≡ beginCode m x d a
+      pub begin-other : (n ≡ 0 → ⊥) → (n ≡ 6 → ⊥) → n ≡ beginCode m d r
       begin-other h g = rw (ne-eqb n 0 h, ne-eqb n 6 g) at begin-rest
 
       module _ (g : n ≡ 6) where
-        begin-free : cond (not (eqb x reads) && isWorn narrow (shape m) (storeIn narrow (m .nodes))) refusedWorn 0 ≡ beginCode m x d a
+        begin-free : cond (isWrite r && isWorn narrow (shape m) (storeIn narrow (m .nodes))) refusedWorn 0 ≡ beginCode m d r
         begin-free = rw g at begin-rest
 
-        pub begin-read : x ≡ reads → 0 ≡ beginCode m x d a
-        begin-read h = rw (eq-eqb x reads h) at begin-free
+        pub begin-read : isWrite r ≡ false → 0 ≡ beginCode m d r
+        begin-read h = rw h at begin-free
 
-        pub begin-worn : (x ≡ reads → ⊥) → true ≡ isWorn narrow (shape m) (storeIn narrow (m .nodes)) → refusedWorn ≡ beginCode m x d a
-        begin-worn h w = rw (ne-eqb x reads h, ← w) at begin-free
+        pub begin-worn : isWrite r ≡ true → true ≡ isWorn narrow (shape m) (storeIn narrow (m .nodes)) → refusedWorn ≡ beginCode m d r
+        begin-worn h w = rw (h, ← w) at begin-free
 
-        pub begin-write : (x ≡ reads → ⊥) → false ≡ isWorn narrow (shape m) (storeIn narrow (m .nodes)) → 0 ≡ beginCode m x d a
-        begin-write h w = rw (ne-eqb x reads h, ← w) at begin-free
+        pub begin-write : isWrite r ≡ true → false ≡ isWorn narrow (shape m) (storeIn narrow (m .nodes)) → 0 ≡ beginCode m d r
+        begin-write h w = rw (h, ← w) at begin-free
 
 -- ---- Steps and abandonings
 module _ (m : Mem) (tray : List ℕ) (d : ℕ) where
@@ -221,7 +237,7 @@ module _ (k : ℕ) (c : Client) (x : ℕ) (e : x ≡ kind c) where
 
   pub committed-write : (n p : ℕ) → n ≡ steps c → p ≡ 2 ^ k → (x ≡ reads → ⊥) → ltb p n ≡ isCommitted (shapeOf k) c
   unfolding isCommitted writeCount
-  committed-write n p s q h = rw (ne-eqb (kind c) reads (λ z. h (e ∙ z)), length-query k c, s, q)
+  committed-write n p s q h = rw (ne-eqb (kind c) reads (λ z. h (e ∙ z)), announcements-at (shapeOf k) c, length-query k c, s, q)
 
 module _ (m : Mem) (d : ℕ) where
   pub abandon-short : true ≡ isShort narrow (shape m) m → refusedShort ≡ abandonCode m d

@@ -1,9 +1,12 @@
--- Parts of the refusals that several checks share, where crates/rules/specs has no name for them. Leans on rules. Definitions only.
--- Assumes nothing.
+-- Parts of the refusals that several checks share, and what begins by the number of its kind, where crates/rules/specs has no name for them.
+-- Leans on rules. Definitions only. Assumes nothing.
 use mathlib.Core.Bool.{cond}
 use mathlib.Core.List.{List}
 use Prim.Native.Nat.{ℕ}
+use lib.Dec.{eqb}
 use Rattle.query.specs.Encoding.{queryOf, namesAll}
+use Rattle.rules.specs.Layout.{reads, inserts}
+use Rattle.rules.specs.Work.{Request, readOf, insertOf, deleteOf}
 use Rattle.rules.specs.Memory.{Mem}
 use Rattle.rules.specs.Refusals.{shape}
 use Rattle.rules.specs.Refusals.{isShort, isUnsound, refuse}
@@ -16,3 +19,7 @@ soundCode m = refuse (isShort narrow (shape m) m) 1 (refuse (isUnsound m) 3 0)
 -- 2 where an insert has a star
 unfoldable pub recordCode : List ℕ → ℕ
 recordCode a = cond (namesAll (queryOf a)) 0 2
+
+-- what begins, by the number of its kind and the numbers that arrive
+abbrev pub requestOf : ℕ → List ℕ → Request
+requestOf kind a = cond (eqb kind reads) (readOf a) (cond (eqb kind inserts) (insertOf a) (deleteOf a))

@@ -7,10 +7,11 @@ ghost use mathlib.Core.Bool.{false};
 ghost use Prim.Native.Nat.{_≤_};
 ghost use Rattle.rules.specs.Memory.{mem, clientIn};
 ghost use Rattle.query.specs.Shape.{shapeOf, maxColumns, narrow};
+ghost use Rattle.rules.specs.Work.{faultOf};
 ghost use Rattle.rules.specs.Refusals.{shape};
-ghost use Rattle.rules.specs.Refusals.{isShort, badQuery, isUnsound, isCommitted, atClient, beginCode, stepCode, abandonCode, evictAnswerCode, evictNodeCode, renewCode};
+ghost use Rattle.rules.specs.Refusals.{isShort, isUnsound, isCommitted, atClient, beginCode, stepCode, abandonCode, evictAnswerCode, evictNodeCode, renewCode};
 ghost use Rattle.clients.specs.ClientContracts.{Fit};
-ghost use Rattle.checks.specs.CheckContracts.{soundCode, recordCode};
+ghost use Rattle.checks.specs.CheckContracts.{soundCode, recordCode, requestOf};
 
 // ---- The memories
 // Whether k, an entry count or a filed list's length is out of range. Reads each memory once.
@@ -90,17 +91,17 @@ fn record_code(asked: &[u32]) -> u32
     0
 }
 
-// Whether what arrives is no query of k columns, or an insert with a wildcard.
-fn bad_query(k: u32, kind: u32, asked: &[u32]) -> bool
-    ensures { λ r. ⌜ r ≡ badQuery (shapeOf k) kind (now (asked .entry)) ⌝ }
+// What arrives is turned down for itself where it is no query of k columns, or an insert with a wildcard: the number, or 0.
+fn fault_of(k: u32, kind: u32, asked: &[u32]) -> u32
+    ensures { λ r. ⌜ r ≡ faultOf (shapeOf k) (requestOf kind (now (asked .entry))) ⌝ }
 {
     if !columns::is_query(asked, k) {
-        return true;
+        return Hall::REFUSED_COLUMNS;
     }
     if kind != Hall::INSERTS {
-        return false;
+        return 0;
     }
-    record_code(asked) != 0
+    record_code(asked)
 }
 
 // Kinds: 1 read, 2 insert, 3 delete.
@@ -113,13 +114,14 @@ pub fn begin_code(
     d: u32,
     asked: &[u32],
 ) -> u32
-    ensures { λ r. ⌜ r ≡ beginCode (mem (now (table .entry)) (now (nodes .entry)) (now (answers .entry)) (now (clients .entry))) kind d (now (asked .entry)) ⌝ }
+    ensures { λ r. ⌜ r ≡ beginCode (mem (now (table .entry)) (now (nodes .entry)) (now (answers .entry)) (now (clients .entry))) d (requestOf kind (now (asked .entry))) ⌝ }
 {
     if Hall::is_short(table, nodes, answers, clients) {
         return Hall::REFUSED_SHORT;
     }
-    if bad_query(clients[Hall::COLUMNS_OFFSET], kind, asked) {
-        return Hall::REFUSED_COLUMNS;
+    let fault = fault_of(clients[Hall::COLUMNS_OFFSET], kind, asked);
+    if fault != 0 {
+        return fault;
     }
     let found = at_client(table, nodes, answers, clients, d);
     if found == 0 {

@@ -9,12 +9,10 @@ use lib.ListN.{length, getD, take, drop, set, replicate, length-set, length-drop
 use lib.Seq.{length-take-le, getD-set-other, drop-set-lt, take-set-lt, getD-take, set-getD, take-at}
 use borrow.Author.Tests.{eq-eqb, ne-eqb}
 use borrow.Rule.Slice.PartMut.{putMid}
-use Rattle.lists.specs.Lists.{padded, flat, written}
+use Rattle.lists.specs.Lists.{padded, written}
 use Rattle.laws.proofs.ListLaws.{length-padded}
 use Rattle.laws.proofs.WrittenLaws.{length-written, written-front, take-written, drop-of-written, set-part}
-use Rattle.query.specs.Query.{Query, Record}
-use Rattle.query.specs.Encoding.{keyWords}
-use Rattle.query.proofs.EncodingLaws.{key-words-length}
+use Rattle.rules.specs.Work.{Value, Work, kindOf, keyOf}
 use Rattle.rules.specs.Client.{Client, steps, idle, begun, stepped, flag, noted, holding, wrote}
 use Rattle.query.specs.Encoding.{keyWidth}
 use Rattle.query.specs.Shape.{Shape, shapeOf, narrow}
@@ -33,33 +31,17 @@ module _ (c : Client) where
   unfolding stepped
   length-stepped = length-set c 1 (steps c + 1)
 
-  pub length-noted : (j revision pending : ℕ) → length (noted narrow j revision pending c) ≡ length c
-  unfolding noted
-  length-noted j revision pending = simp length-set length-stepped
-
-  pub length-wrote : (changed full : Bool) → length (wrote changed full c) ≡ length c
-  unfolding wrote
-  length-wrote changed full = simp length-set length-stepped
-
-  pub length-holding : (sh : Shape) (l : List Record) → length (flat l) ≤ listRoom → length c ≡ clientWidth narrow → length (holding narrow sh l c) ≡ clientWidth narrow
+  pub length-holding : (sh : Shape) (v : Value) → length (v .numbers) ≤ listRoom → length c ≡ clientWidth narrow → length (holding narrow sh v c) ≡ clientWidth narrow
   unfolding holding
-  length-holding sh l h e =
-      let n : length (padded listRoom (flat l)) ≡ listRoom = length-padded listRoom (flat l) h in
-      let m : length (set (stepped c) heldLengthOffset (length l)) ≡ clientWidth narrow = simp length-set (length-stepped ∙ e) in
-      length-written (set (stepped c) heldLengthOffset (length l)) (heldListOffset narrow sh) (padded listRoom (flat l)) (omega arith) ∙ m
+  length-holding sh v h e =
+      let n : length (padded listRoom (v .numbers)) ≡ listRoom = length-padded listRoom (v .numbers) h in
+      let m : length (set (stepped c) heldLengthOffset (v .count)) ≡ clientWidth narrow = simp length-set (length-stepped ∙ e) in
+      length-written (set (stepped c) heldLengthOffset (v .count)) (heldListOffset narrow sh) (padded listRoom (v .numbers)) (omega arith) ∙ m
 
-pub length-begun : (x : ℕ) (q : Query) → length q ≤ 6 → length (begun narrow x q) ≡ clientWidth narrow
-unfolding begun
-length-begun x q h = let n : length (keyWords q) ≡ keyWidth = key-words-length q h in length-padded (clientWidth narrow) (x ∷ 0 ∷ 0 ∷ 0 ∷ 0 ∷ keyWords q) (omega arith)
-
-pub length-begun-with : (x : ℕ) (key : List ℕ) → length key ≡ keyWidth → length (begunWith x key) ≡ clientWidth narrow
-unfolding begunWith
-length-begun-with x key h = length-padded (clientWidth narrow) (x ∷ 0 ∷ 0 ∷ 0 ∷ 0 ∷ key) (omega arith)
-
--- a begin with a query's key is a begin with the query
-pub begun-with : (x : ℕ) (q : Query) → begunWith x (keyWords q) ≡ begun narrow x q
+-- a begin with a work's kind and key is a begin of the work
+pub begun-with : (x : Work) → begunWith (kindOf x) (keyOf x) ≡ begun narrow x
 unfolding begunWith begun
-begun-with x q = refl
+begun-with x = refl
 
 -- ---- one client's numbers
 -- a kind and a key written over an idle client
@@ -100,12 +82,12 @@ behind-head : (sh : Shape) (x v : List ℕ) → length x ≡ clientWidth narrow 
 unfolding written
 behind-head sh x v h k = let l : length x ≤ heldListOffset narrow sh + length v = omega arith in rw (drop-of-length-le x l) (append-nil (take (heldListOffset narrow sh) x ++ v))
 
-pub list-holds : (c₁ c : Client) (n k : ℕ) (l : List Record) → length c₁ ≡ clientWidth narrow → length c ≡ clientWidth narrow → take (heldListOffset narrow (shapeOf k)) c₁ ≡ take (heldListOffset narrow (shapeOf k)) c → take (n * k) (drop (heldListOffset narrow (shapeOf k)) c₁) ≡ flat l → length l ≡ n
-    → length (flat l) ≤ listRoom → listSet n (shapeOf k) c₁ ≡ holding narrow (shapeOf k) l c
+pub list-holds : (c₁ c : Client) (n k : ℕ) (v : Value) → length c₁ ≡ clientWidth narrow → length c ≡ clientWidth narrow → take (heldListOffset narrow (shapeOf k)) c₁ ≡ take (heldListOffset narrow (shapeOf k)) c → take (n * k) (drop (heldListOffset narrow (shapeOf k)) c₁) ≡ v .numbers → v .count ≡ n
+    → length (v .numbers) ≤ listRoom → listSet n (shapeOf k) c₁ ≡ holding narrow (shapeOf k) v c
 unfolding listSet holding
-list-holds c₁ c n k l h g e f m o =
-    let p : List ℕ = padded listRoom (flat l) in
-    let q : length p ≡ listRoom = length-padded listRoom (flat l) o in
+list-holds c₁ c n k v h g e f m o =
+    let p : List ℕ = padded listRoom (v .numbers) in
+    let q : length p ≡ listRoom = length-padded listRoom (v .numbers) o in
     let a : length (set (stepped c₁) heldLengthOffset n) ≡ clientWidth narrow = length-set (stepped c₁) heldLengthOffset n ∙ length-stepped c₁ ∙ h in
     let b : length (set (stepped c) heldLengthOffset n) ≡ clientWidth narrow = length-set (stepped c) heldLengthOffset n ∙ length-stepped c ∙ g in
     rw (f, m) (behind-head (shapeOf k) (set (stepped c₁) heldLengthOffset n) p a q ∙ rw (head-set (shapeOf k) c₁ c n e) (sym (behind-head (shapeOf k) (set (stepped c) heldLengthOffset n) p b q)))
@@ -184,21 +166,21 @@ module _ (s : List ℕ) (d : ℕ) (f : Fit s d) where
       ∙ ap (withClient narrow s d) (sym (list-in (clientIn narrow s d) n k (length-client s d f) m))
 
 -- ---- a list written into its place and then set
-pub list-held : (s : List ℕ) (d : ℕ) → Fit s d → (s₁ c₁ : List ℕ) (n k : ℕ) (l : List Record) → s₁ ≡ withClient narrow s d c₁ → length c₁ ≡ clientWidth narrow
-    → take (heldListOffset narrow (shapeOf k)) c₁ ≡ take (heldListOffset narrow (shapeOf k)) (clientIn narrow s d) → take (n * k) (drop (heldListOffset narrow (shapeOf k)) c₁) ≡ flat l → length l ≡ n → length (flat l) ≤ listRoom
-    → withClient narrow s₁ d (listSet n (shapeOf k) (clientIn narrow s₁ d)) ≡ withClient narrow s d (holding narrow (shapeOf k) l (clientIn narrow s d))
-list-held s d f s₁ c₁ n k l e h g q m o =
-    let a : listSet n (shapeOf k) c₁ ≡ holding narrow (shapeOf k) l (clientIn narrow s d) = list-holds c₁ (clientIn narrow s d) n k l h (length-client s d f) g q m o in
-    rw (e, client-same s d f c₁ h, a) (with-twice s d f c₁ h (holding narrow (shapeOf k) l (clientIn narrow s d)) (length-holding (clientIn narrow s d) (shapeOf k) l o (length-client s d f)))
+pub list-held : (s : List ℕ) (d : ℕ) → Fit s d → (s₁ c₁ : List ℕ) (n k : ℕ) (v : Value) → s₁ ≡ withClient narrow s d c₁ → length c₁ ≡ clientWidth narrow
+    → take (heldListOffset narrow (shapeOf k)) c₁ ≡ take (heldListOffset narrow (shapeOf k)) (clientIn narrow s d) → take (n * k) (drop (heldListOffset narrow (shapeOf k)) c₁) ≡ v .numbers → v .count ≡ n → length (v .numbers) ≤ listRoom
+    → withClient narrow s₁ d (listSet n (shapeOf k) (clientIn narrow s₁ d)) ≡ withClient narrow s d (holding narrow (shapeOf k) v (clientIn narrow s d))
+list-held s d f s₁ c₁ n k v e h g q m o =
+    let a : listSet n (shapeOf k) c₁ ≡ holding narrow (shapeOf k) v (clientIn narrow s d) = list-holds c₁ (clientIn narrow s d) n k v h (length-client s d f) g q m o in
+    rw (e, client-same s d f c₁ h, a) (with-twice s d f c₁ h (holding narrow (shapeOf k) v (clientIn narrow s d)) (length-holding (clientIn narrow s d) (shapeOf k) v o (length-client s d f)))
 
-pub list-written : (s : List ℕ) (d : ℕ) → Fit s d → (s₁ : List ℕ) (n k : ℕ) (l : List Record) → s₁ ≡ written s (clientOffset narrow d + heldListOffset narrow (shapeOf k)) (flat l) → length l ≡ n
-    → length (flat l) ≡ n * k → n * k ≤ listRoom → withClient narrow s₁ d (listSet n (shapeOf k) (clientIn narrow s₁ d)) ≡ withClient narrow s d (holding narrow (shapeOf k) l (clientIn narrow s d))
-list-written s d f s₁ n k l e m q o =
+pub list-written : (s : List ℕ) (d : ℕ) → Fit s d → (s₁ : List ℕ) (n k : ℕ) (v : Value) → s₁ ≡ written s (clientOffset narrow d + heldListOffset narrow (shapeOf k)) (v .numbers) → v .count ≡ n
+    → length (v .numbers) ≡ n * k → n * k ≤ listRoom → withClient narrow s₁ d (listSet n (shapeOf k) (clientIn narrow s₁ d)) ≡ withClient narrow s d (holding narrow (shapeOf k) v (clientIn narrow s d))
+list-written s d f s₁ n k v e m q o =
     let c : Client = clientIn narrow s d in
     let j : length c ≡ clientWidth narrow = length-client s d f in
-    let c₁ : Client = written c (heldListOffset narrow (shapeOf k)) (flat l) in
-    let h : length c₁ ≡ clientWidth narrow = length-written c (heldListOffset narrow (shapeOf k)) (flat l) (omega arith) ∙ j in
-    let w : s₁ ≡ withClient narrow s d c₁ = e ∙ ap (λ (x : List ℕ). written x (clientOffset narrow d + heldListOffset narrow (shapeOf k)) (flat l)) (sym (with-self s d f)) ∙ with-words s d f c j (heldListOffset narrow (shapeOf k)) (flat l) (omega arith) in
-    let t : take (n * k) (drop (heldListOffset narrow (shapeOf k)) c₁) ≡ flat l =
-    ap (take (n * k)) (drop-of-written c (heldListOffset narrow (shapeOf k)) (flat l) (omega arith)) ∙ take-at (flat l) (drop (heldListOffset narrow (shapeOf k) + length (flat l)) c) (n * k) q in
-    list-held s d f s₁ c₁ n k l w h (take-written c (heldListOffset narrow (shapeOf k)) (flat l) (omega arith) (heldListOffset narrow (shapeOf k)) (omega arith)) t m (omega arith)
+    let c₁ : Client = written c (heldListOffset narrow (shapeOf k)) (v .numbers) in
+    let h : length c₁ ≡ clientWidth narrow = length-written c (heldListOffset narrow (shapeOf k)) (v .numbers) (omega arith) ∙ j in
+    let w : s₁ ≡ withClient narrow s d c₁ = e ∙ ap (λ (x : List ℕ). written x (clientOffset narrow d + heldListOffset narrow (shapeOf k)) (v .numbers)) (sym (with-self s d f)) ∙ with-words s d f c j (heldListOffset narrow (shapeOf k)) (v .numbers) (omega arith) in
+    let t : take (n * k) (drop (heldListOffset narrow (shapeOf k)) c₁) ≡ v .numbers =
+    ap (take (n * k)) (drop-of-written c (heldListOffset narrow (shapeOf k)) (v .numbers) (omega arith)) ∙ take-at (v .numbers) (drop (heldListOffset narrow (shapeOf k) + length (v .numbers)) c) (n * k) q in
+    list-held s d f s₁ c₁ n k v w h (take-written c (heldListOffset narrow (shapeOf k)) (v .numbers) (omega arith) (heldListOffset narrow (shapeOf k)) (omega arith)) t m (omega arith)

@@ -6,7 +6,7 @@ use mathlib.Core.List.{List}
 use Prim.Native.Nat.{ℕ, _+_, _^_, _≤_, _<_}
 use native.Mathlib.Nat.{pow-le-pow-right}
 use native.Mathlib.Omega.{arith}
-use lib.Dec.{eqb, ltb, leb}
+use lib.Dec.{eqb, leb}
 use lib.ListN.{length, getD, take}
 use lib.Seq.{length-take-le}
 use borrow.Author.Tests.{eq-eqb, ne-eqb, lt-ltb, le-ltb, not-false}
@@ -20,9 +20,11 @@ use Rattle.columns.specs.ColumnContracts.{four}
 use Rattle.columns.proofs.ColumnLoops.{four-back}
 use Rattle.query.specs.Shape.{shapeOf, maxColumns, narrow}
 use Rattle.rules.specs.Layout.{maxList, lookRoom, inserts, deletes}
-use Rattle.rules.specs.Answers.{keyIn, lengthIn}
-use Rattle.rules.specs.Client.{Client, kind, steps, entryOf, idle, isIdle, queryAt, stepsInAll, isBad}
-use Rattle.rules.proofs.ClientLaws.{busy-of}
+use Rattle.rules.specs.Answers.{keyIn, lengthIn, isLong}
+use Rattle.rules.specs.Work.{stepsInAll}
+use Rattle.rules.specs.Client.{Client, kind, steps, entryOf, idle, isIdle, queryAt, workAt, isBad}
+use Rattle.rules.proofs.ClientLaws.{busy-of, key-tests, steps-at}
+use Rattle.clients.specs.ClientContracts.{stepsOfKind}
 
 -- ---- counts of nodes
 pub power-small : (n p : ℕ) → p ≡ 2 ^ n → n ≤ maxColumns → p ≤ lookRoom
@@ -42,8 +44,13 @@ length-query k c = query-in-length (shapeOf k) (keyIn (entryOf c))
 pub columns-back : (k : ℕ) (c : Client) (cols : List Column) → cols ≡ four (queryAt (shapeOf k) c) → take k cols ≡ queryAt (shapeOf k) c
 columns-back k c cols e = ap (take k) e ∙ four-back k (queryAt (shapeOf k) c) (length-query k c)
 
-pub last-most : (x : ℕ) (q : Query) → length q ≤ maxColumns → stepsInAll x q ≤ 33
-unfolding stepsInAll
+-- the rules' number of its steps, by its kind and its query
+steps-of-kind : (k : ℕ) (c : Client) → stepsInAll (workAt (shapeOf k) c) ≡ stepsOfKind (kind c) (queryAt (shapeOf k) c)
+unfolding stepsOfKind
+steps-of-kind k c = steps-at (shapeOf k) c
+
+last-most : (x : ℕ) (q : Query) → length q ≤ maxColumns → stepsOfKind x q ≤ 33
+unfolding stepsOfKind
 last-most x q h = go (eqb x 1) (read-count-most q h) (write-count-most q h)
   where
     go : (y : Bool) → readCount q ≤ lookRoom → writeCount q ≤ lookRoom → cond y (readCount q + 3) (writeCount q + 1 + writeCount q) ≤ 33
@@ -51,12 +58,12 @@ last-most x q h = go (eqb x 1) (read-count-most q h) (write-count-most q h)
     go false a b = omega arith
 
 module _ (x : ℕ) (cols : List Column) (k : ℕ) where
-  pub last-read : (n p : ℕ) → n ≡ named (take k cols) → p ≡ 2 ^ n → x ≡ 1 → p + 3 ≡ stepsInAll x (take k cols)
-  unfolding stepsInAll readCount
+  pub last-read : (n p : ℕ) → n ≡ named (take k cols) → p ≡ 2 ^ n → x ≡ 1 → p + 3 ≡ stepsOfKind x (take k cols)
+  unfolding stepsOfKind readCount
   last-read n p e g h = rw (eq-eqb x 1 h, g, e)
 
-  pub last-write : (p : ℕ) → p ≡ 2 ^ k → k ≤ length cols → (x ≡ 1 → ⊥) → p + 1 + p ≡ stepsInAll x (take k cols)
-  unfolding stepsInAll writeCount
+  pub last-write : (p : ℕ) → p ≡ 2 ^ k → k ≤ length cols → (x ≡ 1 → ⊥) → p + 1 + p ≡ stepsOfKind x (take k cols)
+  unfolding stepsOfKind writeCount
   last-write p g l h = rw (ne-eqb x 1 h, length-take-le k cols l, g)
 
   -- an insert with a wildcard
@@ -80,10 +87,8 @@ module _ (c : Client) where
 -- of a client with a kind, what its other numbers say
 unfoldable isBadBusy : ℕ → Client → Bool
 isBadBusy k c =
-    not (isKey (shapeOf k) (keyIn (entryOf c)))
-    || ((eqb (kind c) inserts && not (namesAll (queryAt (shapeOf k) c)))
-    || (leb (stepsInAll (kind c) (queryAt (shapeOf k) c)) (steps c)
-    || ltb maxList (lengthIn (entryOf c))))
+    (not (isKey (shapeOf k) (keyIn (entryOf c))) || (eqb (kind c) inserts && not (namesAll (queryAt (shapeOf k) c))))
+    || (leb (stepsOfKind (kind c) (queryAt (shapeOf k) c)) (steps c) || isLong (entryOf c))
 
 module _ (k : ℕ) (c : Client) where
   pub bad-none : (r : Bool) → r ≡ isIdle narrow c → kind c ≡ 0 → not r ≡ isBad narrow (shapeOf k) c
@@ -97,7 +102,7 @@ module _ (k : ℕ) (c : Client) where
 
   bad-busy : (kind c ≡ 0 → ⊥) → kind c ≤ deletes → isBadBusy k c ≡ isBad narrow (shapeOf k) c
   unfolding isBad isBadBusy
-  bad-busy h g = rw (kind-busy c h, ne-eqb (kind c) 0 h, le-ltb 3 (kind c) g)
+  bad-busy h g = rw (kind-busy c h, ne-eqb (kind c) 0 h, le-ltb 3 (kind c) g, key-tests (shapeOf k) c, steps-of-kind k c)
 
   pub bad-kind : (x : ℕ) → x ≡ kind c → (x ≡ 0 → ⊥) → 3 < x → true ≡ isBad narrow (shapeOf k) c
   unfolding isBad
@@ -119,7 +124,7 @@ module _ (k : ℕ) (c : Client) where
       insert-is : (b : Bool) → b ≡ (eqb x 2 && not (namesAll (take k cols))) → b ≡ (eqb (kind c) inserts && not (namesAll (queryAt (shapeOf k) c)))
       insert-is b r = r ∙ rw (columns-back k c cols q, is)
 
-      step-is : (e : Bool) → e ≡ leb (stepsInAll x (take k cols)) (steps c) → e ≡ leb (stepsInAll (kind c) (queryAt (shapeOf k) c)) (steps c)
+      step-is : (e : Bool) → e ≡ leb (stepsOfKind x (take k cols)) (steps c) → e ≡ leb (stepsOfKind (kind c) (queryAt (shapeOf k) c)) (steps c)
       step-is e t = t ∙ rw (columns-back k c cols q, is)
 
       pub bad-insert : (b : Bool) → b ≡ (eqb x 2 && not (namesAll (take k cols))) → b ≡ true → true ≡ isBad narrow (shapeOf k) c
@@ -127,11 +132,11 @@ module _ (k : ℕ) (c : Client) where
       bad-insert b r g = rw (← p, h, ← insert-is b r, g) at whole
 
       module _ (b : Bool) (r : b ≡ (eqb x 2 && not (namesAll (take k cols)))) (g : b ≡ false) where
-        pub bad-step : (e : Bool) → e ≡ leb (stepsInAll x (take k cols)) (steps c) → e ≡ true → true ≡ isBad narrow (shapeOf k) c
+        pub bad-step : (e : Bool) → e ≡ leb (stepsOfKind x (take k cols)) (steps c) → e ≡ true → true ≡ isBad narrow (shapeOf k) c
         unfolding isBadBusy
         bad-step e t l = rw (← p, h, ← insert-is b r, g, ← step-is e t, l) at whole
 
-        pub bad-length : (e z : Bool) → e ≡ leb (stepsInAll x (take k cols)) (steps c) → e ≡ false → z ≡ ltb maxList (lengthIn (entryOf c)) → z ≡ isBad narrow (shapeOf k) c
+        pub bad-length : (e z : Bool) → e ≡ leb (stepsOfKind x (take k cols)) (steps c) → e ≡ false → z ≡ isLong (entryOf c) → z ≡ isBad narrow (shapeOf k) c
         unfolding isBadBusy
         bad-length e z t l m = m ∙ (rw (← p, h, ← insert-is b r, g, ← step-is e t, l) at whole)
 
@@ -141,8 +146,8 @@ pub record Sound (k : ℕ) (c : Client) : Type 0 where
   pub most : kind c ≤ deletes
   pub key : isKey (shapeOf k) (keyIn (entryOf c)) ≡ true
   pub names : kind c ≡ inserts → namesAll (queryAt (shapeOf k) c) ≡ true
-  pub step : steps c < stepsInAll (kind c) (queryAt (shapeOf k) c)
-  pub last : stepsInAll (kind c) (queryAt (shapeOf k) c) ≤ 33
+  pub step : steps c < stepsInAll (workAt (shapeOf k) c)
+  pub last : stepsInAll (workAt (shapeOf k) c) ≤ 33
   pub list : lengthIn (entryOf c) ≤ maxList
 
 pub sound-client : (k : ℕ) (c : Client) → k ≤ maxColumns → isBad narrow (shapeOf k) c ≡ false → isIdle narrow c ≡ false → Sound k c
@@ -154,6 +159,6 @@ sound-client k c h e i =
       key = b .key;
       names = b .names;
       step = b .going;
-      last = last-most (kind c) (queryAt (shapeOf k) c) (let l : length (queryAt (shapeOf k) c) ≡ k = length-query k c in omega arith);
+      last = rw (steps-of-kind k c) (last-most (kind c) (queryAt (shapeOf k) c) (let l : length (queryAt (shapeOf k) c) ≡ k = length-query k c in omega arith));
       list = b .short;
     }

@@ -4,19 +4,19 @@ use hall::Hall;
 ghost use mathlib.Core.Path.{_≡_};
 ghost use mathlib.Core.Bool.{not, _&&_};
 ghost use Prim.Native.Nat.{_+_, _*_, _<_, _≤_};
-ghost use lib.Dec.{eqb, ltb, leb};
-ghost use lib.ListN.{length, getD, take, drop, set};
+ghost use lib.Dec.{eqb, leb};
+ghost use lib.ListN.{length, getD, take, set};
 ghost use Rattle.lists.specs.Lists.{allBelow, written};
 ghost use Rattle.query.specs.Encoding.{isKey, namesAll};
 ghost use Rattle.columns.specs.ColumnContracts.{four};
-ghost use Rattle.rules.specs.Answers.{keyIn, lengthIn, listIn};
-ghost use Rattle.rules.specs.Client.{kind, steps, sawPending, didChange, foundFull, entryOf, idle, isIdle, queryAt, stepsInAll, isBad, stepped, flag, noted, wrote};
+ghost use Rattle.rules.specs.Answers.{keyIn, lengthIn, listIn, isLong};
+ghost use Rattle.rules.specs.Client.{kind, steps, sawPending, didChange, foundFull, entryOf, idle, isIdle, queryAt, isBad, stepped, flag, noted, wrote};
 ghost use Rattle.query.specs.Encoding.{keyWidth};
 ghost use Rattle.query.specs.Shape.{shapeOf, maxColumns, narrow};
 ghost use Rattle.rules.specs.Layout.{maxClients, maxList, maxWord, trayLeast, lookRoom, clientWidth, clientOffset, clientsEnd, heldListOffset};
 ghost use Rattle.rules.specs.Layout.{inserts};
 ghost use Rattle.rules.specs.Memory.{clientIn, withClient};
-ghost use Rattle.clients.specs.ClientContracts.{Fit, idleAt, begunWith, listSet};
+ghost use Rattle.clients.specs.ClientContracts.{Fit, idleAt, begunWith, stepsOfKind, listSet};
 use query::Column;
 
 // How many clients there are.
@@ -221,7 +221,7 @@ pub fn set_list(clients: &mut [u32], d: usize, n: usize, k: usize)
 // How many steps a client of this kind makes at the most.
 fn steps_in_all(kind: u32, cols: [Column; Hall::COLUMN_SLOTS], k: usize) -> u32
     requires { ⌜ k ≤ maxColumns ⌝ }
-    ensures { λ r. ⌜ r ≡ stepsInAll kind (take k cols) ⌝ }
+    ensures { λ r. ⌜ r ≡ stepsOfKind kind (take k cols) ⌝ }
 {
     if kind == Hall::READS {
         let named = columns::keys::named(cols, k);
@@ -261,7 +261,7 @@ fn bad_step(
     k: usize,
 ) -> bool
     requires { ⌜ Fit (now clients) d × (k ≤ maxColumns) ⌝ }
-    ensures { λ r. ⌜ r ≡ leb (stepsInAll kind (take k cols)) (steps (clientIn narrow (now (clients .entry)) d)) ⌝ }
+    ensures { λ r. ⌜ r ≡ leb (stepsOfKind kind (take k cols)) (steps (clientIn narrow (now (clients .entry)) d)) ⌝ }
 {
     let made = steps_of(clients, d);
     steps_in_all(kind, cols, k) <= made
@@ -270,7 +270,7 @@ fn bad_step(
 // Whether a client's list is longer than any.
 fn bad_length(clients: &[u32], d: usize) -> bool
     requires { ⌜ Fit (now clients) d ⌝ }
-    ensures { λ r. ⌜ r ≡ ltb maxList (lengthIn (entryOf (clientIn narrow (now (clients .entry)) d))) ⌝ }
+    ensures { λ r. ⌜ r ≡ isLong (entryOf (clientIn narrow (now (clients .entry)) d)) ⌝ }
 {
     Hall::LIST < word(clients, d, Hall::HELD_LENGTH_OFFSET)
 }

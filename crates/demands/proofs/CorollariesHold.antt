@@ -12,22 +12,23 @@ use Rattle.query.specs.Query.{Query, Record, lies}
 use Rattle.query.specs.Encoding.{queryOf}
 use Rattle.rules.specs.declared.Outcome.{Outcome}
 use Rattle.rules.specs.declared.Outcome.the-variants.{Ended, Full}
+use Rattle.rules.specs.History.{begin}
 use Rattle.rules.specs.Table.{Table, insert, delete, listOf, has, changes, noRoom, Distinct}
-use Rattle.rules.specs.History.{beginRead}
 use Rattle.records.proofs.RecordSets.{has-list}
 use Rattle.records.proofs.RecordsAscending.{ascending-distinct}
-use Rattle.demands.specs.WholeHistory.{History, plainAt, callAt, resultAt}
+use Rattle.demands.specs.WholeHistory.{History, plainAt, callAt, resultAt, shapeAt}
 use Rattle.demands.specs.Demand3.{IsList}
-use Rattle.demands.specs.Corollaries.{Ends, Unopposed, EveryAnswer, InsertsSeen, DeletesSeen, Answers, ListAt, tableAt, OneRead, SeesEarlier, NeverBack, QuietIsNow, AnswersAscend, NoneTwice, Corollaries}
+use Rattle.demands.specs.Corollaries.{Ends, Unopposed, EveryAnswer, InsertsSeen, DeletesSeen, Answers, ListAt, tableAt, OneRead, SeesEarlier}
+use Rattle.demands.specs.Corollaries.{NeverBack, QuietIsNow, AnswersAscend, NoneTwice, Corollaries}
 use Rattle.demands.proofs.HistoryRuns.{sound}
-use Rattle.demands.proofs.Demand3Holds.{tables, answers, result-is}
+use Rattle.demands.proofs.Demand3Holds.{tables, answers, result-is, steps-by-nodes}
 use Rattle.demands.proofs.TableOrdered.{good-table, demand-2-ascending}
-use Rattle.demands.proofs.LogPlaces.{read-begins}
+use Rattle.demands.proofs.Flags.{since-read}
 use Rattle.demands.proofs.Works.{one-work}
-use Rattle.demands.proofs.Flags.{reading}
 use Rattle.demands.proofs.Steady.{lists-stay, answer-short, answer-steps}
 use Rattle.demands.proofs.WriteEffects.{writes-take}
 use Rattle.demands.proofs.Seen.{inserted, deleted, keeps}
+use Rattle.rules.specs.Work.{askOf, asking, readOf}
 
 -- ---- Answers
 every-answer : (h : History) → EveryAnswer h
@@ -37,14 +38,12 @@ every-answer h n count cached l e =
     (s .0, w .asked, w .b, record { tray = s .1; within = l; calls = s .2; runs = w .runs; says = e })
 
 -- ---- One read at a desk
-asked-eq : {d e : ℕ} {a c : List ℕ} → beginRead d a ≡ beginRead e c → a ≡ c
+asked-eq : {d e : ℕ} {a c : List ℕ} → begin d (readOf a) ≡ begin e (readOf c) → a ≡ c
 asked-eq i = cc
 
 one-read : (h : History) → OneRead h
 one-read h d a a′ b b′ n l u v =
-    let e = one-work h d (reading (queryOf a)) (reading (queryOf a′)) b b′ n
-    (record { begin = beginRead d a; is = read-begins d a; within = l; runs = u })
-    (record { begin = beginRead d a′; is = read-begins d a′; within = l; runs = v }) in
+    let e = one-work h d (asking (askOf (shapeAt h) a)) (asking (askOf (shapeAt h) a′)) b b′ n (since-read h d b n a l u) (since-read h d b′ n a′ l v) in
     (e, asked-eq (sym (u .begins) ∙ ap (callAt h) e ∙ v .begins))
 
 -- ---- The moment of an answer
@@ -75,11 +74,12 @@ table-list : (h : History) (a : List ℕ) (n count j : ℕ) → j ≤ length (h 
 table-list h a n count j l x = rw (tables h j l) x
 
 quiet-is-now : (h : History) → QuietIsNow h
+unfolding askOf
 quiet-is-now h d a b n count cached x k =
     let z = moment h d a b n count cached x in
     let l = x .within in
     let up = z .2 in
-    let e = lists-stay h (queryOf a) b (suc n) (z .0) (omega arith) (z .1) up (λ i o m. k i o (omega arith)) in
+    let e = lists-stay h (askOf (shapeAt h) a) b (suc n) (z .0) (omega arith) (z .1) up (λ i o m. k i o (omega arith)) in
     rw e (table-list h a n count (z .0) (omega arith) (z .3))
 
 answers-ascend : (h : History) → AnswersAscend h
@@ -171,6 +171,7 @@ corollaries h = record {
   sees-earlier = sees-earlier h;
   never-back = never-back h;
   quiet-is-now = quiet-is-now h;
+  steps-by-nodes = steps-by-nodes h;
   answers-ascend = answers-ascend h;
   none-twice = none-twice h;
   writes-take = writes-take h;

@@ -6,51 +6,53 @@ use mathlib.Core.List.{List, []}
 use Prim.Native.Nat.{ℕ, suc, _<_}
 use native.Mathlib.Omega.{arith}
 use lib.ListN.{length, getD}
-use Rattle.lists.specs.Lists.{written}
-use Rattle.query.specs.Query.{Query, readCount}
-use Rattle.query.specs.Encoding.{keyWords, queryIn}
-use Rattle.query.proofs.EncodingLaws.{query-in-key, query-in-length}
+use Rattle.lists.specs.Lists.{written, In}
+use Rattle.query.specs.Encoding.{queryIn}
+use Rattle.query.proofs.EncodingLaws.{query-in-key}
 use Rattle.rules.specs.Answers.{Entry, keyIn, listIn, fetchPlace}
-use Rattle.rules.specs.Client.{entryOf, queryAt}
+use Rattle.rules.specs.Client.{entryOf}
 use Rattle.rules.specs.Memory.{Mem, answersIn}
 use Rattle.rules.specs.Outcome.{StepResult}
-use Rattle.rules.specs.Refusals.{shape, columns, client}
+use Rattle.rules.specs.Refusals.{shape, client}
 use Rattle.rules.specs.Steps.{fetchResult}
 use Rattle.rules.specs.Calls.{stepResult}
-use Rattle.rules.specs.History as rules
 use Rattle.query.specs.Shape.{Shape, narrow}
 use Rattle.rules.specs.History.{callResult}
-use Rattle.machine.proofs.Sums.{In, in-at}
-use Rattle.machine.proofs.Machine as machine
-use Rattle.machine.proofs.Transition.{Transition}
-use Rattle.machine.proofs.Trace.{isRefused}
+use Rattle.laws.proofs.Members.{in-at}
+use Rattle.machine.specs.Transition.{Transition}
+use Rattle.machine.specs.Machine.{isRefused}
 use Rattle.machine.proofs.Quiescence.{keyAt}
 use Rattle.machine.proofs.Gets.{gets}
-use Rattle.refinement.proofs.Abstraction.{stateOf, responseOf, keyOf, valueIn, ansOf, filedOf}
+use Rattle.refinement.proofs.Abstraction.{stateOf, responseOf, ansOf, filedOf}
 use Rattle.refinement.proofs.AnswersRefined.{map-in}
-use Rattle.demands.specs.WholeHistory.{History, memAt, callAt, resultAt}
+use Rattle.rules.specs.Answers.{valueIn}
+use Rattle.refinement.proofs.ClientPhases.{fits-at}
+use Rattle.machine.proofs.Asks.{ask-eq}
+use Rattle.demands.specs.WholeHistory.{History, memAt, callAt, resultAt, shapeAt}
 use Rattle.demands.specs.Demand2.{Reads, GetsIt}
 use Rattle.demands.proofs.HistoryRuns.{responseAt, sound, transition-at}
-use Rattle.demands.proofs.Moments.{asking, fetching}
+use Rattle.demands.proofs.Moments.{fetching}
 use Rattle.demands.proofs.Taken.{fetch-step, fetch-accepted, fetch-gave}
 use Rattle.demands.proofs.Flags.{flagsAt, quiescent-at, since-key, on-client}
 use Rattle.demands.proofs.Filings.{step-reply, step-call, no-label-twice, on-file}
+use Rattle.rules.specs.Work.{Ask, readLabels, askIn, askKey}
+use Rattle.rules.specs.History as rules
+use Rattle.machine.specs.Machine as machine
 
 -- ---- The answer that is on file
-asked-length : (m : Mem) (d : ℕ) (q : Query) (n : ℕ) → Reads m d q n → length q ≡ columns m
-unfolding queryAt
-asked-length m d q n r = ap length (sym (r .asks)) ∙ query-in-length (shape m) (keyIn (entryOf (client m d)))
-
-its-key : (sh : Shape) (e : Entry) (q : Query) → length q ≡ sh .columns → keyIn e ≡ keyWords q → ansOf sh e .query ≡ asking q
-unfolding ansOf keyOf
-its-key sh e q l i = λ j. record { asked = (ap (queryIn sh) i ∙ query-in-key sh q l) j }
+-- an entry with the reader's key is of what it asks
+its-key : (m : Mem) (d : ℕ) (q : Ask) (n : ℕ) (e : Entry) → Reads m d q n → keyIn e ≡ askKey q → ansOf (shape m) e .query ≡ q
+unfolding ansOf askIn askKey
+its-key m d q n e r i =
+    let f = fits-at (shape m) (client m d) (r .works) in
+    ask-eq (sym (f .shape)) (ap (queryIn (shape m)) i ∙ query-in-key (shape m) (q .query) (f .columns))
 
 on-file-there : (m : Mem) (e : Entry) (i : ℕ) → i < length (answersIn narrow (m .answers)) → getD (answersIn narrow (m .answers)) i [] ≡ e
     → In (ansOf (shape m) e) (stateOf m .filed)
 unfolding stateOf filedOf
 on-file-there m e i l x = rw (sym x) (map-in (ansOf (shape m)) (in-at [] (answersIn narrow (m .answers)) i l))
 
-its-list : (sh : Shape) (e : Entry) → ansOf sh e .list ≡ valueIn sh e
+its-list : (sh : Shape) (e : Entry) → ansOf sh e .list ≡ valueIn narrow sh e
 unfolding ansOf
 its-list sh e = refl
 
@@ -69,13 +71,13 @@ demand-2-gets h q b n e x b′ f y last c lb lf either k =
     let z = fetching m d q (s .fits) (no-label-twice h n (omega arith)) (x .fetches) in
     let since = since-key h q d b n (x .asked) (omega arith) (x .runs) (ap keyAt (z .phase)) in
     let step = fetch-step m (x .tray) d q (x .takes) (x .fetches) in
-    let i = fetchPlace narrow (readCount q) (entryOf (client m d)) (answersIn narrow (m .answers)) in
+    let i = fetchPlace narrow (length (readLabels q)) (entryOf (client m d)) (answersIn narrow (m .answers)) in
     let r = step-reply h n d (x .tray) (x .calls) ∙ ap (responseOf (shape m)) step in
     let o : Transition (stateOf m) (machine.step d) (responseAt h n) (stateOf (memAt h (suc n))) =
-    subst (λ c. Transition (stateOf m) c (responseAt h n) (stateOf (memAt h (suc n)))) (step-call (callAt h n) d (x .tray) (x .calls)) (transition-at h n w) in
+    subst (λ c. Transition (stateOf m) c (responseAt h n) (stateOf (memAt h (suc n)))) (step-call (shapeAt h) (callAt h n) d (x .tray) (x .calls)) (transition-at h n w) in
     let a = gets (stateOf m) (flagsAt h n) (s .good .inv) (quiescent-at h n (omega arith)) o (ap isRefused r ∙ fetch-accepted (shape m) m (x .tray) d i)
-    (asking q) (z .revs) (z .saw) (z .phase) (z .all) (ansOf (shape m) e) (on-file-there m e (x .place) (x .there) (x .is))
-    (its-key (shape m) e q (asked-length m d q (readCount q) (x .fetches)) (x .key))
+    q (z .revs) (z .saw) (z .phase) (z .all) (ansOf (shape m) e) (on-file-there m e (x .place) (x .there) (x .is))
+    (its-key m d q (length (readLabels q)) e (x .fetches) (x .key))
     (on-client h q d b n c since lb k n (x .runs .earlier) (omega arith))
     (on-file h q b′ f n c (omega arith) y last lf k n (last .0) (omega arith)) in
     let g = fetch-gave m (x .tray) d i e (s .fits) (sym r ∙ a ∙ ap (λ v. machine.answered v true) (its-list (shape m) e)) in

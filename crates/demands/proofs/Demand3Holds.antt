@@ -5,26 +5,28 @@ use mathlib.Core.List.{List, [], _∷_, _++_}
 use Prim.Native.Nat.{ℕ, suc, _*_, _≤_, _<_}
 use native.Mathlib.Omega.{arith}
 use lib.ListN.{length, take}
-use Rattle.query.specs.Encoding.{queryOf, recordOf}
+use Rattle.query.specs.Encoding.{queryOf}
 use Rattle.rules.specs.declared.Outcome.the-variants.{Answered}
-use Rattle.rules.specs.Table.{Table, insert, delete, listOf}
+use Rattle.rules.specs.Table.{Table, listOf}
 use Rattle.rules.specs.Memory.{recordsIn}
 use Rattle.rules.specs.Outcome.{StepResult}
 use Rattle.rules.specs.Refusals.{shape}
-use Rattle.rules.specs.History.{Call, Plain, beginRead, beginInsert, beginDelete, step}
-use Rattle.machine.proofs.Keys.{Key, Val, valueOf}
-use Rattle.machine.proofs.Machine as machine
-use Rattle.machine.proofs.Machine.{answered}
-use Rattle.machine.proofs.Transition.{Transition}
-use Rattle.machine.proofs.Trace.{Act, reads, writes}
-use Rattle.machine.proofs.Log.{entry, plainTable, startOf}
-use Rattle.machine.proofs.Histories as histories
+use Rattle.rules.specs.History.{Plain, step}
+use Rattle.rules.specs.Work.{Ask, Value, valueOf, askOf, deleteOf, insertOf, readOf, workOf, ofRecords, Request}
+use Rattle.machine.specs.Machine.{answered}
+use Rattle.machine.specs.Transition.{Transition}
+use Rattle.machine.proofs.Log.{entry, plainTable}
 use Rattle.refinement.proofs.Abstraction.{stateOf, callOf, responseIn, responseOf}
+use Rattle.machine.proofs.Asks.{limit}
+use Rattle.demands.specs.Corollaries.{StepsByNodes}
 use Rattle.demands.specs.WholeHistory.{History, shapeAt, memAt, plainAt, callAt, resultAt, UnderWay, stepsIn}
 use Rattle.demands.specs.Demand3.{IsList, WasTrue, Demand3}
 use Rattle.demands.proofs.HistoryRuns.{responseAt, entryAt, logTo, sound, transition-at, few-columns, plain-at}
-use Rattle.demands.proofs.LogPlaces.{length-log, take-log, read-begins, insert-begins, delete-begins, under-log, read-places, steps-log}
+use Rattle.demands.proofs.LogPlaces.{length-log, take-log, under-log, read-places, steps-log}
 use Rattle.query.specs.Shape.{Shape}
+use Rattle.machine.specs.Machine as machine
+use Rattle.machine.proofs.Histories as histories
+use Rattle.machine.proofs.Histories.{limits}
 
 -- ---- The table
 pub table-is : (h : History) (n : ℕ) → n ≤ length (h .calls) → stateOf (memAt h n) .tab ≡ recordsIn (h .k) (memAt h n .table)
@@ -40,33 +42,37 @@ tables h n l =
     sym (table-is h n l) ∙ histories.tables (shapeAt h) (few-columns h) (logTo h n) (stateOf (memAt h n)) (sound h n l .run) ∙ plain-table h n l
 
 -- ---- The answers
-abbrev pub said : Shape → List ℕ → ℕ → Val
+abbrev pub said : Shape → List ℕ → ℕ → Value
 said sh tray count = record { count = count; numbers = take (count * sh .columns) tray }
 
 answer-is : (sh : Shape) (x : StepResult) (count : ℕ) (cached : Bool) → x .out ≡ Answered count cached → responseOf sh x ≡ answered (said sh (x .tray) count) cached
 unfolding responseOf responseIn
 answer-is sh x count cached e = ap (responseIn sh (x .tray)) e
 
-step-is : (h : History) (n d : ℕ) (tray : List ℕ) → callAt h n ≡ step d tray → callOf (callAt h n) ≡ machine.step d
+step-is : (h : History) (n d : ℕ) (tray : List ℕ) → callAt h n ≡ step d tray → callOf (shapeAt h) (callAt h n) ≡ machine.step d
 unfolding callOf
-step-is h n d tray e = ap callOf e
+step-is h n d tray e = ap (callOf (shapeAt h)) e
 
 pub result-is : (h : History) (n count : ℕ) (cached : Bool) → shape (memAt h n) ≡ shapeAt h → resultAt h n .out ≡ Answered count cached
     → responseAt h n ≡ answered (said (shapeAt h) (resultAt h n .tray) count) cached
 unfolding responseAt
 result-is h n count cached k e = ap (λ x. responseOf x (resultAt h n)) k ∙ answer-is (shapeAt h) (resultAt h n) count cached e
 
-log-more : (h : History) (n d : ℕ) (v : Val) (cached : Bool) → callOf (callAt h n) ≡ machine.step d → responseAt h n ≡ answered v cached
+log-more : (h : History) (n d : ℕ) (v : Value) (cached : Bool) → callOf (shapeAt h) (callAt h n) ≡ machine.step d → responseAt h n ≡ answered v cached
     → logTo h n ++ (entry (machine.step d) (answered v cached) ∷ []) ≡ logTo h (suc n)
 unfolding logTo entryAt
 log-more h n d v cached c a = rw (c, a) refl
 
 -- a value told is a list told
-is-list : (sh : Shape) (q : Key) (t : Table) (tray : List ℕ) (count : ℕ) → said sh tray count ≡ valueOf q t → IsList (sh .columns) (listOf (q .asked) t) count tray
-unfolding valueOf
+is-list : (sh : Shape) (q : Ask) (t : Table) (tray : List ℕ) (count : ℕ) → said sh tray count ≡ valueOf q t → IsList (sh .columns) (listOf (q .query) t) count tray
+unfolding valueOf ofRecords
 is-list sh q t tray count e =
-    let c : count ≡ length (listOf (q .asked) t) = ap (λ (v : Val). v .count) e in
-    record { counted = c; records = ap (λ n. take (n * sh .columns) tray) (sym c) ∙ ap (λ (v : Val). v .numbers) e }
+    let c : count ≡ length (listOf (q .query) t) = ap (λ (v : Value). v .count) e in
+    record { counted = c; records = ap (λ n. take (n * sh .columns) tray) (sym c) ∙ ap (λ (v : Value). v .numbers) e }
+
+asked-query : (h : History) (a : List ℕ) (q : Ask) → askOf (shapeAt h) a ≡ q → queryOf a ≡ q .query
+unfolding askOf
+asked-query h a q e = ap (λ (x : Ask). x .query) e
 
 pub answers : (h : History) (n d : ℕ) (tray : List ℕ) (count : ℕ) (cached : Bool) → n < length (h .calls) → callAt h n ≡ step d tray
     → resultAt h n .out ≡ Answered count cached → WasTrue h d n count
@@ -90,23 +96,31 @@ answers h n d tray count cached l c e =
       j = w .moment;
       after = w .later;
       upto = up;
-      was = rw (u .asks) (is-list (shapeAt h) (w .key) (plainAt h (w .moment) .table) (resultAt h n .tray) count
+      was = rw (asked-query h (u .asked) (w .key) (u .asks)) (is-list (shapeAt h) (w .key) (plainAt h (w .moment) .table) (resultAt h n .tray) count
           (w .was ∙ ap (λ x. valueOf (w .key) (plainTable (shapeAt h) x)) m ∙ ap (valueOf (w .key)) (plain-table h (w .moment) (omega arith))));
     }
 
 -- ---- The limits
-limit : (h : History) (begin : Call) (d b n : ℕ) (x : Act) → n ≤ length (h .calls) → callOf begin ≡ startOf x d → UnderWay h begin d b n
-    → stepsIn h d b n < histories.limit x
+-- by the number of nodes
+pub steps-by-nodes : (h : History) → StepsByNodes h
 unfolding under-log
-limit h begin d b n x l s u =
-    let z = histories.limits (shapeAt h) (few-columns h) (logTo h n) (stateOf (memAt h n)) (sound h n l .run) d x (under-log h begin d b n x l s u) in
-    rw (steps-log h d b n l) z
+steps-by-nodes h d r b n l u =
+    rw (steps-log h d b n l)
+    (histories.limits (shapeAt h) (few-columns h) (logTo h n) (stateOf (memAt h n)) (sound h n l .run) d (workOf (shapeAt h) r) (under-log h r d b n l u) .0)
+
+-- and so nineteen and thirty-three
+ends-by : (h : History) (d : ℕ) (r : Request) (b n : ℕ) → n ≤ length (h .calls) → UnderWay h r d b n → stepsIn h d b n < limit (workOf (shapeAt h) r)
+unfolding under-log
+ends-by h d r b n l u =
+    rw (steps-log h d b n l)
+    (histories.limits-few (shapeAt h) (few-columns h) (logTo h n) (stateOf (memAt h n)) (sound h n l .run) d (workOf (shapeAt h) r) (under-log h r d b n l u))
 
 pub demand-3 : (h : History) → Demand3 h
+unfolding workOf
 demand-3 h = record {
   tables = tables h;
   answers = answers h;
-  reads-end = λ d a b n l u. limit h (beginRead d a) d b n (reads (record { asked = queryOf a })) l (read-begins d a) u;
-  inserts-end = λ d a b n l u. limit h (beginInsert d a) d b n (writes (insert (recordOf (queryOf a)))) l (insert-begins d a) u;
-  deletes-end = λ d a b n l u. limit h (beginDelete d a) d b n (writes (delete (queryOf a))) l (delete-begins d a) u;
+  reads-end = λ d a b n l u. ends-by h d (readOf a) b n l u;
+  inserts-end = λ d a b n l u. ends-by h d (insertOf a) b n l u;
+  deletes-end = λ d a b n l u. ends-by h d (deleteOf a) b n l u;
 }

@@ -13,29 +13,33 @@ use lib.ListN.{length, getD, take, replicate}
 use Rattle.lists.specs.Lists.{same, keep, place, without, allBelow, listed, padded, written, rows, flat, entriesIn, withEntries}
 use Rattle.laws.proofs.ListLaws.{and-left, and-right, same-eq}
 use Rattle.query.specs.declared.Column.the-variants.{Is}
-use Rattle.query.specs.Query.{Query, admits, lies, pick, readNode, named, readCount}
-use Rattle.query.specs.Encoding.{columnOf, queryOf, wellMarked, isQuery, namesAll, termValue, columnValue, tag, tags, labelWords, marks, keyWords, columnsIn, queryIn, isKey}
+use Rattle.query.specs.Query.{admits, lies, pick, readNode, named, readNodes, readCount}
+use Rattle.query.specs.Encoding.{columnOf, queryOf, wellMarked, isQuery, namesAll, termValue, columnValue, tag, tags, labelWords, marks, keyWords}
+use Rattle.query.specs.Encoding.{columnsIn, queryIn}
 use Rattle.rules.specs.declared.Outcome.the-variants.{Answered}
 use Rattle.rules.specs.Table.{listOf}
-use Rattle.rules.specs.Nodes.{labelIn, pending, revision, withPending, withRevision, hasLabel, nodePlace, isPresent, nodeOf, withNode, evictNode, added, isFree, oldestFree, makeRoom, addedIn, ensured, isHigh, isWorn}
-use Rattle.rules.specs.Answers.{Entry, keyIn, lengthIn, revisionIn, listIn, hasKeyOf, atLeast, serves, fetchPlace, keyPlace, filed, isLong, someLong}
-use Rattle.rules.specs.Client.{kind, steps, sawPending, entryOf, idle, isIdle, begun, queryAt, stepsInAll, isBad, stepped, noted, holding}
-use Rattle.query.specs.Encoding.{labelWidth}
+use Rattle.rules.specs.Nodes.{labelIn, pending, revision, withPending, withRevision, hasLabel, nodePlace, isPresent, nodeOf, withNode, evictNode}
+use Rattle.rules.specs.Nodes.{added, isFree, oldestFree, makeRoom, addedIn, ensured, isHigh, isWorn}
+use Rattle.rules.specs.Answers.{Entry, keyIn, lengthIn, revisionIn, listIn, valueIn, hasKeyOf, atLeast, serves, fetchPlace, keyPlace, filed, isLong, someLong}
+use Rattle.rules.specs.Client.{kind, steps, sawPending, entryOf, idle, isIdle, begun, askAt, workAt, isBad, stepped, noted, holding}
 use Rattle.query.specs.Shape.{shapeOf, narrow}
 use Rattle.rules.specs.Layout.{tableLeast, nodesLeast, answersLeast, clientsLeast, trayLeast, reads}
 use Rattle.rules.specs.Memory.{Mem, mem, recordsIn, storeIn, withStore, answersIn, withAnswers, clientIn, withClient, cleared, opened}
 use Rattle.rules.specs.Outcome.{number}
-use Rattle.rules.specs.Refusals.{columns, client, isShort, badColumns, badQuery, isUnsound, noClient, openCode, beginCode, atClient, stepCode}
-use Rattle.rules.specs.Steps.{nowAt, storeBack, answered, lookResult, fetchResult, tableResult, fileResult, readResult, progress}
+use Rattle.rules.specs.Refusals.{client, isShort, badColumns, isUnsound, noClient, openCode, beginCode, atClient, stepCode, shape}
+use Rattle.rules.specs.Steps.{nowAt, storeBack, answered, lookResult, fetchResult, tableResult, fileResult, readResult, progressOf, progress}
 use Rattle.rules.specs.Calls.{unless, beginResult, stepResult}
-use Rattle.rules.specs.Refusals.{shape}
-use Rattle.rules.specs.History.{Call, beginRead, beginInsert, beginDelete, step, abandon, evictAnswer, evictNode as dropNode, renew, untrayed, callResult, isAccepted, memAfter}
-use Rattle.machine.proofs.Keys.{Key, sameKey, sameQuery, sameColumn, sameKey-eq}
+use Rattle.rules.specs.History.{Call, begin, step, abandon, evictAnswer, evictNode as dropNode, renew, untrayed}
+use Rattle.rules.specs.History.{callResult, isAccepted, memAfter}
+use Rattle.machine.specs.Machine.{sameAsk, sameShape, sameQuery, sameColumn}
+use Rattle.machine.proofs.Asks.{sameAsk-eq}
+use Rattle.refinement.proofs.ClientPhases.{asking-at}
 use Rattle.demands.specs.WholeHistory.{History, memAt, callAt, resultAt, acceptedAt, endsWork, endsAt, UnderWay}
 use Rattle.demands.specs.Demand2.{isOpen, isQuiet, stillThere, keepsNodes, Quiescent, Reads, Filed, Fetches, LastFiled}
 use Rattle.demands.proofs.HistoryRuns.{next-mem}
-use Rattle.demands.proofs.Moments.{asking}
 use Rattle.demands.proofs.Demand2Holds.{demand-2-gets}
+use Rattle.rules.specs.Work.{Ask, readOf, ofRecords, valueOf, mayAnswer, readLabels, askKey, askIn, kindOf, keyOf, workIn, stepsInAll, isWrite, askOf, workOf, faultOf}
+use Rattle.rules.specs.Work.{asking}
 
 abbrev pub tray : List ℕ
 tray = replicate trayLeast 9
@@ -46,8 +50,8 @@ asked = 1 ∷ 5 ∷ []
 
 abbrev pub played : List Call
 played =
-    beginRead 0 asked ∷ step 0 tray ∷ step 0 tray ∷ step 0 tray ∷ step 0 tray ∷ step 0 tray
-    ∷ beginRead 0 asked ∷ step 0 tray ∷ step 0 tray ∷ step 0 tray ∷ []
+    begin 0 (readOf asked) ∷ step 0 tray ∷ step 0 tray ∷ step 0 tray ∷ step 0 tray ∷ step 0 tray
+    ∷ begin 0 (readOf asked) ∷ step 0 tray ∷ step 0 tray ∷ step 0 tray ∷ []
 
 abbrev pub lent : Mem
 lent = mem (replicate tableLeast 7) (replicate (nodesLeast narrow) 7) (replicate (answersLeast narrow (shapeOf 1)) 7) (replicate (clientsLeast narrow (shapeOf 1)) 7)
@@ -59,31 +63,29 @@ may-open = refl
 abbrev pub example : History
 example = record { lent = lent; k = 1; accepted = may-open; calls = played }
 
-abbrev q : Query
-q = Is 5 ∷ []
+abbrev q : Ask
+q = record { shape = shapeOf 1; query = Is 5 ∷ [] }
 
 -- ---- The tests of a call: its number, the memories that it finds, and the call
--- the client at desk 0 is a reader of q that has made so many steps, and its next is taken
+-- the client at desk 0 is a reader that asks q and has made so many steps, and its next is taken
 ready : Mem → ℕ → Bool
 ready m n =
     eqb (stepCode m tray 0) 0
-    && (not (isIdle narrow (client m 0)) && (eqb (kind (client m 0)) reads && (sameKey (asking (queryAt (shape m) (client m 0))) (asking q) && eqb (steps (client m 0)) n)))
+    && (not (isIdle narrow (client m 0)) && (eqb (kind (client m 0)) reads && (sameAsk (askAt (shape m) (client m 0)) q && eqb (steps (client m 0)) n)))
 
 -- an answer of no records to q is on file, at place 0
 onFile : Mem → Bool
 onFile m =
     eqb (length (answersIn narrow (m .answers))) 1
-    && (same (keyIn (getD (answersIn narrow (m .answers)) 0 [])) (keyWords q) && eqb (lengthIn (getD (answersIn narrow (m .answers)) 0 [])) 0)
+    && (same (keyIn (getD (answersIn narrow (m .answers)) 0 [])) (askKey q) && eqb (lengthIn (getD (answersIn narrow (m .answers)) 0 [])) 0)
 
 quiescentAt : Mem → Call → Bool
 quiescentAt m c = isQuiet q m && keepsNodes q m (callResult m c .mem)
 
 -- it is no file step, or not after call 5
 mayFile : Call → Mem → Bool
-mayFile (beginRead d a) m = false
-mayFile (beginInsert d a) m = false
-mayFile (beginDelete d a) m = false
-mayFile (step d t) m = eqb (steps (client m d)) (readCount q + 2)
+mayFile (begin d r) m = false
+mayFile (step d t) m = eqb (steps (client m d)) (length (readLabels q) + 2)
 mayFile (abandon d) m = false
 mayFile (evictAnswer i) m = false
 mayFile (dropNode i) m = false
@@ -100,15 +102,15 @@ tests i m c =
     && ((eqb i 5 || (eqb i 9 || goes m c))
     && ((not (eqb i 0) || isAccepted (number (callResult m c .out)))
     && ((not (eqb i 6) || isAccepted (number (callResult m c .out)))
-    && ((not (eqb i 5) || ready m (readCount q + 2))
-    && (not (eqb i 9) || (ready m (readCount q) && onFile m)))))))
+    && ((not (eqb i 5) || ready m (length (readLabels q) + 2))
+    && (not (eqb i 9) || (ready m (length (readLabels q)) && onFile m)))))))
 
 passes : ℕ → Mem → List Call → Bool
 passes i m [] = true
 passes i m (c ∷ cs) = tests i m c && passes (suc i) (callResult m c .mem) cs
 
 computed : passes 0 (opened narrow (shapeOf 1) lent) played ≡ true
-unfolding same keep place without allBelow listed padded written rows flat entriesIn withEntries pick readNode named readCount columnOf queryOf wellMarked isQuery namesAll termValue columnValue tag tags labelWords marks keyWords columnsIn queryIn isKey listOf labelIn pending revision withPending withRevision hasLabel nodePlace isPresent nodeOf withNode evictNode added isFree oldestFree makeRoom addedIn ensured isHigh isWorn keyIn lengthIn revisionIn listIn hasKeyOf atLeast serves fetchPlace keyPlace filed isLong someLong kind steps sawPending entryOf idle isIdle begun queryAt stepsInAll isBad stepped noted holding recordsIn storeIn withStore answersIn withAnswers clientIn withClient cleared opened client isShort badColumns badQuery isUnsound noClient openCode beginCode atClient stepCode nowAt storeBack answered lookResult fetchResult tableResult fileResult readResult progress unless beginResult stepResult untrayed callResult isAccepted endsWork endsAt isOpen isQuiet stillThere keepsNodes number lies admits sameKey sameQuery sameColumn ready onFile quiescentAt mayFile goes tests passes
+unfolding same keep place without allBelow listed padded written rows flat entriesIn withEntries pick readNode named readCount columnOf queryOf wellMarked isQuery namesAll termValue columnValue tag tags labelWords marks keyWords columnsIn queryIn listOf labelIn pending revision withPending withRevision hasLabel nodePlace isPresent nodeOf withNode evictNode added isFree oldestFree makeRoom addedIn ensured isHigh isWorn keyIn lengthIn revisionIn listIn valueIn hasKeyOf atLeast serves fetchPlace keyPlace filed isLong someLong kind steps sawPending entryOf idle isIdle begun workAt askAt isBad stepped noted holding recordsIn storeIn withStore answersIn withAnswers clientIn withClient cleared opened client isShort badColumns isUnsound noClient openCode beginCode atClient stepCode nowAt storeBack answered lookResult fetchResult tableResult fileResult readResult progressOf progress unless beginResult stepResult untrayed callResult isAccepted endsWork endsAt isOpen isQuiet stillThere keepsNodes number lies admits sameAsk sameQuery sameColumn readNodes ofRecords valueOf mayAnswer readLabels askKey askIn kindOf keyOf workIn stepsInAll isWrite askOf workOf faultOf sameShape ready onFile quiescentAt mayFile goes tests passes
 computed = refl
 
 -- ---- What they say of each call
@@ -130,8 +132,8 @@ record Passed (i : ℕ) (m : Mem) (c : Call) : Type 0 where
   on : (eqb i 5 || (eqb i 9 || goes m c)) ≡ true
   begun : (not (eqb i 0) || isAccepted (number (callResult m c .out))) ≡ true
   begun-again : (not (eqb i 6) || isAccepted (number (callResult m c .out))) ≡ true
-  files : (not (eqb i 5) || ready m (readCount q + 2)) ≡ true
-  fetches : (not (eqb i 9) || (ready m (readCount q) && onFile m)) ≡ true
+  files : (not (eqb i 5) || ready m (length (readLabels q) + 2)) ≡ true
+  fetches : (not (eqb i 9) || (ready m (length (readLabels q)) && onFile m)) ≡ true
 
 given : (i : ℕ) (m : Mem) (c : Call) → tests i m c ≡ true → Passed i m c
 unfolding tests
@@ -147,8 +149,8 @@ given i m c t =
       on = and-left (eqb i 5 || (eqb i 9 || goes m c)) _ b;
       begun = and-left (not (eqb i 0) || isAccepted (number (callResult m c .out))) _ d;
       begun-again = and-left (not (eqb i 6) || isAccepted (number (callResult m c .out))) _ e;
-      files = and-left (not (eqb i 5) || ready m (readCount q + 2)) _ f;
-      fetches = and-right (not (eqb i 5) || ready m (readCount q + 2)) _ f;
+      files = and-left (not (eqb i 5) || ready m (length (readLabels q) + 2)) _ f;
+      fetches = and-right (not (eqb i 5) || ready m (length (readLabels q) + 2)) _ f;
     }
 
 at : (i : ℕ) → i < 10 → Passed i (memAt example i) (callAt example i)
@@ -161,20 +163,20 @@ is-ready m n e =
     let a = and-right (eqb (stepCode m tray 0) 0) _ e in
     let b = and-right (not (isIdle narrow (client m 0))) _ a in
     let c = and-right (eqb (kind (client m 0)) reads) _ b in
-    let k = sameKey (asking (queryAt (shape m) (client m 0))) (asking q) in (
+    let k = sameAsk (askAt (shape m) (client m 0)) q in (
       eqb-true (stepCode m tray 0) 0 (and-left (eqb (stepCode m tray 0) 0) _ e),
       record {
         below = omega arith;
         busy = not-true (isIdle narrow (client m 0)) (and-left (not (isIdle narrow (client m 0))) _ a);
-        reader = eqb-true (kind (client m 0)) reads (and-left (eqb (kind (client m 0)) reads) _ b);
-        asks = ap (λ (x : Key). x .asked) (sameKey-eq (asking (queryAt (shape m) (client m 0))) (asking q) (and-left k _ c));
+        works = asking-at (shape m) (client m 0) (eqb-true (kind (client m 0)) reads (and-left (eqb (kind (client m 0)) reads) _ b))
+            ∙ ap asking (sameAsk-eq (askAt (shape m) (client m 0)) q (and-left k _ c));
         made = eqb-true (steps (client m 0)) n (and-right k _ c);
       },
     )
 
 -- a read that call b began at desk 0 is under way up to call n, where no call between is 5 or 9
-runs : (b n : ℕ) → b < n → n ≤ 9 → ((i : ℕ) → b < i → i < n → i ≡ labelWidth → ⊥) → callAt example b ≡ beginRead 0 asked → acceptedAt example b ≡ true
-    → UnderWay example (beginRead 0 asked) 0 b n
+runs : (b n : ℕ) → b < n → n ≤ 9 → ((i : ℕ) → b < i → i < n → i ≡ 5 → ⊥) → callAt example b ≡ begin 0 (readOf asked) → acceptedAt example b ≡ true
+    → UnderWay example (readOf asked) 0 b n
 unfolding goes resultAt
 runs b n l m f c a = record {
   begins = c;
@@ -193,11 +195,11 @@ second-begun : acceptedAt example 6 ≡ true
 unfolding acceptedAt resultAt
 second-begun = at 6 (omega arith) .begun-again
 
-first-call : callAt example 0 ≡ beginRead 0 asked
+first-call : callAt example 0 ≡ begin 0 (readOf asked)
 unfolding callAt
 first-call = refl
 
-second-call : callAt example 6 ≡ beginRead 0 asked
+second-call : callAt example 6 ≡ begin 0 (readOf asked)
 unfolding callAt
 second-call = refl
 
@@ -211,7 +213,7 @@ fetch-call = refl
 
 was-filed : Filed example q 0 5
 was-filed =
-    let r = is-ready (memAt example 5) (readCount q + 2) (at 5 (omega arith) .files) in
+    let r = is-ready (memAt example 5) (length (readLabels q) + 2) (at 5 (omega arith) .files) in
     record {
       client = 0;
       asked = asked;
@@ -227,7 +229,7 @@ e = getD (answersIn narrow (memAt example 9 .answers)) 0 []
 
 record OnFile (m : Mem) : Type 0 where
   one : length (answersIn narrow (m .answers)) ≡ 1
-  key : keyIn (getD (answersIn narrow (m .answers)) 0 []) ≡ keyWords q
+  key : keyIn (getD (answersIn narrow (m .answers)) 0 []) ≡ askKey q
   none : lengthIn (getD (answersIn narrow (m .answers)) 0 []) ≡ 0
 
 is-filed : (m : Mem) → onFile m ≡ true → OnFile m
@@ -237,16 +239,16 @@ is-filed m e =
     let a = and-right (eqb (length (answersIn narrow (m .answers))) 1) _ e in
     record {
       one = eqb-true (length (answersIn narrow (m .answers))) 1 (and-left (eqb (length (answersIn narrow (m .answers))) 1) _ e);
-      key = same-eq (keyIn x) (keyWords q) (and-left (same (keyIn x) (keyWords q)) _ a);
-      none = eqb-true (lengthIn x) 0 (and-right (same (keyIn x) (keyWords q)) _ a);
+      key = same-eq (keyIn x) (askKey q) (and-left (same (keyIn x) (askKey q)) _ a);
+      none = eqb-true (lengthIn x) 0 (and-right (same (keyIn x) (askKey q)) _ a);
     }
 
 filed-there : OnFile (memAt example 9)
-filed-there = is-filed (memAt example 9) (and-right (ready (memAt example 9) (readCount q)) _ (at 9 (omega arith) .fetches))
+filed-there = is-filed (memAt example 9) (and-right (ready (memAt example 9) (length (readLabels q))) _ (at 9 (omega arith) .fetches))
 
 fetched : Fetches example q 6 9 e
 fetched =
-    let r = is-ready (memAt example 9) (readCount q) (and-left (ready (memAt example 9) (readCount q)) _ (at 9 (omega arith) .fetches)) in
+    let r = is-ready (memAt example 9) (length (readLabels q)) (and-left (ready (memAt example 9) (length (readLabels q))) _ (at 9 (omega arith) .fetches)) in
     record {
       client = 0;
       asked = asked;
@@ -264,7 +266,7 @@ fetched =
 
 may-file : (g b : ℕ) → Filed example q b g → mayFile (callAt example g) (memAt example g) ≡ true
 unfolding mayFile
-may-file g b x = ap (λ c. mayFile c (memAt example g)) (x .calls) ∙ eq-eqb (steps (client (memAt example g) (x .client))) (readCount q + 2) (x .files .made)
+may-file g b x = ap (λ c. mayFile c (memAt example g)) (x .calls) ∙ eq-eqb (steps (client (memAt example g) (x .client))) (length (readLabels q) + 2) (x .files .made)
 
 last-filed : LastFiled example q 5 9
 last-filed = (

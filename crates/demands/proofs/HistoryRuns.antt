@@ -7,15 +7,14 @@ use native.Mathlib.Omega.{arith}
 use lib.ListN.{length, getD, take}
 use Rattle.rules.specs.Memory.{Mem, storeIn, opened}
 use Rattle.rules.specs.Outcome.{number}
-use Rattle.rules.specs.Refusals.{shape, columns}
-use Rattle.rules.specs.History.{Call, beginRead, beginInsert, beginDelete, step, abandon, evictAnswer, evictNode, renew, callResult}
-use Rattle.rules.specs.History.{Plain, plainAtOpening, fed, fedAccepted, memAfter, plainAfter}
-use Rattle.revisions.proofs.EffectiveRevision.{NoDup}
-use Rattle.machine.proofs.Machine as machine
-use Rattle.machine.proofs.Machine.{State, Response}
-use Rattle.machine.proofs.Transition.{Transition}
+use Rattle.rules.specs.Refusals.{shape}
+use Rattle.rules.specs.History.{Call, begin, step, abandon, evictAnswer, evictNode, renew, callResult, isAccepted, Note, nothing, doing, noteAt}
+use Rattle.rules.specs.History.{oneStep, plainAtOpening, fed, fedAccepted, memAfter, plainAfter}
+use Rattle.laws.proofs.TestLaws.{byTest}
+use Rattle.revisions.specs.EffectiveRevision.{NoDup}
+use Rattle.machine.specs.Machine.{State, Response}
+use Rattle.machine.specs.Transition.{Transition}
 use Rattle.machine.proofs.StateInv.{StateInv}
-use Rattle.machine.proofs.Plain as plain
 use Rattle.machine.proofs.Claims.{Hist, next, fresh, Good, good-next, opened-good}
 use Rattle.machine.proofs.Log.{Entry, entry, after}
 use Rattle.machine.proofs.Histories.{Run, after-append}
@@ -24,6 +23,9 @@ use Rattle.refinement.proofs.Refinement.{refines, shape-stays, number-is}
 use Rattle.refinement.proofs.Opening.{opened-fits}
 use Rattle.demands.specs.WholeHistory.{History, shapeAt, memAt, plainAt, callAt, resultAt}
 use Rattle.query.specs.Shape.{Shape, maxColumns, narrow}
+use Rattle.machine.specs.Machine as machine
+use Rattle.machine.proofs.Plain as plain
+use Rattle.rules.specs.History.{Plain}
 
 -- ---- One call more
 mem-more : (cs : List Call) (m : Mem) (n : ℕ) → n < length cs → memAfter m (take (suc n) cs) ≡ callResult (memAfter m (take n cs)) (getD cs n renew) .mem
@@ -53,13 +55,13 @@ unfoldable pub responseAt : History → ℕ → Response
 responseAt h n = responseOf (shape (memAt h n)) (resultAt h n)
 
 unfoldable pub entryAt : History → ℕ → Entry
-entryAt h n = entry (callOf (callAt h n)) (responseAt h n)
+entryAt h n = entry (callOf (shapeAt h) (callAt h n)) (responseAt h n)
 
 unfoldable pub logTo : History → ℕ → List Entry
 logTo h zero = []
 logTo h (suc n) = logTo h n ++ (entryAt h n ∷ [])
 
-pub after-to : (h : History) (n : ℕ) → after (fresh (shapeAt h)) (logTo h (suc n)) ≡ next (after (fresh (shapeAt h)) (logTo h n)) (callOf (callAt h n)) (responseAt h n)
+pub after-to : (h : History) (n : ℕ) → after (fresh (shapeAt h)) (logTo h (suc n)) ≡ next (after (fresh (shapeAt h)) (logTo h n)) (callOf (shapeAt h) (callAt h n)) (responseAt h n)
 unfolding logTo entryAt
 after-to h n = after-append (logTo h n) (fresh (shapeAt h)) (entryAt h n)
 
@@ -112,9 +114,9 @@ run-more (e ∷ l) s m t c a r o = (r .0, r .1, run-more l (r .0) m t c a (r .2)
 
 -- a call of the history is a step of the machine
 transition-then : (h : History) (n : ℕ) → n < length (h .calls) → Sound h n
-    → Transition (stateOf (memAt h n)) (callOf (callAt h n)) (responseAt h n) (stateOf (memAt h (suc n))) × Fits (memAt h (suc n))
+    → Transition (stateOf (memAt h n)) (callOf (shapeAt h) (callAt h n)) (responseAt h n) (stateOf (memAt h (suc n))) × Fits (memAt h (suc n))
 unfolding responseAt resultAt
-transition-then h n l s = rw (next-mem h n l) (refines (memAt h n) (callAt h n) (s .fits) (once (memAt h n) (s .good .inv)))
+transition-then h n l s = rw (next-mem h n l, sym (s .shape)) (refines (memAt h n) (callAt h n) (s .fits) (once (memAt h n) (s .good .inv)))
 
 sound-next : (h : History) (n : ℕ) → n < length (h .calls) → Sound h n → Sound h (suc n)
 unfolding resultAt logTo entryAt
@@ -124,27 +126,52 @@ sound-next h n l s =
       fits = d .1;
       shape = ap (λ (m : Mem). shape m) (next-mem h n l) ∙ shape-stays (memAt h n) (callAt h n) (s .fits) (once (memAt h n) (s .good .inv)) ∙ s .shape;
       good = rw (after-to h n) (good-next (stateOf (memAt h n)) (after (fresh (shapeAt h)) (logTo h n)) (s .good) (d .0));
-      run = run-more (logTo h n) (machine.opened (shapeAt h)) (stateOf (memAt h n)) (stateOf (memAt h (suc n))) (callOf (callAt h n)) (responseAt h n) (s .run) (d .0);
+      run = run-more (logTo h n) (machine.opened (shapeAt h)) (stateOf (memAt h n)) (stateOf (memAt h (suc n))) (callOf (shapeAt h) (callAt h n)) (responseAt h n) (s .run) (d .0);
     }
 
 pub sound : (h : History) (n : ℕ) → n ≤ length (h .calls) → Sound h n
 sound h zero l = sound-opened h
 sound h (suc n) l = sound-next h n (omega arith) (sound h n (omega arith))
 
-pub transition-at : (h : History) (n : ℕ) → n < length (h .calls) → Transition (stateOf (memAt h n)) (callOf (callAt h n)) (responseAt h n) (stateOf (memAt h (suc n)))
+pub transition-at : (h : History) (n : ℕ) → n < length (h .calls) → Transition (stateOf (memAt h n)) (callOf (shapeAt h) (callAt h n)) (responseAt h n) (stateOf (memAt h (suc n)))
 transition-at h n l = transition-then h n l (sound h n (omega arith)) .0
 
 -- ---- The plain table
-fed-same : (p : Plain) (c : Call) (n : ℕ) → plain.fed p (callOf c) n ≡ fed p c n
+fed-same : (p : Plain) (c : Call) (n : ℕ) → plain.fed p (callOf (p .shape) c) n ≡ fed p c n
 unfolding plain.fed plain.fedAccepted fed fedAccepted callOf
-fed-same p (beginRead d a) n = refl
-fed-same p (beginInsert d a) n = refl
-fed-same p (beginDelete d a) n = refl
+fed-same p (begin d r) n = refl
 fed-same p (step d tray) n = refl
 fed-same p (abandon d) n = refl
 fed-same p (evictAnswer i) n = refl
 fed-same p (evictNode i) n = refl
 fed-same p renew n = refl
+
+-- it keeps its shape
+step-shape : (p : Plain) (d : ℕ) (x : Note) → oneStep p d x .shape ≡ p .shape
+unfolding oneStep noteAt
+step-shape p d nothing = refl
+step-shape p d (doing x n) = refl
+
+accepted-shape : (p : Plain) (c : Call) → fedAccepted p c .shape ≡ p .shape
+unfolding fedAccepted noteAt
+accepted-shape p (begin d r) = refl
+accepted-shape p (step d tray) = step-shape p d (p .notes d)
+accepted-shape p (abandon d) = refl
+accepted-shape p (evictAnswer i) = refl
+accepted-shape p (evictNode i) = refl
+accepted-shape p renew = refl
+
+fed-shape : (p : Plain) (c : Call) (n : ℕ) → fed p c n .shape ≡ p .shape
+unfolding fed
+fed-shape p c n = byTest (isAccepted n) (λ e. rw e (accepted-shape p c)) (λ e. rw e refl)
+
+plain-shape : (h : History) (n : ℕ) → n ≤ length (h .calls) → plainAt h n .shape ≡ shapeAt h
+plain-shape h zero l = start h
+  where
+    start : (h : History) → plainAt h 0 .shape ≡ shapeAt h
+    start h = unfold plainAt in unfold plainAfter in unfold plainAtOpening in refl
+plain-shape h (suc n) l =
+    ap (λ (p : Plain). p .shape) (next-plain h n (omega arith)) ∙ fed-shape (plainAt h n) (callAt h n) _ ∙ plain-shape h n (omega arith)
 
 pub number-at : (h : History) (n : ℕ) → machine.number (responseAt h n) ≡ number (resultAt h n .out)
 unfolding responseAt
@@ -162,8 +189,9 @@ plain-at h zero l = start h
 plain-at h (suc n) l =
     let g = after (fresh (shapeAt h)) (logTo h n) in
     ap (λ (x : Hist). x .plain) (after-to h n)
-    ∙ next-is g (callOf (callAt h n)) (responseAt h n)
-    ∙ ap (λ p. plain.fed p (callOf (callAt h n)) (machine.number (responseAt h n))) (plain-at h n (omega arith))
+    ∙ next-is g (callOf (shapeAt h) (callAt h n)) (responseAt h n)
+    ∙ ap (λ p. plain.fed p (callOf (shapeAt h) (callAt h n)) (machine.number (responseAt h n))) (plain-at h n (omega arith))
+    ∙ ap (λ (sh : Shape). plain.fed (plainAt h n) (callOf sh (callAt h n)) (machine.number (responseAt h n))) (sym (plain-shape h n (omega arith)))
     ∙ fed-same (plainAt h n) (callAt h n) (machine.number (responseAt h n))
     ∙ ap (fed (plainAt h n) (callAt h n)) (number-at h n)
     ∙ sym (next-plain h n (omega arith))

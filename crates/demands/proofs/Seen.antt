@@ -10,24 +10,25 @@ use lib.ListN.{length}
 use Rattle.lists.specs.Lists.{same}
 use Rattle.laws.proofs.ListLaws.{same-refl, below-at}
 use Rattle.laws.proofs.TestLaws.{byTest, clash, or-right}
-use Rattle.query.specs.Query.{Query, Record, lies, writeCount}
-use Rattle.rules.specs.Table.{Table, Write, insert, delete, target, has, effect, noRoom}
-use Rattle.rules.specs.Client.{Client, kind, steps, isIdle, entryOf, sawPending, didChange, foundFull, writeAt}
+use Rattle.query.specs.Query.{Query, Record, lies}
+use Rattle.rules.specs.Table.{Table, insert, delete, has, effect, noRoom, Change}
+use Rattle.rules.specs.Work.{Write, Ask, readLabels, writeLabels, workIn}
+use Rattle.rules.specs.Client.{Client, kind, steps, isIdle, entryOf, sawPending, didChange, foundFull, writeAt, workAt}
 use Rattle.query.specs.Shape.{Shape, narrow}
 use Rattle.rules.specs.Layout.{maxClients, reads}
 use Rattle.rules.specs.Memory.{Mem}
-use Rattle.rules.specs.Refusals.{shape, columns, client}
+use Rattle.rules.specs.Refusals.{shape, client}
 use Rattle.records.proofs.RecordSets.{has-insert, has-delete, no-room-same}
-use Rattle.machine.proofs.Machine.{State, Phase, idle, looking, tabling, filing, announcing, raising, Call, Response}
-use Rattle.machine.proofs.Machine.{at-client, with-store, with-filed, with-tab}
-use Rattle.machine.proofs.Transition
-use Rattle.machine.proofs.Transition.{Transition}
-use Rattle.refinement.proofs.Abstraction.{stateOf, looksOf, readerOf, writerOf, busyPhase, phaseOf}
+use Rattle.machine.specs.Machine.{State, Phase, idle, looking, tabling, filing, announcing, raising, Call, Response}
+use Rattle.machine.specs.Transition.{Transition}
+use Rattle.refinement.proofs.Abstraction.{stateOf, readerOf, writerOf, busyPhase, phaseOf}
 use Rattle.refinement.proofs.StepFrame.{client-at}
+use Rattle.machine.proofs.Frames.{same-table, written, transition-frame}
 use Rattle.demands.specs.WholeHistory.{History, memAt}
 use Rattle.demands.specs.Corollaries.{tableAt, undoes, isOpposed, isUnopposed, Unopposed}
 use Rattle.demands.proofs.HistoryRuns.{transition-at}
 use Rattle.demands.proofs.Demand3Holds.{table-is}
+use Rattle.machine.specs.Transition
 
 -- ---- What a write does to a record
 put-keeps : (r s : Record) (v : Bool) (t : Table) → (v || same s r) ≡ v → has r t ≡ v → has r (effect (insert s) t) ≡ v
@@ -35,7 +36,7 @@ put-keeps r s v t e h = byTest (noRoom (insert s) t)
     (λ n. ap (has r) (no-room-same s t n) ∙ h)
     (λ n. has-insert r s t n ∙ rw h e)
 
-effect-keeps : (v : Bool) (r : Record) (w : Write) (t : Table) → undoes v r w ≡ false → has r t ≡ v → has r (effect w t) ≡ v
+effect-keeps : (v : Bool) (r : Record) (w : Change) (t : Table) → undoes v r w ≡ false → has r t ≡ v → has r (effect w t) ≡ v
 unfolding undoes
 effect-keeps true r (insert s) t e h = put-keeps r s true t refl h
 effect-keeps true r (delete q) t e h = has-delete r q t ∙ rw (h, e)
@@ -60,29 +61,30 @@ isAnnouncing (raising w j c f) = false
 no-announcing : {A : Type 0} {x : Phase} {w : Write} {i : ℕ} → x ≡ announcing w i → isAnnouncing x ≡ false → A
 no-announcing e f = clash (ap isAnnouncing e) f
 
-reader-announces : (sh : Shape) (c : Client) → isAnnouncing (readerOf sh (entryOf c) (steps c) (sawPending c)) ≡ false
+reader-announces : (sh : Shape) (x : Ask) (c : Client) → isAnnouncing (readerOf sh x (entryOf c) (steps c) (sawPending c)) ≡ false
 unfolding readerOf
-reader-announces sh c = byTest (leb (steps c) (looksOf sh (entryOf c))) (λ t. rw t refl)
-    (λ t. byTest (eqb (steps c) (looksOf sh (entryOf c) + 1)) (λ u. rw (t, u) refl) (λ u. rw (t, u) refl))
+reader-announces sh x c = byTest (leb (steps c) (length (readLabels x))) (λ t. rw t refl)
+    (λ t. byTest (eqb (steps c) (length (readLabels x) + 1)) (λ u. rw (t, u) refl) (λ u. rw (t, u) refl))
 
 writer-announces : (v w : Write) (n i : ℕ) (c f : Bool) → writerOf v n c f ≡ announcing w i → v ≡ w
 unfolding writerOf
-writer-announces v w n i c f e = byTest (leb n (writeCount (target v)))
+writer-announces v w n i c f e = byTest (leb n (length (writeLabels v)))
     (λ t. let z : announcing v n ≡ announcing w i = rw t at e in cc)
     (λ t. no-announcing (rw t at e) refl)
 
 -- a client that marks is a writer's
-client-announces : (sh : Shape) (c : Client) (w : Write) (i : ℕ) (v : Bool) (r : Record) → phaseOf sh c ≡ announcing w i → isOpposed narrow sh v r c ≡ false → undoes v r w ≡ false
-unfolding phaseOf busyPhase isOpposed
+client-announces : (sh : Shape) (c : Client) (w : Write) (i : ℕ) (v : Bool) (r : Record) → phaseOf sh c ≡ announcing w i → isOpposed narrow sh v r c ≡ false
+    → undoes v r (w .change) ≡ false
+unfolding phaseOf workAt workIn writeAt busyPhase isOpposed
 client-announces sh c w i v r e f = byTest (isIdle narrow c)
     (λ t. no-announcing (rw t at e) refl)
     (λ t. byTest (eqb (kind c) reads)
-    (λ u. no-announcing (rw (t, u) at e) (reader-announces sh c))
-    (λ u. ap (undoes v r) (sym (writer-announces (writeAt sh c) w (steps c) i (didChange c) (foundFull c) (rw (t, u) at e))) ∙ (rw (t, u) at f)))
+    (λ u. no-announcing (rw (t, u) at e) (reader-announces sh _ c))
+    (λ u. ap (λ (x : Write). undoes v r (x .change)) (sym (writer-announces _ w (steps c) i (didChange c) (foundFull c) (rw (t, u) at e))) ∙ (rw (t, u) at f)))
 
 -- no desk is about to undo it
 abbrev Quiescent : Bool → Record → State → Type 0
-Quiescent v r s = (d : ℕ) (w : Write) (i : ℕ) → d < maxClients → s .clients d ≡ announcing w i → undoes v r w ≡ false
+Quiescent v r s = (d : ℕ) (w : Write) (i : ℕ) → d < maxClients → s .clients d ≡ announcing w i → undoes v r (w .change) ≡ false
 
 quiescent-there : (v : Bool) (r : Record) (m : Mem) → isUnopposed v r m ≡ true → Quiescent v r (stateOf m)
 unfolding isUnopposed
@@ -92,26 +94,10 @@ quiescent-there v r m e d w i l k =
 
 -- ---- A call, and a history
 transition-keeps : (s : State) (v : Bool) (r : Record) {c : Call} {a : Response} {t : State} → Transition s c a t → Quiescent v r s → has r (s .tab) ≡ v → has r (t .tab) ≡ v
-unfolding at-client with-store with-filed with-tab
-transition-keeps s v r (Transition.nothing e) k y = y
-transition-keeps s v r (Transition.began l e f) k y = y
-transition-keeps s v r (Transition.began-write l e f o) k y = y
-transition-keeps s v r (Transition.looked l e f g p) k y = y
-transition-keeps s v r (Transition.missed l e f m) k y = y
-transition-keeps s v r (Transition.hit l e f i g) k y = y
-transition-keeps s v r (Transition.too-long l e f) k y = y
-transition-keeps s v r (Transition.listed l e f) k y = y
-transition-keeps s v r (Transition.took l e f) k y = y
-transition-keeps s v r (Transition.filed l e) k y = y
-transition-keeps s v r (Transition.announced l e f m) k y = y
-transition-keeps s v r (Transition.wrote {d} {w} {i} l e f) k y = effect-keeps v r w (s .tab) (k d w i l e) y
-transition-keeps s v r (Transition.raised l e f m) k y = y
-transition-keeps s v r (Transition.last l e g m) k y = y
-transition-keeps s v r (Transition.abandoned-read l e) k y = y
-transition-keeps s v r (Transition.abandoned-write l e m) k y = y
-transition-keeps s v r (Transition.evicted-answer l) k y = y
-transition-keeps s v r (Transition.evicted-node l g) k y = y
-transition-keeps s v r (Transition.renewed i) k y = y
+transition-keeps s v r o k y = elim (transition-frame s o .table) [
+  | same-table e ↦ rw e y
+  | written d w i l e f ↦ rw f (effect-keeps v r (w .change) (s .tab) (k d w i l e) y)
+]
 
 -- from moment t on
 pub keeps : (h : History) (v : Bool) (r : Record) (b n t : ℕ) → n < length (h .calls) → Unopposed h v r b n → b < t → has r (tableAt h t) ≡ v

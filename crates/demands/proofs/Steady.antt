@@ -12,73 +12,56 @@ use borrow.Author.Tests.{eqb-true, eqb-false, leb-true, not-true}
 use lib.ListN.{length}
 use Rattle.laws.proofs.ListLaws.{below-at}
 use Rattle.laws.proofs.TestLaws.{byTest, clash}
-use Rattle.query.specs.Query.{Query}
 use Rattle.rules.specs.Layout.{maxClients, maxList}
-use Rattle.rules.specs.Table.{Write, listOf, effect}
-use Rattle.rules.specs.History as rules
-use Rattle.machine.proofs.Sharing.{effect-list}
-use Rattle.machine.proofs.Keys.{Val, short, touches}
-use Rattle.machine.proofs.Machine.{Call, begin-read, begin-write, step, abandon, evict-answer, evict-node, renew}
-use Rattle.machine.proofs.Machine.{State, announcing, Response, refused, went, answered, long, ended, full, write-end}
-use Rattle.machine.proofs.Machine.{at-client, with-store, with-filed, with-tab}
-use Rattle.machine.proofs.Transition
-use Rattle.machine.proofs.Transition.{Transition}
+use Rattle.rules.specs.Work.{Write, Value, mayAnswer, shares, Ask}
+use Rattle.rules.specs.Table.{listOf, effect}
+use Rattle.rules.proofs.Sharing.{effect-list}
+use Rattle.machine.specs.Machine.{Call, begin, step, abandon, evict-answer, evict-node, renew, State, announcing, Response, refused, went, answered}
+use Rattle.machine.specs.Machine.{long, ended, full, write-end, isEnd}
+use Rattle.machine.specs.Transition.{Transition}
 use Rattle.machine.proofs.Trace.{Trace}
-use Rattle.machine.proofs.TraceInv
 use Rattle.machine.proofs.TraceInv.{TraceInv}
-use Rattle.machine.proofs.Log.{isEnd}
 use Rattle.machine.proofs.Quiescence.{opens, quiet}
 use Rattle.refinement.proofs.Abstraction.{stateOf, callOf}
-use Rattle.demands.specs.WholeHistory.{History, memAt, callAt}
+use Rattle.rules.proofs.WorkLaws.{shares-is}
+use Rattle.query.specs.Shape.{Shape}
+use Rattle.machine.proofs.Frames.{same-table, written, ResponseFrom, by-refusal, by-going-on, from-file, from-table, from-hand, by-length, by-last-raise, transition-frame}
+use Rattle.demands.specs.WholeHistory.{History, memAt, callAt, shapeAt}
 use Rattle.demands.specs.Demand2.{isQuiet}
 use Rattle.demands.specs.Corollaries.{tableAt}
 use Rattle.demands.proofs.HistoryRuns.{responseAt, sound, transition-at}
-use Rattle.demands.proofs.Moments.{asking, quiet-there}
+use Rattle.demands.proofs.Moments.{quiet-there}
 use Rattle.demands.proofs.Demand3Holds.{table-is}
+use Rattle.rules.specs.History as rules
+use Rattle.machine.specs.Transition
+use Rattle.machine.proofs.TraceInv
 
 -- ---- A query's list
-not-open : (s : State) (q : Query) (d : ℕ) (w : Write) (i : ℕ) → quiet s (asking q) ≡ true → d < maxClients → s .clients d ≡ announcing w i → touches (asking q) w ≡ false
+not-open : (s : State) (q : Ask) (d : ℕ) (w : Write) (i : ℕ) → quiet s q ≡ true → d < maxClients → s .clients d ≡ announcing w i → shares q w ≡ false
 unfolding quiet opens
 not-open s q d w i e l k =
-    let z = not-true (opens (s .clients d) (asking q)) (below-at 12 (λ d. not (opens (s .clients d) (asking q))) d e l) in
+    let z = not-true (opens (s .clients d) q) (below-at 12 (λ d. not (opens (s .clients d) q)) d e l) in
     rw k at z
 
-wrote-list : (s : State) (q : Query) (w : Write) → touches (asking q) w ≡ false → listOf q (effect w (s .tab)) ≡ listOf q (s .tab)
-unfolding touches
-wrote-list s q w f = elim (effect-list w q (s .tab)) [ inl e ↦ e | inr e ↦ clash e f ]
+wrote-list : (s : State) (q : Ask) (w : Write) → shares q w ≡ false → listOf (q .query) (effect (w .change) (s .tab)) ≡ listOf (q .query) (s .tab)
+wrote-list s q w f = elim (effect-list w q (s .tab)) [ inl e ↦ e | inr e ↦ clash (shares-is q w .1 e) f ]
 
-list-stays : (s : State) (q : Query) {c : Call} {a : Response} {t : State} → Transition s c a t → quiet s (asking q) ≡ true → listOf q (t .tab) ≡ listOf q (s .tab)
-unfolding at-client with-store with-filed with-tab
-list-stays s q (Transition.nothing e) k = refl
-list-stays s q (Transition.began l e f) k = refl
-list-stays s q (Transition.began-write l e f o) k = refl
-list-stays s q (Transition.looked l e f g p) k = refl
-list-stays s q (Transition.missed l e f y) k = refl
-list-stays s q (Transition.hit l e f i g) k = refl
-list-stays s q (Transition.too-long l e f) k = refl
-list-stays s q (Transition.listed l e f) k = refl
-list-stays s q (Transition.took l e f) k = refl
-list-stays s q (Transition.filed l e) k = refl
-list-stays s q (Transition.announced l e f m) k = refl
-list-stays s q (Transition.wrote {d} {w} {i} l e f) k = wrote-list s q w (not-open s q d w i k l e)
-list-stays s q (Transition.raised l e f m) k = refl
-list-stays s q (Transition.last l e g m) k = refl
-list-stays s q (Transition.abandoned-read l e) k = refl
-list-stays s q (Transition.abandoned-write l e m) k = refl
-list-stays s q (Transition.evicted-answer l) k = refl
-list-stays s q (Transition.evicted-node l g) k = refl
-list-stays s q (Transition.renewed i) k = refl
+list-stays : (s : State) (q : Ask) {c : Call} {a : Response} {t : State} → Transition s c a t → quiet s q ≡ true → listOf (q .query) (t .tab) ≡ listOf (q .query) (s .tab)
+list-stays s q o k = elim (transition-frame s o .table) [
+  | same-table e ↦ ap (listOf (q .query)) e
+  | written d w i l e f ↦ ap (listOf (q .query)) f ∙ wrote-list s q w (not-open s q d w i k l e)
+]
 
 -- from moment j on, as long as it is quiet
-pub lists-stay : (h : History) (q : Query) (b n j : ℕ) → n ≤ length (h .calls) → b < j → j ≤ n
-    → ((i : ℕ) → b < i → i < n → isQuiet q (memAt h i) ≡ true) → listOf q (tableAt h n) ≡ listOf q (tableAt h j)
+pub lists-stay : (h : History) (q : Ask) (b n j : ℕ) → n ≤ length (h .calls) → b < j → j ≤ n
+    → ((i : ℕ) → b < i → i < n → isQuiet q (memAt h i) ≡ true) → listOf (q .query) (tableAt h n) ≡ listOf (q .query) (tableAt h j)
 lists-stay h q b zero j l m o k = absurd (omega arith)
 lists-stay h q b (suc n) j l m o k = byTest (eqb j (suc n))
-    (λ e. ap (λ x. listOf q (tableAt h x)) (sym (eqb-true j (suc n) e)))
+    (λ e. ap (λ x. listOf (q .query) (tableAt h x)) (sym (eqb-true j (suc n) e)))
     (λ e. let ne : j ≡ suc n → ⊥ = eqb-false j (suc n) e in
-    ap (listOf q) (sym (table-is h (suc n) l))
+    ap (listOf (q .query)) (sym (table-is h (suc n) l))
     ∙ list-stays (stateOf (memAt h n)) q (transition-at h n (omega arith)) (quiet-there q (memAt h n) (k n (omega arith) (omega arith)))
-    ∙ ap (listOf q) (table-is h n (omega arith))
+    ∙ ap (listOf (q .query)) (table-is h n (omega arith))
     ∙ lists-stay h q b n j (omega arith) m (omega arith) (λ i x y. k i x (omega arith)))
 
 -- ---- How long an answer is
@@ -90,8 +73,8 @@ Short long = Unit
 Short (ended c) = Unit
 Short full = Unit
 
-few : (v : Val) → short v ≡ true → v .count ≤ maxList
-unfolding short
+few : (v : Value) → mayAnswer v ≡ true → v .count ≤ maxList
+unfolding mayAnswer
 few v e = leb-true (v .count) maxList e
 
 end-short : (c f : Bool) → Short (write-end c f)
@@ -99,75 +82,49 @@ unfolding write-end
 end-short c true = tt
 end-short c false = tt
 
-transition-short : (s : State) (B : Trace) {c : Call} {a : Response} {t : State} → TraceInv s B → Transition s c a t → Short a
-transition-short s B u (Transition.nothing e) = tt
-transition-short s B u (Transition.began l e f) = tt
-transition-short s B u (Transition.began-write l e f o) = tt
-transition-short s B u (Transition.looked l e f g p) = tt
-transition-short s B u (Transition.missed l e f y) = tt
-transition-short s B u (Transition.hit {a} l e f i g) = few (a .list) (u .was (a .query) (a .revs) (a .list) _ (TraceInv.on-file i refl) .few)
-transition-short s B u (Transition.too-long l e f) = tt
-transition-short s B u (Transition.listed l e f) = few _ f
-transition-short s B u (Transition.took l e f) = tt
-transition-short s B u (Transition.filed {d} {q} {ns} {l = v} l e) = few v (u .was q ns v _ (TraceInv.at-hand d e refl) .few)
-transition-short s B u (Transition.announced l e f m) = tt
-transition-short s B u (Transition.wrote l e f) = tt
-transition-short s B u (Transition.raised l e f m) = tt
-transition-short s B u (Transition.last {c} {f} l e g m) = end-short c f
-transition-short s B u (Transition.abandoned-read l e) = tt
-transition-short s B u (Transition.abandoned-write l e m) = tt
-transition-short s B u (Transition.evicted-answer l) = tt
-transition-short s B u (Transition.evicted-node l g) = tt
-transition-short s B u (Transition.renewed i) = tt
+short-from : (s : State) (B : Trace) {c : Call} {a : Response} → TraceInv s B → ResponseFrom s c a → Short a
+short-from s B u (by-refusal e) = tt
+short-from s B u by-going-on = tt
+short-from s B u (from-file b e i) = few (b .list) (u .was (b .query) (b .revs) (b .list) _ (TraceInv.on-file i refl) .few)
+short-from s B u (from-table e k) = few _ k
+short-from s B u (from-hand {d} {q} {ns} {v} e) = few v (u .was q ns v _ (TraceInv.at-hand d e refl) .few)
+short-from s B u by-length = tt
+short-from s B u (by-last-raise c f) = end-short c f
 
-pub answer-short : (h : History) (n : ℕ) (v : Val) (f : Bool) → n < length (h .calls) → responseAt h n ≡ answered v f → v .count ≤ maxList
+pub answer-short : (h : History) (n : ℕ) (v : Value) (f : Bool) → n < length (h .calls) → responseAt h n ≡ answered v f → v .count ≤ maxList
 answer-short h n v f l e =
-    subst Short e (transition-short (stateOf (memAt h n)) _ (sound h n (omega arith) .good .trace) (transition-at h n l))
+    subst Short e (short-from (stateOf (memAt h n)) _ (sound h n (omega arith) .good .trace) (transition-frame (stateOf (memAt h n)) (transition-at h n l) .response))
 
 -- ---- Only a step answers
 abbrev isStep : Call → Bool
-isStep (begin-read e q) = false
-isStep (begin-write e w) = false
+isStep (begin e x) = false
 isStep (step e) = true
 isStep (abandon e) = false
 isStep (evict-answer i) = false
 isStep (evict-node i) = false
 isStep renew = false
 
-transition-step : (s : State) {c : Call} {a : Response} {t : State} → Transition s c a t → isEnd a ≡ true → isStep c ≡ true
+step-from : (s : State) {c : Call} {a : Response} → ResponseFrom s c a → isEnd a ≡ true → isStep c ≡ true
 unfolding isEnd
-transition-step s (Transition.nothing e) k = absurd (false≢true k)
-transition-step s (Transition.began l e f) k = k
-transition-step s (Transition.began-write l e f o) k = k
-transition-step s (Transition.looked l e f g p) k = refl
-transition-step s (Transition.missed l e f y) k = refl
-transition-step s (Transition.hit l e f i g) k = refl
-transition-step s (Transition.too-long l e f) k = refl
-transition-step s (Transition.listed l e f) k = refl
-transition-step s (Transition.took l e f) k = refl
-transition-step s (Transition.filed l e) k = refl
-transition-step s (Transition.announced l e f m) k = refl
-transition-step s (Transition.wrote l e f) k = refl
-transition-step s (Transition.raised l e f m) k = refl
-transition-step s (Transition.last l e g m) k = refl
-transition-step s (Transition.abandoned-read l e) k = k
-transition-step s (Transition.abandoned-write l e m) k = k
-transition-step s (Transition.evicted-answer l) k = k
-transition-step s (Transition.evicted-node l g) k = k
-transition-step s (Transition.renewed i) k = k
+step-from s (by-refusal e) k = absurd (false≢true k)
+step-from s by-going-on k = absurd (false≢true k)
+step-from s (from-file b e i) k = refl
+step-from s (from-table e f) k = refl
+step-from s (from-hand e) k = refl
+step-from s by-length k = refl
+step-from s (by-last-raise c f) k = refl
 
-step-passed : (c : rules.Call) → isStep (callOf c) ≡ true → (d : ℕ) × (tray : List ℕ) × (c ≡ rules.step d tray)
+step-passed : (sh : Shape) (c : rules.Call) → isStep (callOf sh c) ≡ true → (d : ℕ) × (tray : List ℕ) × (c ≡ rules.step d tray)
 unfolding callOf
-step-passed (rules.beginRead e a) k = absurd (false≢true k)
-step-passed (rules.beginInsert e a) k = absurd (false≢true k)
-step-passed (rules.beginDelete e a) k = absurd (false≢true k)
-step-passed (rules.step e tray) k = (e, tray, refl)
-step-passed (rules.abandon e) k = absurd (false≢true k)
-step-passed (rules.evictAnswer i) k = absurd (false≢true k)
-step-passed (rules.evictNode i) k = absurd (false≢true k)
-step-passed rules.renew k = absurd (false≢true k)
+step-passed sh (rules.begin e r) k = absurd (false≢true k)
+step-passed sh (rules.step e tray) k = (e, tray, refl)
+step-passed sh (rules.abandon e) k = absurd (false≢true k)
+step-passed sh (rules.evictAnswer i) k = absurd (false≢true k)
+step-passed sh (rules.evictNode i) k = absurd (false≢true k)
+step-passed sh rules.renew k = absurd (false≢true k)
 
-pub answer-steps : (h : History) (n : ℕ) (v : Val) (f : Bool) → n < length (h .calls) → responseAt h n ≡ answered v f
+pub answer-steps : (h : History) (n : ℕ) (v : Value) (f : Bool) → n < length (h .calls) → responseAt h n ≡ answered v f
     → (d : ℕ) × (tray : List ℕ) × (callAt h n ≡ rules.step d tray)
 unfolding isEnd
-answer-steps h n v f l e = step-passed (callAt h n) (transition-step (stateOf (memAt h n)) (transition-at h n l) (ap isEnd e))
+answer-steps h n v f l e =
+    step-passed (shapeAt h) (callAt h n) (step-from (stateOf (memAt h n)) (transition-frame (stateOf (memAt h n)) (transition-at h n l) .response) (ap isEnd e))

@@ -12,26 +12,25 @@ use Rattle.lists.specs.Lists.{written}
 use Rattle.laws.proofs.ListLaws.{and-right}
 use Rattle.laws.proofs.TestLaws.{byTest}
 use Rattle.laws.proofs.WrittenLaws.{written-read}
-use Rattle.query.specs.Query.{Query, readCount}
 use Rattle.rules.specs.declared.Outcome.the-variants.{Answered}
 use Rattle.rules.specs.Answers.{Entry, lengthIn, listIn, fetchPlace}
-use Rattle.rules.specs.Client.{kind, entryOf, sawPending}
+use Rattle.rules.specs.Client.{entryOf, sawPending}
 use Rattle.query.specs.Shape.{Shape, narrow}
-use Rattle.rules.specs.Layout.{entryWidth, reads}
+use Rattle.rules.specs.Layout.{entryWidth}
 use Rattle.rules.specs.Memory.{Mem, answersIn}
 use Rattle.rules.specs.Outcome.{StepResult}
 use Rattle.rules.specs.Refusals.{shape, columns, client, stepCode}
-use Rattle.rules.specs.Steps.{answered, fetchResult, fileResult, readResult, progress}
+use Rattle.rules.specs.Steps.{answered, fetchResult, fileResult, readResult, progress, progressOf}
 use Rattle.rules.specs.Calls.{stepResult}
-use Rattle.rules.proofs.ClientLaws.{list-room}
-use Rattle.machine.proofs.Sums.{in-at}
-use Rattle.machine.proofs.Keys.{Val}
-use Rattle.machine.proofs.Machine as machine
-use Rattle.machine.proofs.Trace.{isRefused}
-use Rattle.refinement.proofs.Abstraction.{answers-room, responseIn, responseOf, valueIn, Fits}
+use Rattle.laws.proofs.Members.{in-at}
+use Rattle.rules.specs.Work.{Value, Ask, readLabels}
+use Rattle.machine.specs.Machine.{isRefused}
+use Rattle.refinement.proofs.Abstraction.{Whole, answers-room, responseIn, responseOf, Fits}
 use Rattle.refinement.proofs.MemoryReads.{wide-answers, wide-in}
-use Rattle.refinement.proofs.StepFrame.{length-list}
+use Rattle.refinement.proofs.StepFrame.{whole-entry}
+use Rattle.rules.specs.Answers.{valueIn}
 use Rattle.demands.specs.Demand2.{Reads}
+use Rattle.machine.specs.Machine as machine
 
 -- ---- Accepted
 pub step-taken : (sh : Shape) (m : Mem) (tray : List ℕ) (d : ℕ) → isRefused (responseOf sh (stepResult m tray d)) ≡ false → stepCode m tray d ≡ 0
@@ -41,26 +40,26 @@ step-taken sh m tray d e = byTest (eqb (stepCode m tray d) 0)
     (λ t. absurd (true≢false (rw t at e)))
 
 -- ---- The step of a read, by its number
-read-step : (m : Mem) (tray : List ℕ) (d : ℕ) (q : Query) (n : ℕ) → stepCode m tray d ≡ 0 → Reads m d q n → stepResult m tray d ≡ readResult m tray d q n
-unfolding stepResult progress
-read-step m tray d q n e r = rw (eq-eqb (stepCode m tray d) 0 e, eq-eqb (kind (client m d)) reads (r .reader), r .asks, r .made) refl
+read-step : (m : Mem) (tray : List ℕ) (d : ℕ) (q : Ask) (n : ℕ) → stepCode m tray d ≡ 0 → Reads m d q n → stepResult m tray d ≡ readResult m tray d q n
+unfolding stepResult progress progressOf
+read-step m tray d q n e r = rw (eq-eqb (stepCode m tray d) 0 e, r .works, r .made) refl
 
-pub fetch-step : (m : Mem) (tray : List ℕ) (d : ℕ) (q : Query) → stepCode m tray d ≡ 0 → Reads m d q (readCount q)
-    → stepResult m tray d ≡ fetchResult m tray d (fetchPlace narrow (readCount q) (entryOf (client m d)) (answersIn narrow (m .answers)))
+pub fetch-step : (m : Mem) (tray : List ℕ) (d : ℕ) (q : Ask) → stepCode m tray d ≡ 0 → Reads m d q (length (readLabels q))
+    → stepResult m tray d ≡ fetchResult m tray d (fetchPlace narrow (length (readLabels q)) (entryOf (client m d)) (answersIn narrow (m .answers)))
 unfolding readResult
 fetch-step m tray d q e r =
-    read-step m tray d q (readCount q) e r
-    ∙ rw (le-ltb (readCount q) (readCount q) (omega arith), eq-eqb (readCount q) (readCount q) refl) refl
+    read-step m tray d q (length (readLabels q)) e r
+    ∙ rw (le-ltb (length (readLabels q)) (length (readLabels q)) (omega arith), eq-eqb (length (readLabels q)) (length (readLabels q)) refl) refl
 
-pub file-step : (m : Mem) (tray : List ℕ) (d : ℕ) (q : Query) → stepCode m tray d ≡ 0 → Reads m d q (readCount q + 2)
+pub file-step : (m : Mem) (tray : List ℕ) (d : ℕ) (q : Ask) → stepCode m tray d ≡ 0 → Reads m d q (length (readLabels q) + 2)
     → stepResult m tray d ≡ fileResult m tray d (entryOf (client m d))
 unfolding readResult
 file-step m tray d q e r =
-    read-step m tray d q (readCount q + 2) e r
+    read-step m tray d q (length (readLabels q) + 2) e r
     ∙ rw (
-      le-ltb (readCount q + 2) (readCount q) (omega arith),
-      ne-eqb (readCount q + 2) (readCount q) (λ z. omega arith),
-      ne-eqb (readCount q + 2) (readCount q + 1) (λ z. omega arith),
+      le-ltb (length (readLabels q) + 2) (length (readLabels q)) (omega arith),
+      ne-eqb (length (readLabels q) + 2) (length (readLabels q)) (λ z. omega arith),
+      ne-eqb (length (readLabels q) + 2) (length (readLabels q) + 1) (λ z. omega arith),
     ) refl
 
 -- neither is turned down
@@ -73,10 +72,10 @@ unfolding fileResult answered responseOf responseIn isRefused
 file-accepted sh m tray d e = refl
 
 -- ---- What a fetch that hits returns
-value-of : {v u : Val} {a b : Bool} → machine.answered v a ≡ machine.answered u b → v ≡ u
+value-of : {v u : Value} {a b : Bool} → machine.answered v a ≡ machine.answered u b → v ≡ u
 value-of e = cc
 
-not-went : {A : Type 0} {v : Val} {b : Bool} → machine.went ≡ machine.answered v b → A
+not-went : {A : Type 0} {v : Value} {b : Bool} → machine.went ≡ machine.answered v b → A
 not-went e = absurd (let z : _≡_ {A = ℕ} 0 1 = cc in omega arith)
 
 -- with the value that the machine answers, all of the reply
@@ -84,24 +83,23 @@ pub record Gave (sh : Shape) (lent : List ℕ) (e : Entry) (x : StepResult) : Ty
   pub out : x .out ≡ Answered (lengthIn e) true
   pub tray : x .tray ≡ written lent 0 (listIn narrow sh e)
 
-list-given : (sh : Shape) (tray : List ℕ) (x e : Entry) → length (listIn narrow sh x) ≡ lengthIn x * sh .columns
-    → machine.answered (record { count = lengthIn x; numbers = take (lengthIn x * sh .columns) (written tray 0 (listIn narrow sh x)) }) true ≡ machine.answered (valueIn sh e) true
-    → (lengthIn x ≡ lengthIn e) × (listIn narrow sh x ≡ listIn narrow sh e)
-unfolding valueIn
-list-given sh tray x e l a =
-    let v = value-of a in
-    (ap (λ (z : Val). z .count) v, sym (written-read tray (listIn narrow sh x) (lengthIn x * sh .columns) l) ∙ ap (λ (z : Val). z .numbers) v)
+value-given : (sh : Shape) (tray : List ℕ) (v u : Value) → Whole sh v
+    → machine.answered (record { count = v .count; numbers = take (v .count * sh .columns) (written tray 0 (v .numbers)) }) true ≡ machine.answered u true
+    → (v .count ≡ u .count) × (v .numbers ≡ u .numbers)
+value-given sh tray v u l a =
+    let z = value-of a in
+    (ap (λ (y : Value). y .count) z, sym (written-read tray (v .numbers) (v .count * sh .columns) l) ∙ ap (λ (y : Value). y .numbers) z)
 
 pub fetch-gave : (m : Mem) (tray : List ℕ) (d i : ℕ) (e : Entry) → Fits m
-    → responseOf (shape m) (fetchResult m tray d i) ≡ machine.answered (valueIn (shape m) e) true → Gave (shape m) tray e (fetchResult m tray d i)
-unfolding fetchResult answered responseOf responseIn
+    → responseOf (shape m) (fetchResult m tray d i) ≡ machine.answered (valueIn narrow (shape m) e) true → Gave (shape m) tray e (fetchResult m tray d i)
+unfolding fetchResult answered responseOf responseIn valueIn
 fetch-gave m tray d i e f a = byTest (not (sawPending (client m d)) && ltb i (length (answersIn narrow (m .answers))))
     (λ t. let es = answersIn narrow (m .answers) in
     let x = getD es i [] in
     let h = ltb-true i (length es) (and-right (not (sawPending (client m d))) _ t) in
     let j = in-at [] es i h in
     let w = wide-in (entryWidth narrow) (wide-answers (m .answers) (answers-room m f) (f .answers)) j in
-    let l = length-list (shape m) x w (list-room (lengthIn x) (columns m) (f .kept x j .short) (f .few)) in
-    let z = list-given (shape m) tray x e l (rw t at a) in
+    let l = whole-entry (shape m) x w (f .few) (f .kept x j .short) in
+    let z = value-given (shape m) tray (valueIn narrow (shape m) x) (valueIn narrow (shape m) e) l (rw t at a) in
     rw t (record { out = ap (λ n. Answered n true) (z .0); tray = ap (written tray 0) (z .1) }))
     (λ t. not-went (rw t at a))

@@ -9,43 +9,45 @@ use native.Mathlib.Omega.{arith}
 use lib.ListN.{length}
 use Rattle.rules.specs.declared.Outcome.{Outcome}
 use Rattle.rules.specs.declared.Outcome.the-variants.{Refused, Accepted, Answered, Long, Ended, Full}
-use Rattle.rules.specs.Table.{Write, effect}
-use Rattle.rules.specs.Refusals.{shape, columns}
-use Rattle.rules.specs.History as rules
-use Rattle.machine.proofs.Machine as machine
-use Rattle.machine.proofs.Machine.{Phase, idle, looking, tabling, filing, announcing, raising, Response, write-end}
-use Rattle.machine.proofs.Trace.{writes, tableStep, alone, leaves, unsourced, Job, job, gave, at-table, Trace, next-trace, placed}
-use Rattle.machine.proofs.Trace.{filing-of-act, tabled-at, isRefused, empty-trace}
+use Rattle.rules.specs.Work.{Write, writing, workOf, Request}
+use Rattle.rules.specs.Table.{effect, Change}
+use Rattle.rules.specs.Refusals.{shape}
+use Rattle.machine.specs.Machine.{Phase, idle, looking, tabling, filing, announcing, raising, Response, write-end, isRefused}
+use Rattle.machine.proofs.Trace.{tableStep, alone, leaves, unsourced, Job, job, gave, at-table, Trace, next-trace, placed, filing-of-act, tabled-at}
+use Rattle.machine.proofs.Trace.{empty-trace}
 use Rattle.machine.proofs.TraceInv.{begunBy, tabledBy, JobOk, Placed, AtTable}
 use Rattle.machine.proofs.Claims.{Hist, next, fresh, step-op}
-use Rattle.machine.proofs.Log.{after, startOf, JobFrom, linked, tabs-are, now-after, plainTable}
+use Rattle.machine.proofs.Log.{after, JobFrom, linked, tabs-are, now-after, plainTable}
 use Rattle.refinement.proofs.Abstraction.{stateOf, callOf, responseIn, responseOf}
+use Rattle.machine.proofs.Frames.{phaseWork}
 use Rattle.demands.specs.WholeHistory.{shapeAt, History, memAt, plainAt, callAt, resultAt}
 use Rattle.demands.specs.Corollaries.{Begins, inserting, deleting, isWriteEnd, Ends, WritesTake}
 use Rattle.demands.proofs.HistoryRuns.{responseAt, logTo, after-to, sound}
-use Rattle.demands.proofs.LogPlaces.{length-log, take-log, insert-begins, delete-begins, under-places}
+use Rattle.demands.proofs.LogPlaces.{length-log, take-log, under-places}
 use Rattle.demands.proofs.Demand3Holds.{plain-table}
 use Rattle.demands.proofs.Filings.{step-call}
-use Rattle.demands.proofs.Works.{workAt, Since, work-since, one-work}
+use Rattle.demands.proofs.Works.{Since, work-since, one-work}
 use Rattle.query.specs.Shape.{Shape}
+use Rattle.rules.specs.History as rules
+use Rattle.machine.specs.Machine as machine
 
 -- ---- The job at a busy desk
-job-of : (B : Trace) (d : ℕ) (j : Job) (y : Phase) (w : Write) → JobOk B d j y → workAt y ≡ some (writes w)
-    → (n : ℕ) × (j ≡ job (writes w) n (begunBy j) (tabledBy j))
-unfolding workAt
+job-of : (B : Trace) (d : ℕ) (j : Job) (y : Phase) (w : Write) → JobOk B d j y → phaseWork y ≡ some (writing w)
+    → (n : ℕ) × (j ≡ job (writing w) n (begunBy j) (tabledBy j))
+unfolding phaseWork
 job-of B d j idle w o e = absurd (let z : _≡_ {A = ℕ} 0 1 = cc in omega arith)
 job-of B d j (looking q ns saw) w o e = absurd (let z : _≡_ {A = ℕ} 0 1 = cc in omega arith)
 job-of B d j (tabling q ns saw) w o e = absurd (let z : _≡_ {A = ℕ} 0 1 = cc in omega arith)
 job-of B d j (filing q ns l) w o e = absurd (let z : _≡_ {A = ℕ} 0 1 = cc in omega arith)
-job-of B d j (announcing v i) w o e = let k : v ≡ w = cc in (i, o .has .is ∙ ap (λ x. job (writes x) i (begunBy j) (tabledBy j)) k)
+job-of B d j (announcing v i) w o e = let k : v ≡ w = cc in (i, o .has .is ∙ ap (λ x. job (writing x) i (begunBy j) (tabledBy j)) k)
 job-of B d j (raising v i c f) w o e =
     let k : v ≡ w = cc in
-    let n = tableStep (writes v) + i in
-    (n, o .has .is ∙ ap (λ x. job (writes x) n (begunBy j) (tabledBy j)) k)
+    let n = tableStep (writing v) + i in
+    (n, o .has .is ∙ ap (λ x. job (writing x) n (begunBy j) (tabledBy j)) k)
 
 -- ---- What its last step enters in the trace
 placed-end : (sh : Shape) (tray : List ℕ) (o : Outcome) (w : Write) (b t f i : ℕ) → isWriteEnd o ≡ true
-    → placed (writes w) b t f i (responseIn sh tray o) ≡ at-table (writes w) t (gave i (responseIn sh tray o))
+    → placed (writing w) b t f i (responseIn sh tray o) ≡ at-table (writing w) t (gave i (responseIn sh tray o))
 unfolding isWriteEnd placed responseIn
 placed-end sh tray (Refused n) w b t f i e = absurd (false≢true e)
 placed-end sh tray Accepted w b t f i e = absurd (false≢true e)
@@ -75,28 +77,33 @@ end-given sh tray Full c true e t = refl
 end-given sh tray Full c false e t = absurd (let z : _≡_ {A = ℕ} 0 1 = cc in omega arith)
 
 -- ---- The trace of a history
-write-begins : (d : ℕ) (begin : rules.Call) (w : Write) → Begins d begin w → callOf begin ≡ startOf (writes w) d
-write-begins d begin w (inserting a) = insert-begins d a
-write-begins d begin w (deleting a) = delete-begins d a
+-- a change as a write of the hall
+abbrev of : History → Change → Write
+of h w = record { shape = shapeAt h; change = w }
 
-pub since-write : (h : History) (d : ℕ) (w : Write) (b e : ℕ) (o : Outcome) → Ends h d w b e o → Since h (writes w) d b e
+write-begins : (h : History) (r : Request) (w : Change) → Begins r w → workOf (shapeAt h) r ≡ writing (of h w)
+unfolding workOf
+write-begins h r w (inserting a) = refl
+write-begins h r w (deleting a) = refl
+
+pub since-write : (h : History) (d : ℕ) (w : Change) (b e : ℕ) (o : Outcome) → Ends h d w b e o → Since h (writing (of h w)) d b e
 since-write h d w b e o x =
     let l = x .within in
-    record { begin = x .begin; is = write-begins d (x .begin) w (x .is); within = omega arith; runs = x .runs }
+    record { request = x .request; is = write-begins h (x .request) w (x .is); within = omega arith; runs = x .runs }
 
 -- its job is the one that call b began
-write-job : (h : History) (d : ℕ) (w : Write) (b e : ℕ) → Since h (writes w) d b e
-    → (n : ℕ) × (τ : ℕ) × (after (fresh (shapeAt h)) (logTo h e) .trace .jobs d ≡ job (writes w) n (suc b) τ)
+write-job : (h : History) (d : ℕ) (w : Write) (b e : ℕ) → Since h (writing w) d b e
+    → (n : ℕ) × (τ : ℕ) × (after (fresh (shapeAt h)) (logTo h e) .trace .jobs d ≡ job (writing w) n (suc b) τ)
 write-job h d w b e s =
     let B = after (fresh (shapeAt h)) (logTo h e) .trace in
     let J = B .jobs d in
     let z = job-of B d J (stateOf (memAt h e) .clients d) w (sound h e (s .within) .good .trace .job d)
-    (work-since h (writes w) d b e s e (s .runs .earlier) (omega arith)) in
+    (work-since h (writing w) d b e s e (s .runs .earlier) (omega arith)) in
     let f = subst (λ y. JobFrom (logTo h e) d y) (z .1) (linked (shapeAt h) (logTo h e) d) in
-    let p = under-places h d e (writes w) (s .within) (f .0) in
-    let i : length (f .0 .earlier) ≡ b = one-work h d (writes w) (writes w) (length (f .0 .earlier)) b e
-    (record { begin = callAt h (length (f .0 .earlier)); is = p .0; within = s .within; runs = p .1 }) s in
-    (z .0, tabledBy J, z .1 ∙ ap (λ y. job (writes w) (z .0) y (tabledBy J)) (f .1 ∙ ap suc i))
+    let p = under-places h d e (writing w) (s .within) (f .0) in
+    let i : length (f .0 .earlier) ≡ b = one-work h d (writing w) (writing w) (length (f .0 .earlier)) b e
+    (record { request = p .request; is = p .is; within = s .within; runs = p .runs }) s in
+    (z .0, tabledBy J, z .1 ∙ ap (λ y. job (writing w) (z .0) y (tabledBy J)) (f .1 ∙ ap suc i))
 
 -- the plain table by the trace
 trace-table : (h : History) (n j : ℕ) → n ≤ length (h .calls) → j ≤ n → after (fresh (shapeAt h)) (logTo h n) .trace .tabs j ≡ plainAt h j .table
@@ -117,25 +124,25 @@ now-is : (h : History) (n : ℕ) → after (fresh (shapeAt h)) (logTo h n) .trac
 unfolding fresh empty-trace
 now-is h n = let a = now-after (logTo h n) (fresh (shapeAt h)) in let b = length-log h n in omega arith
 
-ended-op : (h : History) (d : ℕ) (w : Write) (b e : ℕ) (o : Outcome) → Ends h d w b e o
-    → (t : ℕ) × (i : ℕ) × AtTable (after (fresh (shapeAt h)) (logTo h (suc e)) .trace) (suc b) (writes w) t (gave i (responseIn (shape (memAt h e)) (resultAt h e .tray) o))
+ended-op : (h : History) (d : ℕ) (w : Change) (b e : ℕ) (o : Outcome) → Ends h d w b e o
+    → (t : ℕ) × (i : ℕ) × AtTable (after (fresh (shapeAt h)) (logTo h (suc e)) .trace) (suc b) (writing (of h w)) t (gave i (responseIn (shape (memAt h e)) (resultAt h e .tray) o))
 ended-op h d w b e o x =
     let k = shape (memAt h e) in
     let tray = resultAt h e .tray in
     let g = after (fresh (shapeAt h)) (logTo h e) in
     let C = after (fresh (shapeAt h)) (logTo h (suc e)) .trace in
     let l = x .within in
-    let j = write-job h d w b e (since-write h d w b e o x) in
+    let j = write-job h d (of h w) b e (since-write h d w b e o x) in
     let a = responseIn k tray o in
     let i = suc (g .trace .now) in
-    let t = tabled-at (writes w) (suc (j .0)) i (j .1) in
+    let t = tabled-at (writing (of h w)) (suc (j .0)) i (j .1) in
     let r = result-end h e o (x .says) in
-    let ops : C .ops (suc b) ≡ at-table (writes w) t (gave i a) =
+    let ops : C .ops (suc b) ≡ at-table (writing (of h w)) t (gave i a) =
     ap (λ (y : Hist). y .trace .ops (suc b)) (after-to h e)
-    ∙ next-ops g (callOf (callAt h e)) (responseAt h e) d (suc b) (step-call (callAt h e) d (x .tray) (x .calls))
+    ∙ next-ops g (callOf (shapeAt h) (callAt h e)) (responseAt h e) d (suc b) (step-call (shapeAt h) (callAt h e) d (x .tray) (x .calls))
     ∙ ap (λ y. next-trace (g .trace) (machine.step d) y (next g (machine.step d) y .plain .table) .ops (suc b)) r
-    ∙ step-op (g .trace) d (writes w) (j .0) (suc b) (j .1) a (next g (machine.step d) a .plain .table) (j .2) (end-taken k tray o (x .ends))
-    ∙ placed-end k tray o w (suc b) t (filing-of-act (writes w) (g .trace .filings)) i (x .ends) in
+    ∙ step-op (g .trace) d (writing (of h w)) (j .0) (suc b) (j .1) a (next g (machine.step d) a .plain .table) (j .2) (end-taken k tray o (x .ends))
+    ∙ placed-end k tray o (of h w) (suc b) t (filing-of-act (writing (of h w)) (g .trace .filings)) i (x .ends) in
     (t, i, subst (λ y. Placed C (suc b) y) ops (sound h (suc e) (omega arith) .good .trace .op (suc b)))
 
 pub writes-take : (h : History) → WritesTake h

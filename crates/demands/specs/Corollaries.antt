@@ -13,12 +13,13 @@ use Rattle.rules.specs.declared.Outcome.{Outcome}
 use Rattle.rules.specs.declared.Outcome.the-variants.{Refused, Accepted, Answered, Long, Ended, Full}
 use Rattle.query.specs.Shape.{Form, Shape}
 use Rattle.rules.specs.Layout.{maxRecords, maxClients, maxList, reads}
-use Rattle.rules.specs.Table.{Table, Write, insert, delete, listOf, has, effect, changes, noRoom, Ascending}
+use Rattle.rules.specs.Table.{Table, Change, insert, delete, listOf, has, effect, changes, noRoom, Ascending}
+use Rattle.rules.specs.Work.{Request, readOf, insertOf, deleteOf, askOf, stepsInAll, workOf}
 use Rattle.rules.specs.Client.{Client, kind, isIdle, writeAt}
 use Rattle.rules.specs.Memory.{Mem, recordsIn}
 use Rattle.rules.specs.Refusals.{form, shape, client}
-use Rattle.rules.specs.History.{Call, beginRead, beginInsert, beginDelete, step}
-use Rattle.demands.specs.WholeHistory.{History, memAt, plainAt, callAt, resultAt, UnderWay}
+use Rattle.rules.specs.History.{step}
+use Rattle.demands.specs.WholeHistory.{History, shapeAt, memAt, plainAt, callAt, resultAt, UnderWay, stepsIn}
 use Rattle.demands.specs.Demand3.{IsList}
 use Rattle.demands.specs.Demand2.{isQuiet}
 
@@ -27,7 +28,7 @@ pub record Answers (h : History) (d : ℕ) (a : List ℕ) (b n count : ℕ) (cac
   pub tray : List ℕ
   pub within : n < length (h .calls)
   pub calls : callAt h n ≡ step d tray
-  pub runs : UnderWay h (beginRead d a) d b n
+  pub runs : UnderWay h (readOf a) d b n
   pub says : resultAt h n .out ≡ Answered count cached
 
 -- that answer is the query's list on the plain table after the first j calls
@@ -45,7 +46,7 @@ EveryAnswer h = (n count : ℕ) (cached : Bool) → n < length (h .calls) → re
 
 -- At a desk one read is under way at a time: two begins that both are, are one call.
 abbrev pub OneRead : History → Type 0
-OneRead h = (d : ℕ) (a a′ : List ℕ) (b b′ n : ℕ) → n ≤ length (h .calls) → UnderWay h (beginRead d a) d b n → UnderWay h (beginRead d a′) d b′ n
+OneRead h = (d : ℕ) (a a′ : List ℕ) (b b′ n : ℕ) → n ≤ length (h .calls) → UnderWay h (readOf a) d b n → UnderWay h (readOf a′) d b′ n
     → (b ≡ b′) × (a ≡ a′)
 
 -- An answer from file was true at a moment of that read: after its begin, and not after its answer.
@@ -66,8 +67,13 @@ NeverBack h = (d d′ : ℕ) (a a′ : List ℕ) (b n b′ n′ count count′ :
 -- With no write open that meets the query, from begin to answer, the answer is the table's list now, from file or not.
 abbrev pub QuietIsNow : History → Type 0
 QuietIsNow h = (d : ℕ) (a : List ℕ) (b n count : ℕ) (cached : Bool) → Answers h d a b n count cached
-    → ((i : ℕ) → b < i → i ≤ n → isQuiet (queryOf a) (memAt h i) ≡ true)
+    → ((i : ℕ) → b < i → i ≤ n → isQuiet (askOf (shapeAt h) a) (memAt h i) ≡ true)
     → IsList (h .k) (listOf (queryOf a) (tableAt h (suc n))) count (resultAt h n .tray)
+
+-- What is under way has made fewer accepted steps than it makes in all, which is by the number of its nodes: a read 2^m + 3, a write
+-- 2^(k+1) + 1. Demand 3's nineteen and thirty-three are the most that these can be.
+abbrev pub StepsByNodes : History → Type 0
+StepsByNodes h = (d : ℕ) (r : Request) (b n : ℕ) → n ≤ length (h .calls) → UnderWay h r d b n → stepsIn h d b n < stepsInAll (workOf (shapeAt h) r)
 
 -- An answer's records ascend, and are at most 32.
 abbrev pub AnswersAscend : History → Type 0
@@ -80,9 +86,9 @@ NoneTwice h = (n : ℕ) → n ≤ length (h .calls)
     → ((i j : ℕ) → i < j → j < length (tableAt h n) → getD (tableAt h n) i [] ≡ getD (tableAt h n) j [] → ⊥) × (length (tableAt h n) ≤ maxRecords)
 
 -- ---- Writes
-pub data Begins (d : ℕ) : Call → Write → Type 0 where
-  inserting : (a : List ℕ) → Begins d (beginInsert d a) (insert (recordOf (queryOf a)))
-  deleting : (a : List ℕ) → Begins d (beginDelete d a) (delete (queryOf a))
+pub data Begins : Request → Change → Type 0 where
+  inserting : (a : List ℕ) → Begins (insertOf a) (insert (recordOf (queryOf a)))
+  deleting : (a : List ℕ) → Begins (deleteOf a) (delete (queryOf a))
 
 unfoldable pub isWriteEnd : Outcome → Bool
 isWriteEnd (Refused n) = false
@@ -93,24 +99,24 @@ isWriteEnd (Ended b) = true
 isWriteEnd Full = true
 
 -- call e ends, with o, the write w that call b began at desk d
-pub record Ends (h : History) (d : ℕ) (w : Write) (b e : ℕ) (o : Outcome) : Type 0 where
-  pub begin : Call
-  pub is : Begins d begin w
+pub record Ends (h : History) (d : ℕ) (w : Change) (b e : ℕ) (o : Outcome) : Type 0 where
+  pub request : Request
+  pub is : Begins request w
   pub tray : List ℕ
   pub within : e < length (h .calls)
   pub calls : callAt h e ≡ step d tray
-  pub runs : UnderWay h begin d b e
+  pub runs : UnderWay h request d b e
   pub says : resultAt h e .out ≡ o
   pub ends : isWriteEnd o ≡ true
 
 -- A write takes effect whole, at one call t between its begin and its end, and its end is what it gives alone on the table of that call.
 abbrev pub WritesTake : History → Type 0
-WritesTake h = (d : ℕ) (w : Write) (b e : ℕ) (o : Outcome) → Ends h d w b e o
+WritesTake h = (d : ℕ) (w : Change) (b e : ℕ) (o : Outcome) → Ends h d w b e o
     → (t : ℕ) × (b < t) × (t ≤ e) × (plainAt h (suc t) .table ≡ effect w (plainAt h t .table))
     × (o ≡ cond (noRoom w (plainAt h t .table)) Full (Ended (changes w (plainAt h t .table))))
 
 -- a write that would undo that the table has record r (true), or that it has not (false)
-unfoldable pub undoes : Bool → Record → Write → Bool
+unfoldable pub undoes : Bool → Record → Change → Bool
 undoes true r (insert s) = false
 undoes true r (delete q) = lies q r
 undoes false r (insert s) = same s r
@@ -118,7 +124,7 @@ undoes false r (delete q) = false
 
 -- no such write is open
 unfoldable pub isOpposed : Form → Shape → Bool → Record → Client → Bool
-isOpposed f sh v r c = not (isIdle f c) && (not (eqb (kind c) reads) && undoes v r (writeAt sh c))
+isOpposed f sh v r c = not (isIdle f c) && (not (eqb (kind c) reads) && undoes v r (writeAt sh c .change))
 
 unfoldable pub isUnopposed : Bool → Record → Mem → Bool
 isUnopposed v r m = allBelow maxClients (λ d. not (isOpposed (form m) (shape m) v r (client m d)))
@@ -147,6 +153,7 @@ pub record Corollaries (h : History) : Type 0 where
   pub sees-earlier : SeesEarlier h
   pub never-back : NeverBack h
   pub quiet-is-now : QuietIsNow h
+  pub steps-by-nodes : StepsByNodes h
   pub answers-ascend : AnswersAscend h
   pub none-twice : NoneTwice h
   pub writes-take : WritesTake h

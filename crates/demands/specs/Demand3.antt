@@ -10,7 +10,8 @@ use Rattle.query.specs.Encoding.{queryOf}
 use Rattle.rules.specs.declared.Outcome.the-variants.{Answered}
 use Rattle.rules.specs.Table.{listOf}
 use Rattle.rules.specs.Memory.{recordsIn}
-use Rattle.rules.specs.History.{beginRead, beginInsert, beginDelete, step}
+use Rattle.rules.specs.Work.{readOf, insertOf, deleteOf}
+use Rattle.rules.specs.History.{step}
 use Rattle.demands.specs.WholeHistory.{History, memAt, plainAt, callAt, resultAt, UnderWay, stepsIn}
 
 -- "An answer is exactly such a list if its count is the list's length and the tray holds the list's records, in that order, from its start."
@@ -23,7 +24,7 @@ pub record IsList (k : ℕ) (l : List Record) (count : ℕ) (tray : List ℕ) : 
 pub record WasTrue (h : History) (d n count : ℕ) : Type 0 where
   pub asked : List ℕ
   pub b : ℕ
-  pub runs : UnderWay h (beginRead d asked) d b n
+  pub runs : UnderWay h (readOf asked) d b n
   pub j : ℕ
   pub after : b < j
   pub upto : j ≤ suc n
@@ -35,6 +36,6 @@ pub record Demand3 (h : History) : Type 0 where
   pub answers : (n d : ℕ) (tray : List ℕ) (count : ℕ) (cached : Bool) → n < length (h .calls) → callAt h n ≡ step d tray
       → resultAt h n .out ≡ Answered count cached → WasTrue h d n count
   -- "a read has ended with its nineteenth accepted step at the latest, a write with its thirty-third"
-  pub reads-end : (d : ℕ) (a : List ℕ) (b n : ℕ) → n ≤ length (h .calls) → UnderWay h (beginRead d a) d b n → stepsIn h d b n < 19
-  pub inserts-end : (d : ℕ) (a : List ℕ) (b n : ℕ) → n ≤ length (h .calls) → UnderWay h (beginInsert d a) d b n → stepsIn h d b n < 33
-  pub deletes-end : (d : ℕ) (a : List ℕ) (b n : ℕ) → n ≤ length (h .calls) → UnderWay h (beginDelete d a) d b n → stepsIn h d b n < 33
+  pub reads-end : (d : ℕ) (a : List ℕ) (b n : ℕ) → n ≤ length (h .calls) → UnderWay h (readOf a) d b n → stepsIn h d b n < 19
+  pub inserts-end : (d : ℕ) (a : List ℕ) (b n : ℕ) → n ≤ length (h .calls) → UnderWay h (insertOf a) d b n → stepsIn h d b n < 33
+  pub deletes-end : (d : ℕ) (a : List ℕ) (b n : ℕ) → n ≤ length (h .calls) → UnderWay h (deleteOf a) d b n → stepsIn h d b n < 33

@@ -11,8 +11,8 @@ use Rattle.rules.specs.declared.Outcome.the-variants.{Refused, Accepted, Answer
 use Rattle.rules.specs.Memory.{Mem, opened}
 use Rattle.rules.specs.Outcome.{StepResult, number}
 use Rattle.rules.specs.Refusals.{openCode}
-use Rattle.rules.specs.History.{Call, beginRead, beginInsert, beginDelete, step, abandon, evictAnswer, evictNode, renew, callResult, isAccepted, Plain, plainAtOpening, memAfter, plainAfter}
-use Rattle.rules.specs.Refusals.{shape}
+use Rattle.rules.specs.History.{Call, begin, step, abandon, evictAnswer, evictNode, renew, callResult, isAccepted, Plain, plainAtOpening, memAfter, plainAfter}
+use Rattle.rules.specs.Work.{Request}
 use Rattle.query.specs.Shape.{Shape, shapeOf, narrow}
 
 -- "A history is an accepted opening, with any k, and after it a list of calls, the empty one too"
@@ -54,9 +54,7 @@ endsWork Full = true
 
 -- "A read or write runs from its accepted begin to the call at its desk that ends it: .. or an accepted abandoning."
 unfoldable pub endsAt : ℕ → Call → Outcome → Bool
-endsAt d (beginRead e a) o = false
-endsAt d (beginInsert e a) o = false
-endsAt d (beginDelete e a) o = false
+endsAt d (begin e r) o = false
 endsAt d (step e tray) o = eqb e d && endsWork o
 endsAt d (abandon e) o = eqb e d && isAccepted (number o)
 endsAt d (evictAnswer i) o = false
@@ -64,16 +62,14 @@ endsAt d (evictNode i) o = false
 endsAt d renew o = false
 
 -- what call b began at desk d is under way when call n comes: no call in between has ended it
-pub record UnderWay (h : History) (begin : Call) (d b n : ℕ) : Type 0 where
-  pub begins : callAt h b ≡ begin
+pub record UnderWay (h : History) (r : Request) (d b n : ℕ) : Type 0 where
+  pub begins : callAt h b ≡ begin d r
   pub accepted : acceptedAt h b ≡ true
   pub earlier : b < n
   pub still : (i : ℕ) → b < i → i < n → endsAt d (callAt h i) (resultAt h i .out) ≡ false
 
 unfoldable pub isStepAt : ℕ → Call → Bool
-isStepAt d (beginRead e a) = false
-isStepAt d (beginInsert e a) = false
-isStepAt d (beginDelete e a) = false
+isStepAt d (begin e r) = false
 isStepAt d (step e tray) = eqb e d
 isStepAt d (abandon e) = false
 isStepAt d (evictAnswer i) = false

@@ -4,10 +4,10 @@
 use hall::Hall;
 use rules::Outcome;
 ghost use mathlib.Core.Path.{_≡_};
+ghost use Rattle.rules.specs.Work.{readOf, insertOf, deleteOf};
 ghost use Rattle.rules.specs.Memory.{mem};
 ghost use Rattle.rules.specs.Calls.{openResult, beginResult, stepResult, abandonResult, evictAnswerResult, evictNodeResult, renewResult};
 ghost use Rattle.exports.specs.Reply.{replied, replyOf, sent, sentBy, sentWith, sentByStep};
-ghost use Rattle.rules.specs.Layout.{reads, inserts, deletes};
 
 // What a caller in another language gets. Its memories hold the rest.
 #[repr(C)]
@@ -80,7 +80,7 @@ pub extern "C" fn mondzafeky_begin_read(
     client: u32,
     query: &[u32],
 ) -> Reply
-    ensures { λ r. ⌜ sent r (mem (now (table .exit)) (now (nodes .exit)) (now (answers .exit)) (now (clients .exit))) ≡ sentBy (beginResult (mem (now (table .entry)) (now (nodes .entry)) (now (answers .entry)) (now (clients .entry))) reads client (now (query .entry))) ⌝ }
+    ensures { λ r. ⌜ sent r (mem (now (table .exit)) (now (nodes .exit)) (now (answers .exit)) (now (clients .exit))) ≡ sentBy (beginResult (mem (now (table .entry)) (now (nodes .entry)) (now (answers .entry)) (now (clients .entry))) client (readOf (now (query .entry)))) ⌝ }
 {
     let out = requests::begin_read(table, nodes, answers, clients, client, query);
     reply_of(out)
@@ -96,7 +96,7 @@ pub extern "C" fn mondzafeky_begin_insert(
     client: u32,
     query: &[u32],
 ) -> Reply
-    ensures { λ r. ⌜ sent r (mem (now (table .exit)) (now (nodes .exit)) (now (answers .exit)) (now (clients .exit))) ≡ sentBy (beginResult (mem (now (table .entry)) (now (nodes .entry)) (now (answers .entry)) (now (clients .entry))) inserts client (now (query .entry))) ⌝ }
+    ensures { λ r. ⌜ sent r (mem (now (table .exit)) (now (nodes .exit)) (now (answers .exit)) (now (clients .exit))) ≡ sentBy (beginResult (mem (now (table .entry)) (now (nodes .entry)) (now (answers .entry)) (now (clients .entry))) client (insertOf (now (query .entry)))) ⌝ }
 {
     let out = requests::begin_insert(table, nodes, answers, clients, client, query);
     reply_of(out)
@@ -112,7 +112,7 @@ pub extern "C" fn mondzafeky_begin_delete(
     client: u32,
     query: &[u32],
 ) -> Reply
-    ensures { λ r. ⌜ sent r (mem (now (table .exit)) (now (nodes .exit)) (now (answers .exit)) (now (clients .exit))) ≡ sentBy (beginResult (mem (now (table .entry)) (now (nodes .entry)) (now (answers .entry)) (now (clients .entry))) deletes client (now (query .entry))) ⌝ }
+    ensures { λ r. ⌜ sent r (mem (now (table .exit)) (now (nodes .exit)) (now (answers .exit)) (now (clients .exit))) ≡ sentBy (beginResult (mem (now (table .entry)) (now (nodes .entry)) (now (answers .entry)) (now (clients .entry))) client (deleteOf (now (query .entry)))) ⌝ }
 {
     let out = requests::begin_delete(table, nodes, answers, clients, client, query);
     reply_of(out)

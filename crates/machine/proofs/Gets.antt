@@ -1,4 +1,4 @@
--- Demand 2's last sentence: every call keeps what the flags promise (transition-quiescent), and a fetch that finds a filed answer to its key, with both
+-- Demand 2's last sentence: every call keeps what the flags promise (transition-quiescent), and a fetch that finds a filed answer to its ask, with both
 -- flags true, answers with it from file (gets). Leans on Quiescence. Assumes nothing.
 use mathlib.Core.Path.{_≡_, refl, sym, ap, _∙_, subst}
 use mathlib.Core.Logic.{_⊎_, inl, inr}
@@ -11,30 +11,32 @@ use borrow.Author.Tests.{eqb-true, eqb-false, le-leb, le-ltb}
 use lib.ListN.{length, getD, take, drop}
 use Rattle.laws.proofs.ListLaws.{and-left, all-below}
 use Rattle.laws.proofs.TestLaws.{byTest, clash}
-use Rattle.rules.specs.Table.{Write, effect, changes, noRoom}
+use Rattle.rules.specs.Work.{Write, Ask, Value, valueOf, readLabels, writeLabels, asking, writing}
+use Rattle.rules.specs.Table.{effect, changes, noRoom}
 use Rattle.rules.specs.Nodes.{Store, store}
-use Rattle.revisions.proofs.EffectiveRevision.{effective, pendingOf, has, one, tally, Raised}
-use Rattle.machine.proofs.Sums.{upd, upd-same, upd-other, In, in-none}
-use Rattle.machine.proofs.Keys.{Key, Val, valueOf, readLabels, writeLabels, sameKey, sameKey-eq, sameKey-refl}
-use Rattle.machine.proofs.Machine.{State, Phase, idle, looking, tabling, filing, announcing, raising, Ans, node, write-end}
-use Rattle.machine.proofs.Machine.{at-client, with-store, with-filed, with-tab, holds-for, filed-in, cut}
-use Rattle.machine.proofs.Machine.{Call, begin-read, begin-write, step, abandon, evict-answer, evict-node, renew}
-use Rattle.machine.proofs.Machine.{Response, refused, went, answered, long}
+use Rattle.revisions.specs.EffectiveRevision.{effective, pendingOf, has, tally, Retired}
+use Rattle.machine.specs.Machine.{upd, sameAsk, State, Phase, idle, looking, tabling, filing, announcing, raising, Ans, node, write-end}
+use Rattle.machine.specs.Machine.{at-client, with-store, with-filed, with-tab, holds-for, filed-in, cut, Call, begin, step, abandon}
+use Rattle.machine.specs.Machine.{evict-answer, evict-node, renew, Response, refused, went, answered, long, isRefused}
+use Rattle.machine.proofs.Sums.{upd-same, upd-other}
+use Rattle.laws.proofs.Members.{in-none}
+use Rattle.lists.specs.Lists.{In}
+use Rattle.machine.proofs.Asks.{sameAsk-eq, sameAsk-refl}
 use Rattle.machine.proofs.FiledAnswers.{one-each, in-filed, in-cut}
 use Rattle.machine.proofs.PendingLabels.{owes, owing, tally-drop, raise-up, back-up}
 use Rattle.machine.proofs.Moves.{grown, length-grown, grown-old, grown-new}
-use Rattle.machine.proofs.Transition
-use Rattle.machine.proofs.Transition.{Transition}
+use Rattle.machine.specs.Transition.{Transition}
 use Rattle.machine.proofs.StateInv.{StateInv, fit-at}
-use Rattle.machine.proofs.Trace.{isRefused}
-use Rattle.machine.proofs.Quiescence.{Quiescent, quiescent, keyAt, filesAt, begins, files, clientOf, quiescent-next, Still, Settled, QuiescenceInv, Steady}
-use Rattle.machine.proofs.Quiescence.{same-client, turned, begun, FileTurn, old, new, Turn, turn-keeps, none-pending, still-moves, quiescent-quiet}
+use Rattle.machine.proofs.Quiescence.{Quiescent, quiescent, keyAt, filesAt, begins, files, clientOf, quiescent-next, Still, Settled}
+use Rattle.machine.proofs.Quiescence.{QuiescenceInv, Steady, same-client, turned, begun, FileTurn, old, new, Turn, turn-keeps, none-pending}
+use Rattle.machine.proofs.Quiescence.{still-moves, quiescent-quiet}
 use Rattle.rules.specs.Layout.{maxClients}
+use Rattle.machine.specs.Transition
 
 -- ---- Calls by what they change
 -- no desk changes, and the file loses at most
 turn-none : (s t : State) (k : Quiescent) (c : Call) (a : Response) → t .clients ≡ s .clients → Steady s t → ((d : ℕ) → begins c a d ≡ false)
-    → ((q : Key) → files s c a q ≡ false) → ((b : Ans) → In b (t .filed) → In b (s .filed)) → Turn s k c a t
+    → ((q : Ask) → files s c a q ≡ false) → ((b : Ans) → In b (t .filed) → In b (s .filed)) → Turn s k c a t
 turn-none s t k c a e y b f g = record {
   steady = y;
   client = λ d. same-client (b d) (ap (λ m. m d) e);
@@ -54,13 +56,13 @@ turn-at s t k c a d x e y b f z = record {
   file = f;
 }
 
-no-files : (s : State) (d : ℕ) (a : Response) (q : Key) → filesAt (s .clients d) q ≡ false → files s (step d) a q ≡ false
+no-files : (s : State) (d : ℕ) (a : Response) (q : Ask) → filesAt (s .clients d) q ≡ false → files s (step d) a q ≡ false
 unfolding files
 no-files s d a q e = rw e (and-false (not (isRefused a)))
 
 -- a step of a desk that files nothing
 turn-step : (s t : State) (k : Quiescent) (a : Response) (d : ℕ) (x : Phase) → t .clients ≡ upd (s .clients) d x → Steady s t
-    → ((q : Key) → filesAt (s .clients d) q ≡ false)
+    → ((q : Ask) → filesAt (s .clients d) q ≡ false)
     → t .filed ≡ s .filed → (k .onClient d ≡ true → quiescent s t (keyAt (s .clients d)) ≡ true → Settled t x) → Turn s k (step d) a t
 unfolding begins
 turn-step s t k a d x e y f g z = turn-at s t k (step d) a d x e y (λ e. refl) (λ w i. old (no-files s d a (w .query) (f (w .query))) (rw g at i)) z
@@ -71,18 +73,17 @@ steady-refl s p a b m = refl
 -- ---- Refused calls
 refused-begins : (c : Call) (n d : ℕ) → begins c (refused n) d ≡ false
 unfolding begins isRefused
-refused-begins (begin-read e q) n d = and-false (eqb d e)
-refused-begins (begin-write e w) n d = refl
+refused-begins (begin e (asking q)) n d = and-false (eqb d e)
+refused-begins (begin e (writing w)) n d = refl
 refused-begins (step e) n d = refl
 refused-begins (abandon e) n d = refl
 refused-begins (evict-answer i) n d = refl
 refused-begins (evict-node i) n d = refl
 refused-begins renew n d = refl
 
-refused-files : (s : State) (c : Call) (n : ℕ) (q : Key) → files s c (refused n) q ≡ false
+refused-files : (s : State) (c : Call) (n : ℕ) (q : Ask) → files s c (refused n) q ≡ false
 unfolding files isRefused
-refused-files s (begin-read e r) n q = refl
-refused-files s (begin-write e w) n q = refl
+refused-files s (begin e work) n q = refl
 refused-files s (step e) n q = refl
 refused-files s (abandon e) n q = refl
 refused-files s (evict-answer i) n q = refl
@@ -90,7 +91,7 @@ refused-files s (evict-node i) n q = refl
 refused-files s renew n q = refl
 
 -- ---- The begin of a read
-turn-begin : (s : State) (k : Quiescent) (d : ℕ) (q : Key) → Turn s k (begin-read d q) went (at-client s d (looking q [] false))
+turn-begin : (s : State) (k : Quiescent) (d : ℕ) (q : Ask) → Turn s k (begin d (asking q)) went (at-client s d (looking q [] false))
 unfolding at-client begins isRefused files keyAt
 turn-begin s k d q = record {
   steady = steady-refl s;
@@ -103,7 +104,7 @@ turn-begin s k d q = record {
 }
 
 -- ---- The looks
-still-looked : (t : State) (q : Key) (ns : List ℕ) → has (t .store .nodes) (node q (length ns)) ≡ true → Still t q ns (length ns)
+still-looked : (t : State) (q : Ask) (ns : List ℕ) → has (t .store .nodes) (node q (length ns)) ≡ true → Still t q ns (length ns)
     → Still t q (grown ns (effective (t .store) (node q (length ns)))) (length (grown ns (effective (t .store) (node q (length ns)))))
 still-looked t q ns p w j i =
     let c = effective (t .store) (node q (length ns)) in
@@ -114,7 +115,7 @@ still-looked t q ns p w j i =
     let j′ : j < length ns = omega arith in
     (w j j′ .0, grown-old ns c j j′ ∙ w j j′ .1))
 
-look-settled : (s : State) (k : Quiescent) (d : ℕ) (q : Key) (ns : List ℕ) (saw : Bool) (t : State) → QuiescenceInv s k → StateInv t
+look-settled : (s : State) (k : Quiescent) (d : ℕ) (q : Ask) (ns : List ℕ) (saw : Bool) (t : State) → QuiescenceInv s k → StateInv t
     → s .clients d ≡ looking q ns saw → Steady s t → has (t .store .nodes) (node q (length ns)) ≡ true → length ns < length (readLabels q)
     → k .onClient d ≡ true → quiescent s t q ≡ true
     → Settled t (looking q (grown ns (effective (t .store) (node q (length ns)))) (saw || ltb 0 (pendingOf (t .store) (node q (length ns)))))
@@ -126,17 +127,17 @@ look-settled s k d q ns saw t u g e y p l m n =
     (still-looked t q ns p w, quiescent-quiet s t q n, rw (z .2, b) refl)
 
 -- ---- The file step
-file-case : (s : State) (d : ℕ) (q : Key) (ns : List ℕ) (l : Val) → StateInv s → s .clients d ≡ filing q ns l
+file-case : (s : State) (d : ℕ) (q : Ask) (ns : List ℕ) (l : Value) → StateInv s → s .clients d ≡ filing q ns l
     → (a : Ans) → In a (filed-in q ns l (s .filed)) → FileTurn s (step d) (answered l false) a
 unfolding files filesAt clientOf isRefused
 file-case s d q ns l v e a i = elim (in-filed q ns l (s .filed) (v .one) i) [
   | inl j ↦ old (no-files s d (answered l false) (a .query) (rw e (j .1))) (j .0)
-  | inr j ↦ new (rw (e, j) (sameKey-refl q)) l (rw j e)
+  | inr j ↦ new (rw (e, j) (sameAsk-refl q)) l (rw j e)
 ]
 
 -- ---- The raises: only a label that is owed is lifted
 raised-steady : (s : State) (t : Store) (d : ℕ) (w : Write) (j : ℕ) (c f : Bool) → StateInv s → d < maxClients → s .clients d ≡ raising w j c f
-    → Raised true (getD (writeLabels w) j [] ∷ []) (s .store) t → Steady s (with-store s t)
+    → Retired true (getD (writeLabels w) j [] ∷ []) (s .store) t → Steady s (with-store s t)
 unfolding with-store owes owing
 raised-steady s t d w j c f v l e m q a b z =
     let x = raise-up (getD (writeLabels w) j []) (s .store) t m q in
@@ -150,7 +151,7 @@ unfolding at-client with-store with-filed with-tab filesAt keyAt begins files ha
 transition-turn s k v w u (Transition.nothing {c} {n} e) = turn-none s s k c (refused n) refl (steady-refl s) (refused-begins c n) (refused-files s c n) (λ b i. i)
 transition-turn s k v w u (Transition.began {d} {q} l e f) = turn-begin s k d q
 transition-turn s k v w u (Transition.began-write {d} {w = x} l e f o) =
-    turn-at s (at-client s d (announcing x 0)) k (begin-write d x) went d (announcing x 0) refl (steady-refl s) (λ e. refl) (λ b i. old refl i) (λ m n. tt)
+    turn-at s (at-client s d (announcing x 0)) k (begin d (writing x)) went d (announcing x 0) refl (steady-refl s) (λ e. refl) (λ b i. old refl i) (λ m n. tt)
 transition-turn s k v w u (Transition.looked {d} {q} {ns} {saw} {t} l e f g p) =
     let X = looking q (ns ++ (effective t (node q (length ns)) ∷ [])) (saw || ltb 0 (pendingOf t (node q (length ns)))) in
     let T = at-client (with-store s t) d X in
@@ -171,8 +172,8 @@ transition-turn s k v w u (Transition.filed {d} {q} {ns} {l = y} l e) =
 transition-turn s k v w u (Transition.announced {d} {w = x} {i} {t} l e f m) =
     turn-step s (at-client (with-store s t) d (announcing x (suc i))) k went d (announcing x (suc i)) refl (λ p a b z. m .stay p a b) (λ r. rw e refl) refl (λ m n. tt)
 transition-turn s k v w u (Transition.wrote {d} {w = x} l e f) =
-    let X = raising x 0 (changes x (s .tab)) (noRoom x (s .tab)) in
-    turn-step s (at-client (with-tab s (effect x (s .tab))) d X) k went d X refl (λ p a b z. refl) (λ r. rw e refl) refl (λ m n. tt)
+    let X = raising x 0 (changes (x .change) (s .tab)) (noRoom (x .change) (s .tab)) in
+    turn-step s (at-client (with-tab s (effect (x .change) (s .tab))) d X) k went d X refl (λ p a b z. refl) (λ r. rw e refl) refl (λ m n. tt)
 transition-turn s k v w u (Transition.raised {d} {w = x} {j} {c} {f} {t} l e g m) =
     turn-step s (at-client (with-store s t) d (raising x (suc j) c f)) k went d (raising x (suc j) c f) refl (raised-steady s t d x j c f v l e m) (λ r. rw e refl) refl (λ m n. tt)
 transition-turn s k v w u (Transition.last {d} {w = x} {j} {c} {f} {t} l e g m) =
@@ -193,11 +194,11 @@ pub transition-quiescent : (s : State) (k : Quiescent) {c : Call} {a : Response}
 transition-quiescent s k {c} {a} {t} v w u o = turn-keeps s k c a t v u (transition-turn s k v w u o)
 
 -- ---- The fetch gets the answer
-agrees : (s : State) (q : Key) (ns : List ℕ) (x : Ans) → x .query ≡ q → length (readLabels q) ≤ length ns → Still s q ns (length ns)
+agrees : (s : State) (q : Ask) (ns : List ℕ) (x : Ans) → x .query ≡ q → length (readLabels q) ≤ length ns → Still s q ns (length ns)
     → Still s (x .query) (x .revs) (length (readLabels (x .query))) → holds-for q ns x ≡ true
 unfolding holds-for
 agrees s q ns x r n z w =
-    rw (r, sameKey-refl q) (all-below (length (readLabels q)) (λ j. leb (getD ns j 0) (getD (x .revs) j 0))
+    rw (r, sameAsk-refl q) (all-below (length (readLabels q)) (λ j. leb (getD ns j 0) (getD (x .revs) j 0))
     (λ j b. le-leb (getD ns j 0) (getD (x .revs) j 0)
     (let a = z j (omega arith) .1 in
     let w′ : Still s q (x .revs) (length (readLabels q)) = rw r at w in
@@ -214,8 +215,7 @@ GetsAt s k d a (announcing w i) = Unit
 GetsAt s k d a (raising w j c f) = Unit
 
 abbrev GetsIt : State → Quiescent → Call → Response → Type 0
-GetsIt s k (begin-read e q) a = Unit
-GetsIt s k (begin-write e w) a = Unit
+GetsIt s k (begin e work) a = Unit
 GetsIt s k (step d) a = GetsAt s k d a (s .clients d)
 GetsIt s k (abandon e) a = Unit
 GetsIt s k (evict-answer i) a = Unit
@@ -232,8 +232,7 @@ refused-gets-at s k d n (announcing w i) = tt
 refused-gets-at s k d n (raising w j c f) = tt
 
 refused-gets : (s : State) (k : Quiescent) (c : Call) (n : ℕ) → GetsIt s k c (refused n)
-refused-gets s k (begin-read e q) n = tt
-refused-gets s k (begin-write e w) n = tt
+refused-gets s k (begin e work) n = tt
 refused-gets s k (step d) n = refused-gets-at s k d n (s .clients d)
 refused-gets s k (abandon e) n = tt
 refused-gets s k (evict-answer i) n = tt
@@ -241,7 +240,7 @@ refused-gets s k (evict-node i) n = tt
 refused-gets s k renew n = tt
 
 -- with both flags true the answer holds for what was noted
-holds-it : (s : State) (k : Quiescent) (d : ℕ) (q : Key) (ns : List ℕ) (saw : Bool) (x : Ans) → QuiescenceInv s k → s .clients d ≡ looking q ns saw
+holds-it : (s : State) (k : Quiescent) (d : ℕ) (q : Ask) (ns : List ℕ) (saw : Bool) (x : Ans) → QuiescenceInv s k → s .clients d ≡ looking q ns saw
     → length (readLabels q) ≤ length ns → In x (s .filed) → x .query ≡ q → k .onClient d ≡ true → k .onFile q ≡ true
     → (holds-for q ns x ≡ true) × (saw ≡ false)
 holds-it s k d q ns saw x u e n i r m g =
@@ -249,17 +248,17 @@ holds-it s k d q ns saw x u e n i r m g =
     let w = u .file x i (rw r g) in
     (agrees s q ns x r n (z .0) (w .0), z .2)
 
-miss-gets : (s : State) (k : Quiescent) (d : ℕ) (q : Key) (ns : List ℕ) (saw : Bool) (a : Response) → QuiescenceInv s k → s .clients d ≡ looking q ns saw
+miss-gets : (s : State) (k : Quiescent) (d : ℕ) (q : Ask) (ns : List ℕ) (saw : Bool) (a : Response) → QuiescenceInv s k → s .clients d ≡ looking q ns saw
     → (saw ≡ true) ⊎ ((a : Ans) → In a (s .filed) → holds-for q ns a ≡ false) → GetsAt s k d a (looking q ns saw)
 miss-gets s k d q ns saw a u e y x n i r m g w =
     let z = holds-it s k d q ns saw x u e n i r m g in
     elim y [ inl y ↦ clash y (z .1) | inr y ↦ clash (z .0) (y x i) ]
 
-hit-gets : (s : State) (k : Quiescent) (d : ℕ) (q : Key) (ns : List ℕ) (b : Ans) → StateInv s → In b (s .filed) → holds-for q ns b ≡ true
+hit-gets : (s : State) (k : Quiescent) (d : ℕ) (q : Ask) (ns : List ℕ) (b : Ans) → StateInv s → In b (s .filed) → holds-for q ns b ≡ true
     → GetsAt s k d (answered (b .list) true) (looking q ns false)
 unfolding holds-for
 hit-gets s k d q ns b v j h x n i r m g w =
-    let y : b .query ≡ q = sameKey-eq (b .query) q (and-left (sameKey (b .query) q) _ h) in
+    let y : b .query ≡ q = sameAsk-eq (b .query) q (and-left (sameAsk (b .query) q) _ h) in
     ap (λ (z : Ans). answered (z .list) true) (one-each (s .filed) b x (v .one) j i (y ∙ sym r))
 
 transition-gets : (s : State) (k : Quiescent) {c : Call} {a : Response} {t : State} → StateInv s → QuiescenceInv s k → Transition s c a t → GetsIt s k c a
@@ -286,6 +285,6 @@ transition-gets s k v u (Transition.renewed i) = tt
 
 -- demand 2's last sentence
 pub gets : (s : State) (k : Quiescent) {d : ℕ} {a : Response} {t : State} → StateInv s → QuiescenceInv s k → Transition s (step d) a t → isRefused a ≡ false
-    → (q : Key) (ns : List ℕ) (saw : Bool) → s .clients d ≡ looking q ns saw → length (readLabels q) ≤ length ns
+    → (q : Ask) (ns : List ℕ) (saw : Bool) → s .clients d ≡ looking q ns saw → length (readLabels q) ≤ length ns
     → (x : Ans) → In x (s .filed) → x .query ≡ q → k .onClient d ≡ true → k .onFile q ≡ true → a ≡ answered (x .list) true
 gets s k {d} {a} v u o r q ns saw e n x i y m g = subst (λ z. GetsAt s k d a z) e (transition-gets s k v u o) x n i y m g r

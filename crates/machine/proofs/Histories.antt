@@ -2,7 +2,7 @@
 -- the table is the plain table; an answer is its query's list on the plain table after one of the read's moments; the limits on steps.
 -- Then, for every history: the table is ascending; demand 2's last sentence. Leans on Claims, Log, TableAscending and Gets. Assumes nothing.
 use mathlib.Core.Path.{_≡_, refl, sym, ap, _∙_, subst}
-use mathlib.Core.Bool.{Bool, true, false, _&&_, not, cond, true≢false, and-false}
+use mathlib.Core.Bool.{Bool, true, false, _&&_, not, cond, true≢false}
 use mathlib.Core.List.{List, [], _∷_, _++_}
 use Prim.Native.Nat.{ℕ, suc, _+_, _≤_, _<_}
 use native.Mathlib.Omega.{arith}
@@ -13,23 +13,25 @@ use Rattle.laws.proofs.ListLaws.{and-left, and-right}
 use Rattle.laws.proofs.TestLaws.{byTest}
 use Rattle.query.specs.Shape.{Shape, maxColumns}
 use Rattle.rules.specs.Table.{Table}
-use Rattle.machine.proofs.Sums.{upd, upd-same, upd-other, In}
-use Rattle.machine.proofs.Keys.{Key, Val, valueOf, readLabels}
-use Rattle.machine.proofs.Machine.{State, Phase, idle, looking, Ans, opened}
-use Rattle.machine.proofs.Machine.{Call, begin-read, begin-write, step, abandon, evict-answer, evict-node, renew}
-use Rattle.machine.proofs.Machine.{Response, refused, went, answered, long, ended, full}
-use Rattle.machine.proofs.Transition
-use Rattle.machine.proofs.Transition.{Transition}
-use Rattle.machine.proofs.Trace.{Act, reads, writes, Job, no-job, job, Trace, next-trace, accepted-trace, step-trace, begin-trace, abandon-trace}
-use Rattle.machine.proofs.Trace.{tick, turn, job-after, tabled-at, isRefused, empty-trace}
+use Rattle.machine.specs.Machine.{upd, State, Phase, idle, looking, Ans, opened, Call, begin, step, abandon, evict-answer, evict-node, renew}
+use Rattle.machine.specs.Machine.{Response, refused, went, answered, long, ended, full, isRefused, isEnd, ends, WorkFits, starts}
+use Rattle.machine.proofs.Sums.{upd-same, upd-other}
+use Rattle.lists.specs.Lists.{In}
+use Rattle.rules.specs.Work.{Ask, Value, valueOf, readLabels, Work, asking, writing, stepsInAll}
+use Rattle.machine.specs.Transition.{Transition}
+use Rattle.machine.proofs.Trace.{Job, no-job, job, Trace, next-trace, accepted-trace, step-trace, begin-trace, abandon-trace, tick, turn}
+use Rattle.machine.proofs.Trace.{job-after, tabled-at, empty-trace}
 use Rattle.machine.proofs.TraceInv.{JobOk}
+use Rattle.machine.proofs.Asks.{limit, steps-few}
+use Rattle.machine.proofs.Frames.{busy-starts, transition-frame}
 use Rattle.machine.proofs.Claims.{Hist, next, fresh, WasAt, Limited, Good, good-limits, good-next, claims, opened-good}
-use Rattle.machine.proofs.StateInv.{StateInv, transition-inv, transition-shape, opened-inv}
+use Rattle.machine.proofs.StateInv.{StateInv, transition-inv, opened-inv}
 use Rattle.machine.proofs.TableAscending.{TableGood, table-good, opened-table}
 use Rattle.machine.proofs.Quiescence.{Quiescent, quiescent-next, quiescent-start, QuiescenceInv, opened-quiescent}
 use Rattle.machine.proofs.Gets.{transition-quiescent, gets}
-use Rattle.machine.proofs.Log.{Entry, entry, after, plainTable, now-after, tabs-are, startOf, isEnd, ends, goesOn, stepped, stepsOf, UnderWay}
-use Rattle.machine.proofs.Log.{JobFrom, linked, refused-on}
+use Rattle.machine.proofs.Log.{Entry, entry, after, plainTable, now-after, tabs-are, goesOn, stepped, stepsOf, UnderWay, JobFrom, linked}
+use Rattle.machine.proofs.Log.{refused-on}
+use Rattle.machine.specs.Transition
 
 -- ---- A history: every call did what it may do
 abbrev pub Run : State → List Entry → State → Type 0
@@ -47,10 +49,10 @@ unfolding plainTable
 tables sh b l s r = run-good l (opened sh) s (fresh sh) (opened-good sh b) r .plain .table
 
 -- ---- Claim 2: the answers
--- an answer v of desk d after the log l: a read is under way there, and v was its key's list after a call from its begin on to this one
-pub record WasList (sh : Shape) (l : List Entry) (d : ℕ) (v : Val) (f : Bool) : Type 0 where
-  pub key : Key
-  pub underWay : UnderWay l d (reads key)
+-- an answer v of desk d after the log l: a read is under way there, and v was its ask's list after a call from its begin on to this one
+pub record WasList (sh : Shape) (l : List Entry) (d : ℕ) (v : Value) (f : Bool) : Type 0 where
+  pub key : Ask
+  pub underWay : UnderWay l d (asking key)
   pub moment : ℕ
   pub later : length (underWay .earlier) < moment
   pub upto : moment ≤ suc (length l)
@@ -61,12 +63,12 @@ unfolding after
 after-append [] h e = refl
 after-append (c ∷ l) h e = after-append l (next h (c .call) (c .result)) e
 
-was-list : (sh : Shape) (l : List Entry) (d : ℕ) (v : Val) (f : Bool) (B : Trace) (j : Job) → B .now ≡ suc (length l)
+was-list : (sh : Shape) (l : List Entry) (d : ℕ) (v : Value) (f : Bool) (B : Trace) (j : Job) → B .now ≡ suc (length l)
     → ((i : ℕ) → i ≤ B .now → B .tabs i ≡ plainTable sh (take i (l ++ (entry (step d) (answered v f) ∷ []))))
     → JobFrom l d j → WasAt B j v → WasList sh l d v f
 was-list sh l d v f B no-job n t u w = absurd w
-was-list sh l d v f B (job (writes x) m b i) n t u w = absurd w
-was-list sh l d v f B (job (reads q) m b i) n t u w =
+was-list sh l d v f B (job (writing x) m b i) n t u w = absurd w
+was-list sh l d v f B (job (asking q) m b i) n t u w =
     let y = u .1 in
     record {
       key = q;
@@ -77,7 +79,7 @@ was-list sh l d v f B (job (reads q) m b i) n t u w =
       was = w .3 ∙ ap (valueOf q) (t (w .0) (w .2));
     }
 
-pub answers : (sh : Shape) → sh .columns ≤ maxColumns → (l : List Entry) (s t : State) → Run (opened sh) l s → (d : ℕ) (v : Val) (f : Bool)
+pub answers : (sh : Shape) → sh .columns ≤ maxColumns → (l : List Entry) (s t : State) → Run (opened sh) l s → (d : ℕ) (v : Value) (f : Bool)
     → Transition s (step d) (answered v f) t → WasList sh l d v f
 answers sh b l s t r d v f o =
     let h = after (fresh sh) l in
@@ -94,54 +96,6 @@ answers sh b l s t r d v f o =
     (linked sh l d) (claims s h g o .answer)
 
 -- ---- Claim 3: the limits
--- an accepted begin at desk d
-unfoldable startsAt : ℕ → Call → Response → Bool
-startsAt d (begin-read e q) a = eqb e d && not (isRefused a)
-startsAt d (begin-write e w) a = eqb e d && not (isRefused a)
-startsAt d (step e) a = false
-startsAt d (abandon e) a = false
-startsAt d (evict-answer i) a = false
-startsAt d (evict-node i) a = false
-startsAt d renew a = false
-
-refused-starts : (d : ℕ) (c : Call) (n : ℕ) → startsAt d c (refused n) ≡ false
-unfolding startsAt isRefused
-refused-starts d (begin-read e q) n = and-false (eqb e d)
-refused-starts d (begin-write e w) n = and-false (eqb e d)
-refused-starts d (step e) n = refl
-refused-starts d (abandon e) n = refl
-refused-starts d (evict-answer i) n = refl
-refused-starts d (evict-node i) n = refl
-refused-starts d renew n = refl
-
--- there is none where a desk is busy
-not-here : (s : State) (d e : ℕ) (b : Bool) → s .clients e ≡ idle → (s .clients d ≡ idle → ⊥) → (eqb e d && b) ≡ false
-not-here s d e b i ne = byTest (eqb e d)
-    (λ k. absurd (ne (subst (λ y. s .clients y ≡ idle) (eqb-true e d k) i)))
-    (λ k. rw k refl)
-
-transition-starts : (s : State) (d : ℕ) {c : Call} {a : Response} {t : State} → Transition s c a t → (s .clients d ≡ idle → ⊥) → startsAt d c a ≡ false
-unfolding startsAt
-transition-starts s d (Transition.nothing {c} {n} e) ne = refused-starts d c n
-transition-starts s d (Transition.began {d = e} l i k) ne = not-here s d e _ i ne
-transition-starts s d (Transition.began-write {d = e} l i k o) ne = not-here s d e _ i ne
-transition-starts s d (Transition.looked l e k m n) ne = refl
-transition-starts s d (Transition.missed l e k y) ne = refl
-transition-starts s d (Transition.hit l e k i f) ne = refl
-transition-starts s d (Transition.too-long l e k) ne = refl
-transition-starts s d (Transition.listed l e k) ne = refl
-transition-starts s d (Transition.took l e k) ne = refl
-transition-starts s d (Transition.filed l e) ne = refl
-transition-starts s d (Transition.announced l e k m) ne = refl
-transition-starts s d (Transition.wrote l e k) ne = refl
-transition-starts s d (Transition.raised l e k m) ne = refl
-transition-starts s d (Transition.last l e k m) ne = refl
-transition-starts s d (Transition.abandoned-read l e) ne = refl
-transition-starts s d (Transition.abandoned-write l e m) ne = refl
-transition-starts s d (Transition.evicted-answer l) ne = refl
-transition-starts s d (Transition.evicted-node l m) ne = refl
-transition-starts s d (Transition.renewed i) ne = refl
-
 abbrev isJob : Job → Bool
 isJob no-job = false
 isJob (job x n b t) = true
@@ -150,18 +104,18 @@ busy : (B : Trace) (d : ℕ) (j : Job) (y : Phase) → isJob j ≡ true → JobO
 busy B d j y e o k = true≢false (sym e ∙ ap isJob (subst (λ z. JobOk B d j z) k o))
 
 -- a job that is there goes on over a call that neither ends nor begins one at its desk
-abbrev GoesOn : (ℕ → Job) → ℕ → Act → ℕ → ℕ → Type 0
+abbrev GoesOn : (ℕ → Job) → ℕ → Work → ℕ → ℕ → Type 0
 GoesOn js d x n b = (t : ℕ) × (js d ≡ job x n b t)
 
-still-on : (js : ℕ → Job) (d : ℕ) (x : Act) (n b t : ℕ) → js d ≡ job x n b t → GoesOn js d x (n + 0) b
+still-on : (js : ℕ → Job) (d : ℕ) (x : Work) (n b t : ℕ) → js d ≡ job x n b t → GoesOn js d x (n + 0) b
 still-on js d x n b t e = let z : n + 0 ≡ n = omega arith in rw z (t, e)
 
-upd-on : (js : ℕ → Job) (d e : ℕ) (y : Job) (x : Act) (n b t : ℕ) → eqb e d ≡ false → js d ≡ job x n b t → GoesOn (upd js e y) d x (n + 0) b
+upd-on : (js : ℕ → Job) (d e : ℕ) (y : Job) (x : Work) (n b t : ℕ) → eqb e d ≡ false → js d ≡ job x n b t → GoesOn (upd js e y) d x (n + 0) b
 upd-on js d e y x n b t k i =
     let ne : e ≡ d → ⊥ = eqb-false e d k in
     still-on (upd js e y) d x n b t (upd-other js e y d (λ z. ne (sym z)) ∙ i)
 
-went-on : (js : ℕ → Job) (d : ℕ) (x : Act) (n b t : ℕ) (a : Response) → isRefused a ≡ false → isEnd a ≡ false
+went-on : (js : ℕ → Job) (d : ℕ) (x : Work) (n b t : ℕ) (a : Response) → isRefused a ≡ false → isEnd a ≡ false
     → GoesOn (upd js d (job-after x (suc n) b t a)) d x (n + 1) b
 unfolding isRefused isEnd job-after
 went-on js d x n b t (refused m) r f = absurd (true≢false r)
@@ -172,7 +126,7 @@ went-on js d x n b t long r f = absurd (true≢false f)
 went-on js d x n b t (ended c) r f = absurd (true≢false f)
 went-on js d x n b t full r f = absurd (true≢false f)
 
-step-on : (B : Trace) (e d : ℕ) (j : Job) (a : Response) (T : Table) (x : Act) (n b t : ℕ) → B .jobs e ≡ j → B .jobs d ≡ job x n b t
+step-on : (B : Trace) (e d : ℕ) (j : Job) (a : Response) (T : Table) (x : Work) (n b t : ℕ) → B .jobs e ≡ j → B .jobs d ≡ job x n b t
     → isRefused a ≡ false
     → (eqb e d && isEnd a) ≡ false → GoesOn (step-trace B e j a T .jobs) d x (n + cond (eqb e d && not (isRefused a)) 1 0) b
 unfolding step-trace tick turn
@@ -186,7 +140,7 @@ step-on B e d j a T x n b t k i r f = byTest (eqb e d)
     other-on no-job y = still-on (B .jobs) d x n b t i
     other-on (job x′ n′ b′ t′) y = upd-on (B .jobs) d e _ x n b t y i
 
-abandon-on : (B : Trace) (e d : ℕ) (j : Job) (a : Response) (T : Table) (x : Act) (n b t : ℕ) → B .jobs d ≡ job x n b t → isRefused a ≡ false
+abandon-on : (B : Trace) (e d : ℕ) (j : Job) (a : Response) (T : Table) (x : Work) (n b t : ℕ) → B .jobs d ≡ job x n b t → isRefused a ≡ false
     → (eqb e d && not (isRefused a)) ≡ false → GoesOn (abandon-trace B e j a T .jobs) d x (n + 0) b
 unfolding abandon-trace tick turn
 abandon-on B e d no-job a T x n b t i r f = still-on (B .jobs) d x n b t i
@@ -194,25 +148,24 @@ abandon-on B e d (job x′ n′ b′ t′) a T x n b t i r f = byTest (eqb e d)
     (λ y. absurd (true≢false (rw (y, r) at f)))
     (λ y. upd-on (B .jobs) d e no-job x n b t y i)
 
-begin-on : (js : ℕ → Job) (d e : ℕ) (y : Job) (a : Response) (x : Act) (n b t : ℕ) → js d ≡ job x n b t → isRefused a ≡ false
+begin-on : (js : ℕ → Job) (d e : ℕ) (y : Job) (a : Response) (x : Work) (n b t : ℕ) → js d ≡ job x n b t → isRefused a ≡ false
     → (eqb e d && not (isRefused a)) ≡ false → GoesOn (upd js e y) d x (n + 0) b
 begin-on js d e y a x n b t i r f = byTest (eqb e d)
     (λ k. absurd (true≢false (rw (k, r) at f)))
     (λ k. upd-on js d e y x n b t k i)
 
-accepted-on : (B : Trace) (c : Call) (a : Response) (T : Table) (d : ℕ) (x : Act) (n b t : ℕ) → B .jobs d ≡ job x n b t → isRefused a ≡ false
-    → ends d c a ≡ false → startsAt d c a ≡ false → GoesOn (accepted-trace B c a T .jobs) d x (n + stepped d c a) b
-unfolding accepted-trace begin-trace tick turn ends startsAt stepped
-accepted-on B (begin-read e q) a T d x n b t i r f g = begin-on (B .jobs) d e _ a x n b t i r g
-accepted-on B (begin-write e w) a T d x n b t i r f g = begin-on (B .jobs) d e _ a x n b t i r g
+accepted-on : (B : Trace) (c : Call) (a : Response) (T : Table) (d : ℕ) (x : Work) (n b t : ℕ) → B .jobs d ≡ job x n b t → isRefused a ≡ false
+    → ends d c a ≡ false → starts d c a ≡ false → GoesOn (accepted-trace B c a T .jobs) d x (n + stepped d c a) b
+unfolding accepted-trace begin-trace tick turn ends starts stepped
+accepted-on B (begin e work) a T d x n b t i r f g = begin-on (B .jobs) d e _ a x n b t i r g
 accepted-on B (step e) a T d x n b t i r f g = step-on B e d (B .jobs e) a T x n b t refl i r f
 accepted-on B (abandon e) a T d x n b t i r f g = abandon-on B e d (B .jobs e) a T x n b t i r f
 accepted-on B (evict-answer j) a T d x n b t i r f g = still-on (B .jobs) d x n b t i
 accepted-on B (evict-node j) a T d x n b t i r f g = still-on (B .jobs) d x n b t i
 accepted-on B renew a T d x n b t i r f g = still-on (B .jobs) d x n b t i
 
-next-on : (B : Trace) (c : Call) (a : Response) (T : Table) (d : ℕ) (x : Act) (n b t : ℕ) → B .jobs d ≡ job x n b t
-    → ends d c a ≡ false → startsAt d c a ≡ false → GoesOn (next-trace B c a T .jobs) d x (n + stepped d c a) b
+next-on : (B : Trace) (c : Call) (a : Response) (T : Table) (d : ℕ) (x : Work) (n b t : ℕ) → B .jobs d ≡ job x n b t
+    → ends d c a ≡ false → starts d c a ≡ false → GoesOn (next-trace B c a T .jobs) d x (n + stepped d c a) b
 unfolding next-trace isRefused tick turn
 next-on B c (refused m) T d x n b t i f g = rw (refused-on d c m .1) (still-on (B .jobs) d x n b t i)
 next-on B c went T d x n b t i f g = accepted-on B c went T d x n b t i refl f g
@@ -222,13 +175,13 @@ next-on B c (ended y) T d x n b t i f g = accepted-on B c (ended y) T d x n b t 
 next-on B c full T d x n b t i f g = accepted-on B c full T d x n b t i refl f g
 
 -- and over a whole run that does not end it
-run-on : (l : List Entry) (s t : State) (h : Hist) (d : ℕ) (x : Act) (n b i : ℕ) → Good s h → Run s l t → h .trace .jobs d ≡ job x n b i
+run-on : (l : List Entry) (s t : State) (h : Hist) (d : ℕ) (x : Work) (n b i : ℕ) → Good s h → Run s l t → h .trace .jobs d ≡ job x n b i
     → goesOn d l ≡ true → GoesOn (after h l .trace .jobs) d x (n + stepsOf d l) b
 unfolding after goesOn stepsOf next
 run-on [] s t h d x n b i g r e f = still-on (h .trace .jobs) d x n b i e
 run-on (c ∷ l) s t h d x n b i g r e f =
     let no = not-true (ends d (c .call) (c .result)) (and-left (not (ends d (c .call) (c .result))) _ f) in
-    let st = transition-starts s d (r .1) (busy (h .trace) d (h .trace .jobs d) (s .clients d) (rw e refl) (g .trace .job d)) in
+    let st = busy-starts s d (r .1) (busy (h .trace) d (h .trace .jobs d) (s .clients d) (rw e refl) (g .trace .job d)) in
     let o = next-on (h .trace) (c .call) (c .result) (next h (c .call) (c .result) .plain .table) d x n b i e no st in
     let p = run-on l (r .0) t (next h (c .call) (c .result)) d x (n + stepped d (c .call) (c .result)) b (o .0) (good-next s h g (r .1)) (r .2) (o .1)
     (and-right (not (ends d (c .call) (c .result))) _ f) in
@@ -239,37 +192,38 @@ run-split : (p l : List Entry) (s t : State) → Run s (p ++ l) t → (m : State
 run-split [] l s t r = (s, refl, r)
 run-split (e ∷ p) l s t r = let z = run-split p l (r .0) t (r .2) in (z .0, (r .0, r .1, z .1), z .2)
 
-begin-jobs : (B : Trace) (x : Act) (d : ℕ) (a : Response) (T : Table) → isRefused a ≡ false
-    → next-trace B (startOf x d) a T .jobs d ≡ job x 0 (suc (B .now)) 0
-unfolding next-trace accepted-trace begin-trace turn startOf
-begin-jobs B (reads q) d a T r = rw r (upd-same (B .jobs) d (job (reads q) 0 (suc (B .now)) 0))
-begin-jobs B (writes w) d a T r = rw r (upd-same (B .jobs) d (job (writes w) 0 (suc (B .now)) 0))
+begin-jobs : (B : Trace) (x : Work) (d : ℕ) (a : Response) (T : Table) → isRefused a ≡ false
+    → next-trace B (begin d x) a T .jobs d ≡ job x 0 (suc (B .now)) 0
+unfolding next-trace accepted-trace begin-trace turn
+begin-jobs B x d a T r = rw r (upd-same (B .jobs) d (job x 0 (suc (B .now)) 0))
 
--- the accepted step with which it ends at the latest
-abbrev pub limit : Act → ℕ
-limit (reads q) = 19
-limit (writes w) = 33
-
-below-limit : (x : Act) (n b t : ℕ) → Limited (job x n b t) → n < limit x
-below-limit (reads q) n b t l = l
-below-limit (writes w) n b t l = l
-
--- what is under way has made fewer
-pub limits : (sh : Shape) → sh .columns ≤ maxColumns → (l : List Entry) (s : State) → Run (opened sh) l s → (d : ℕ) (x : Act) (u : UnderWay l d x)
-    → stepsOf d (u .since) < limit x
+-- what is under way has made fewer steps than it makes in all, and is of the hall
+pub limits : (sh : Shape) → sh .columns ≤ maxColumns → (l : List Entry) (s : State) → Run (opened sh) l s → (d : ℕ) (x : Work) (u : UnderWay l d x)
+    → (stepsOf d (u .since) < stepsInAll x) × WorkFits (s .shape) x
 unfolding after next
 limits sh b l s r d x u =
-    let e = entry (startOf x d) (u .result) in
+    let e = entry (begin d x) (u .result) in
     let z = run-split (u .earlier) (e ∷ u .since) (opened sh) s (subst (λ y. Run (opened sh) y s) (u .split) r) in
     let h = after (fresh sh) (u .earlier) in
     let g = run-good (u .earlier) (opened sh) (z .0) (fresh sh) (opened-good sh b) (z .1) in
-    let m = next h (startOf x d) (u .result) in
+    let m = next h (begin d x) (u .result) in
     let r2 = z .2 in
     let g2 = good-next (z .0) h g (r2 .1) in
     let j : m .trace .jobs d ≡ job x 0 (suc (h .trace .now)) 0 = begin-jobs (h .trace) x d (u .result) (m .plain .table) (u .taken) in
     let o = run-on (u .since) (r2 .0) s m d x 0 (suc (h .trace .now)) 0 g2 (r2 .2) j (u .on) in
     let g3 = run-good (u .since) (r2 .0) s m g2 (r2 .2) in
-    let y = below-limit x (0 + stepsOf d (u .since)) (suc (h .trace .now)) (o .0) (subst Limited (o .1) (good-limits s (after m (u .since)) g3 d)) in
+    let y : Limited (s .shape) (job x (0 + stepsOf d (u .since)) (suc (h .trace .now)) (o .0)) =
+    subst (Limited (s .shape)) (o .1) (good-limits s (after m (u .since)) g3 d) in
+    let z = y .0 in
+    (omega arith, y .1)
+
+-- 19 and 33 follow from the most nodes that a hall's reads and writes have
+pub limits-few : (sh : Shape) → sh .columns ≤ maxColumns → (l : List Entry) (s : State) → Run (opened sh) l s → (d : ℕ) (x : Work) (u : UnderWay l d x)
+    → stepsOf d (u .since) < limit x
+limits-few sh b l s r d x u =
+    let a = limits sh b l s r d x u in
+    let c = steps-few (s .shape) x (a .1) (run-good l (opened sh) s (fresh sh) (opened-good sh b) r .inv .few) in
+    let n = a .0 in
     omega arith
 
 -- ---- The table of a history
@@ -277,7 +231,7 @@ run-table : (l : List Entry) (s t : State) → StateInv s → TableGood (s .shap
 run-table [] s t v g r = rw r g
 run-table (e ∷ l) s t v g r =
     let w = transition-inv s v (r .1) in
-    subst (λ (sh : Shape). TableGood (sh .columns) (t .tab)) (transition-shape s v (r .1)) (run-table l (r .0) t w (table-good s v (r .1) g) (r .2))
+    subst (λ (sh : Shape). TableGood (sh .columns) (t .tab)) (transition-frame s (r .1) .shape) (run-table l (r .0) t w (table-good s v (r .1) g) (r .2))
 
 pub tables-good : (sh : Shape) → sh .columns ≤ maxColumns → (l : List Entry) (s : State) → Run (opened sh) l s → TableGood (sh .columns) (s .tab)
 unfolding opened
@@ -298,7 +252,7 @@ run-quiescent (e ∷ l) s t r k v u =
 
 pub fetches : (sh : Shape) → sh .columns ≤ maxColumns → (l : List Entry) (s t : State) (r : Run (opened sh) l s) (d : ℕ) (a : Response) → Transition s (step d) a t
     → isRefused a ≡ false
-    → (q : Key) (ns : List ℕ) (saw : Bool) → s .clients d ≡ looking q ns saw → length (readLabels q) ≤ length ns
+    → (q : Ask) (ns : List ℕ) (saw : Bool) → s .clients d ≡ looking q ns saw → length (readLabels q) ≤ length ns
     → (x : Ans) → In x (s .filed) → x .query ≡ q
     → quiescent-after l (opened sh) s r quiescent-start .onClient d ≡ true → quiescent-after l (opened sh) s r quiescent-start .onFile q ≡ true → a ≡ answered (x .list) true
 fetches sh b l s t r d a o f q ns saw e n x i y m g =

@@ -1,9 +1,7 @@
 pub mod Sums
-pub mod Sharing
-pub mod Keys
-pub mod Machine
+pub mod Asks
 pub mod FiledAnswers
-pub mod Transition
+pub mod Frames
 pub mod PendingLabels
 pub mod Moves
 pub mod StateInv

@@ -12,14 +12,17 @@ use borrow.Author.Tests.{eqb-true, eqb-false, lt-ltb}
 use lib.ListN.{length, getD, length-append, List·getD-append}
 use lib.Seq.{getD-append-seam}
 use Rattle.laws.proofs.TestLaws.{byTest, clash, or-left, or-right}
-use Rattle.query.specs.Shape.{Shape}
 use Rattle.rules.specs.Layout.{maxClients}
-use Rattle.rules.specs.Table.{Write, effect}
-use Rattle.rules.specs.Nodes.{Store}
-use Rattle.revisions.proofs.EffectiveRevision.{effective, pendingOf, tally, Grew}
-use Rattle.machine.proofs.Sums.{Words, upd, upd-same, upd-other, In, in-place}
-use Rattle.machine.proofs.Keys.{Key, Val, valueOf, width, widthOf, readLabels, writeLabels, Shares, effect-value}
-use Rattle.machine.proofs.Machine.{State, Phase, idle, looking, tabling, filing, announcing, raising, node, with-filed, with-store, cut}
+use Rattle.rules.specs.Work.{Write, Ask, Value, valueOf, readLabels, writeLabels, Shares}
+use Rattle.rules.specs.Table.{effect}
+use Rattle.rules.specs.Nodes.{Store, Words}
+use Rattle.revisions.specs.EffectiveRevision.{effective, pendingOf, tally, Grew}
+use Rattle.machine.specs.Machine.{upd, State, Phase, idle, looking, tabling, filing, announcing, raising, node, with-filed, with-store, cut}
+use Rattle.machine.specs.Machine.{AskFits, WriteFits}
+use Rattle.machine.proofs.Sums.{upd-same, upd-other}
+use Rattle.laws.proofs.Members.{in-place}
+use Rattle.lists.specs.Lists.{In}
+use Rattle.machine.proofs.Asks.{effect-value}
 use Rattle.machine.proofs.FiledAnswers.{in-cut}
 use Rattle.machine.proofs.PendingLabels.{owes, owing, Owed, tally-in}
 
@@ -28,31 +31,31 @@ use Rattle.machine.proofs.PendingLabels.{owes, owing, Owed, tally-in}
 abbrev pub Late : State → Words → ℕ → Type 0
 Late s p x = (x < effective (s .store) p) ⊎ Owed s p
 
-abbrev pub BoundTo : ℕ → (Words → ℕ) → Key → List ℕ → Type 0
+abbrev pub BoundTo : ℕ → (Words → ℕ) → Ask → List ℕ → Type 0
 BoundTo n e q r = (j : ℕ) → j < n → getD r j 0 ≤ e (node q j)
 
-abbrev pub Stale : State → Key → List ℕ → Type 0
+abbrev pub Stale : State → Ask → List ℕ → Type 0
 Stale s q r = (j : ℕ) × (j < length (readLabels q)) × Late s (node q j) (getD r j 0)
 
 -- an answer: filed, or held by a desk that has still to file it
-pub data IsAns (s : State) (q : Key) (r : List ℕ) (l : Val) : Type 0 where
+pub data IsAns (s : State) (q : Ask) (r : List ℕ) (l : Value) : Type 0 where
   in-file : In (record { query = q; revs = r; list = l }) (s .filed) → IsAns s q r l
   in-hand : (d : ℕ) → s .clients d ≡ filing q r l → IsAns s q r l
 
-pub record AnsOk (s : State) (q : Key) (r : List ℕ) (l : Val) : Type 0 where
-  pub fits : width q ≡ s .shape .columns
+pub record AnsOk (s : State) (q : Ask) (r : List ℕ) (l : Value) : Type 0 where
+  pub fits : AskFits (s .shape) q
   pub bound : BoundTo (length (readLabels q)) (effective (s .store)) q r
   pub now : (l ≡ valueOf q (s .tab)) ⊎ Stale s q r
 
 -- an answer that a call has made
-abbrev pub New : State → Key → List ℕ → Val → Type 0
-New t q r l = BoundTo (length (readLabels q)) (effective (t .store)) q r × (width q ≡ t .shape .columns) × (l ≡ valueOf q (t .tab))
+abbrev pub New : State → Ask → List ℕ → Value → Type 0
+New t q r l = BoundTo (length (readLabels q)) (effective (t .store)) q r × AskFits (t .shape) q × (l ≡ valueOf q (t .tab))
 
 -- a read at q that has noted ns will not take an answer with the revisions r
-abbrev pub LateFor : State → Key → List ℕ → List ℕ → ℕ → Type 0
+abbrev pub LateFor : State → Ask → List ℕ → List ℕ → ℕ → Type 0
 LateFor s q ns r j = ((j < length ns) × (getD r j 0 < getD ns j 0)) ⊎ ((length ns ≤ j) × Late s (node q j) (getD r j 0))
 
-abbrev pub Behind : State → Key → List ℕ → Bool → List ℕ → Type 0
+abbrev pub Behind : State → Ask → List ℕ → Bool → List ℕ → Type 0
 Behind s q ns saw r = (saw ≡ true) ⊎ ((j : ℕ) × (j < length (readLabels q)) × LateFor s q ns r j)
 
 -- ---- Moves
@@ -60,34 +63,34 @@ pub record Move (s t : State) : Type 0 where
   pub shape : t .shape ≡ s .shape
   pub mono : (p : Words) → effective (s .store) p ≤ effective (t .store) p
   pub owed : (p : Words) → Owed s p → Owed t p ⊎ (effective (s .store) p < effective (t .store) p)
-  pub lists : (q : Key) → width q ≡ s .shape .columns → (valueOf q (t .tab) ≡ valueOf q (s .tab)) ⊎ ((j : ℕ) × (j < length (readLabels q)) × Owed t (node q j))
-  pub answers : (q : Key) (r : List ℕ) (l : Val) → IsAns t q r l → IsAns s q r l ⊎ New t q r l
+  pub lists : (q : Ask) → AskFits (s .shape) q → (valueOf q (t .tab) ≡ valueOf q (s .tab)) ⊎ ((j : ℕ) × (j < length (readLabels q)) × Owed t (node q j))
+  pub answers : (q : Ask) (r : List ℕ) (l : Value) → IsAns t q r l → IsAns s q r l ⊎ New t q r l
 
 late-moves : {s t : State} → Move s t → (p : Words) (x : ℕ) → x ≤ effective (s .store) p → Late s p x → Late t p x
 late-moves m p x b (inl h) = let k = m .mono p in inl (omega arith)
 late-moves m p x b (inr o) = elim (m .owed p o) [ inl o′ ↦ inr o′ | inr k ↦ inl (omega arith) ]
 
-stale-moves : {s t : State} → Move s t → (q : Key) (r : List ℕ) → BoundTo (length (readLabels q)) (effective (s .store)) q r → Stale s q r → Stale t q r
+stale-moves : {s t : State} → Move s t → (q : Ask) (r : List ℕ) → BoundTo (length (readLabels q)) (effective (s .store)) q r → Stale s q r → Stale t q r
 stale-moves m q r b z = (z .0, z .1, late-moves m (node q (z .0)) (getD r (z .0) 0) (b (z .0) (z .1)) (z .2))
 
-pub bound-on : (n : ℕ) (e f : Words → ℕ) (q : Key) (r : List ℕ) → ((p : Words) → e p ≤ f p) → BoundTo n e q r → BoundTo n f q r
+pub bound-on : (n : ℕ) (e f : Words → ℕ) (q : Ask) (r : List ℕ) → ((p : Words) → e p ≤ f p) → BoundTo n e q r → BoundTo n f q r
 bound-on n e f q r m b j l = let x = b j l in let y = m (node q j) in omega arith
 
-ans-now : {s t : State} → Move s t → (q : Key) (r : List ℕ) (l : Val) → AnsOk s q r l → (l ≡ valueOf q (t .tab)) ⊎ Stale t q r
+ans-now : {s t : State} → Move s t → (q : Ask) (r : List ℕ) (l : Value) → AnsOk s q r l → (l ≡ valueOf q (t .tab)) ⊎ Stale t q r
 ans-now m q r l a = elim (a .now) [
   | inl e ↦ elim (m .lists q (a .fits)) [ inl k ↦ inl (e ∙ sym k) | inr k ↦ inr (k .0, k .1, inr (k .2)) ]
   | inr z ↦ inr (stale-moves m q r (a .bound) z)
 ]
 
-pub ans-moves : {s t : State} → Move s t → ((q : Key) (r : List ℕ) (l : Val) → IsAns s q r l → AnsOk s q r l)
-    → (q : Key) (r : List ℕ) (l : Val) → IsAns t q r l → AnsOk t q r l
+pub ans-moves : {s t : State} → Move s t → ((q : Ask) (r : List ℕ) (l : Value) → IsAns s q r l → AnsOk s q r l)
+    → (q : Ask) (r : List ℕ) (l : Value) → IsAns t q r l → AnsOk t q r l
 ans-moves {s} {t} m h q r l i = elim (m .answers q r l i) [
   | inl i′ ↦ let a = h q r l i′ in
-      record { fits = a .fits ∙ ap (λ (sh : Shape). sh .columns) (sym (m .shape)); bound = bound-on (length (readLabels q)) (effective (s .store)) (effective (t .store)) q r (m .mono) (a .bound); now = ans-now m q r l a }
+      record { fits = rw (m .shape) (a .fits); bound = bound-on (length (readLabels q)) (effective (s .store)) (effective (t .store)) q r (m .mono) (a .bound); now = ans-now m q r l a }
   | inr n ↦ record { fits = n .1; bound = n .0; now = inl (n .2) }
 ]
 
-pub behind-moves : {s t : State} → Move s t → (q : Key) (ns : List ℕ) (saw : Bool) (r : List ℕ)
+pub behind-moves : {s t : State} → Move s t → (q : Ask) (ns : List ℕ) (saw : Bool) (r : List ℕ)
     → BoundTo (length (readLabels q)) (effective (s .store)) q r → Behind s q ns saw r → Behind t q ns saw r
 behind-moves m q ns saw r b (inl e) = inl e
 behind-moves m q ns saw r b (inr z) = inr (
@@ -104,11 +107,11 @@ pub record MoveAt (s t : State) (d : ℕ) (x : Phase) : Type 0 where
   pub low : d < maxClients
   pub clients : t .clients ≡ upd (s .clients) d x
   pub shape : t .shape ≡ s .shape
-  pub lists : (q : Key) → width q ≡ s .shape .columns → (valueOf q (t .tab) ≡ valueOf q (s .tab)) ⊎ ((j : ℕ) × (j < length (readLabels q)) × Owed t (node q j))
+  pub lists : (q : Ask) → AskFits (s .shape) q → (valueOf q (t .tab) ≡ valueOf q (s .tab)) ⊎ ((j : ℕ) × (j < length (readLabels q)) × Owed t (node q j))
   pub mono : (p : Words) → effective (s .store) p ≤ effective (t .store) p
   pub owed : (p : Words) → 0 < tally p (owes (s .clients d)) → (0 < tally p (owes x)) ⊎ (effective (s .store) p < effective (t .store) p)
-  pub file : (q : Key) (r : List ℕ) (l : Val) → In (record { query = q; revs = r; list = l }) (t .filed) → IsAns s q r l ⊎ New t q r l
-  pub hand : (q : Key) (r : List ℕ) (l : Val) → x ≡ filing q r l → IsAns s q r l ⊎ New t q r l
+  pub file : (q : Ask) (r : List ℕ) (l : Value) → In (record { query = q; revs = r; list = l }) (t .filed) → IsAns s q r l ⊎ New t q r l
+  pub hand : (q : Ask) (r : List ℕ) (l : Value) → x ≡ filing q r l → IsAns s q r l ⊎ New t q r l
 
 client-same : {s t : State} {d : ℕ} {x : Phase} → MoveAt s t d x → t .clients d ≡ x
 client-same {s} {t} {d} {x} m = ap (λ f. f d) (m .clients) ∙ upd-same _ d x
@@ -142,10 +145,10 @@ isFiling (filing q ns l) = true
 isFiling (announcing w i) = false
 isFiling (raising w j c f) = false
 
-pub not-filing : {A : Type 0} (x : Phase) {q : Key} {r : List ℕ} {l : Val} → isFiling x ≡ false → x ≡ filing q r l → A
+pub not-filing : {A : Type 0} (x : Phase) {q : Ask} {r : List ℕ} {l : Value} → isFiling x ≡ false → x ≡ filing q r l → A
 not-filing x e k = clash (ap isFiling k) e
 
-abbrev Filed : (Key → List ℕ → Val → Type 0) → Phase → Type 0
+abbrev Filed : (Ask → List ℕ → Value → Type 0) → Phase → Type 0
 Filed P idle = Unit
 Filed P (looking q ns saw) = Unit
 Filed P (tabling q ns saw) = Unit
@@ -153,12 +156,12 @@ Filed P (filing q ns l) = P q ns l
 Filed P (announcing w i) = Unit
 Filed P (raising w j c f) = Unit
 
-pub filing-of : (P : Key → List ℕ → Val → Type 0) {q q′ : Key} {ns ns′ : List ℕ} {l l′ : Val} → filing q ns l ≡ filing q′ ns′ l′ → P q ns l
+pub filing-of : (P : Ask → List ℕ → Value → Type 0) {q q′ : Ask} {ns ns′ : List ℕ} {l l′ : Value} → filing q ns l ≡ filing q′ ns′ l′ → P q ns l
     → P q′ ns′ l′
 filing-of P e x = subst (Filed P) e x
 
 -- ---- The moves of the calls
-pub same-lists : (s t : State) → t .tab ≡ s .tab → (q : Key) → width q ≡ s .shape .columns
+pub same-lists : (s t : State) → t .tab ≡ s .tab → (q : Ask) → AskFits (s .shape) q
     → (valueOf q (t .tab) ≡ valueOf q (s .tab)) ⊎ ((j : ℕ) × (j < length (readLabels q)) × Owed t (node q j))
 same-lists s t e q f = inl (ap (valueOf q) e)
 
@@ -200,18 +203,18 @@ out-move s t g = record {
   answers = λ q r l a. inl (elim a [ in-file k ↦ in-file k | in-hand d k ↦ in-hand d k ]);
 }
 
--- a write's table step: a list is as it was, or the write owes a node of its key
-shares-owed : (s : State) (d : ℕ) (w : Write) (c f : Bool) (q : Key) → d < maxClients → s .clients d ≡ raising w 0 c f → Shares q w
+-- a write's table step: a list is as it was, or the write owes a node of its ask
+shares-owed : (s : State) (d : ℕ) (w : Write) (c f : Bool) (q : Ask) → d < maxClients → s .clients d ≡ raising w 0 c f → Shares q w
     → (j : ℕ) × (j < length (readLabels q)) × Owed s (node q j)
-unfolding owes owing node
+unfolding owes owing node Shares
 shares-owed s d w c f q l e z =
     let i = in-place [] (z .1) in
     (i .0, i .1, (d, l, rw (i .2, e) (tally-in (z .0) (writeLabels w) (z .2))))
 
-pub wrote-lists : (s t : State) (d : ℕ) (w : Write) (c f : Bool) (q : Key) → width q ≡ widthOf w → d < maxClients → t .clients d ≡ raising w 0 c f
-    → t .tab ≡ effect w (s .tab)
+pub wrote-lists : (s t : State) (d : ℕ) (w : Write) (c f : Bool) (q : Ask) → AskFits (s .shape) q → WriteFits (s .shape) w → d < maxClients → t .clients d ≡ raising w 0 c f
+    → t .tab ≡ effect (w .change) (s .tab)
     → (valueOf q (t .tab) ≡ valueOf q (s .tab)) ⊎ ((j : ℕ) × (j < length (readLabels q)) × Owed t (node q j))
-wrote-lists s t d w c f q z l e m = elim (effect-value w q (s .tab) z)
+wrote-lists s t d w c f q z y l e m = elim (effect-value (s .shape) w q (s .tab) z y)
     [ inl a ↦ inl (ap (valueOf q) m ∙ a) | inr a ↦ inr (shares-owed t d w c f q l e a) ]
 
 -- ---- A look
@@ -231,7 +234,7 @@ unfolding grown
 grown-new ns c = getD-append-seam ns c [] 0
 
 -- behind before the look, behind after it: what was to be looked at has been seen marked, or noted above
-pub look-behind : (s : State) (q : Key) (ns : List ℕ) (saw : Bool) (r : List ℕ) → ((p : Words) → Owed s p → 0 < pendingOf (s .store) p)
+pub look-behind : (s : State) (q : Ask) (ns : List ℕ) (saw : Bool) (r : List ℕ) → ((p : Words) → Owed s p → 0 < pendingOf (s .store) p)
     → Behind s q ns saw r → Behind s q (grown ns (effective (s .store) (node q (length ns)))) (saw || ltb 0 (pendingOf (s .store) (node q (length ns)))) r
 look-behind s q ns saw r o (inl e) = inl (or-left saw _ e)
 look-behind s q ns saw r o (inr z) =

@@ -12,15 +12,13 @@ use lib.ListN.{length, getD, take, drop}
 use lib.Seq.{take-suc, drop-cons, take-all}
 use Rattle.laws.proofs.ListLaws.{same-eq, same-refl}
 use Rattle.laws.proofs.TestLaws.{byTest}
-use Rattle.lists.specs.Lists.{same}
-use Rattle.rules.specs.Table.{Write}
-use Rattle.rules.specs.Nodes.{Store}
-use Rattle.revisions.proofs.EffectiveRevision.{effective, pendingOf, one, tally, lifts, Raised}
-use Rattle.machine.proofs.Sums.{Words, sumBelow, sumBelow-change, sumBelow-ge, sumBelow-none, upd, upd-same}
-use Rattle.machine.proofs.Sums.{upd-other, In, here, there}
-use Rattle.machine.proofs.Keys.{writeLabels}
-use Rattle.machine.proofs.Machine.{State, Phase, idle, looking, tabling, filing, announcing, raising}
-use Rattle.machine.proofs.Transition.{isReader}
+use Rattle.lists.specs.Lists.{same, In, here, there}
+use Rattle.rules.specs.Work.{Write, writeLabels}
+use Rattle.rules.specs.Nodes.{Store, Words}
+use Rattle.revisions.specs.EffectiveRevision.{effective, pendingOf, one, tally, lifts, Retired}
+use Rattle.machine.proofs.Sums.{sumBelow, sumBelow-change, sumBelow-ge, sumBelow-none, upd-same, upd-other}
+use Rattle.machine.specs.Machine.{upd, State, Phase, idle, looking, tabling, filing, announcing, raising}
+use Rattle.machine.specs.Transition.{isReader}
 use Rattle.rules.specs.Layout.{maxClients}
 
 -- ---- What a desk holds and owes
@@ -138,17 +136,17 @@ reader-owes p x e = let a = owes-held p x in let b = reader-holds p x e in omega
 
 -- ---- A raise
 -- it lifts the revision of its label alone
-pub raise-up : (p : Words) (s t : Store) → Raised true (p ∷ []) s t → (q : Words) → effective t q ≡ effective s q + one p q
+pub raise-up : (p : Words) (s t : Store) → Retired true (p ∷ []) s t → (q : Words) → effective t q ≡ effective s q + one p q
 unfolding lifts tally
 raise-up p s t m q = let a = m .up q in omega arith
 
-pub raise-less : (p : Words) (s t : Store) → Raised true (p ∷ []) s t → (q : Words) → pendingOf t q + one p q ≡ pendingOf s q
+pub raise-less : (p : Words) (s t : Store) → Retired true (p ∷ []) s t → (q : Words) → pendingOf t q + one p q ≡ pendingOf s q
 unfolding tally
 raise-less p s t m q = let a = m .less q in omega arith
 
 -- an owed label stays owed, or its revision has grown
 pub raise-owed : (s : State) (d : ℕ) (w : Write) (j : ℕ) (c f : Bool) (t : Store) → s .clients d ≡ raising w j c f → j < length (writeLabels w)
-    → Raised true (getD (writeLabels w) j [] ∷ []) (s .store) t → (p : Words) → 0 < tally p (owes (s .clients d))
+    → Retired true (getD (writeLabels w) j [] ∷ []) (s .store) t → (p : Words) → 0 < tally p (owes (s .clients d))
     → (0 < tally p (drop (suc j) (writeLabels w))) ⊎ (effective (s .store) p < effective t p)
 unfolding owes owing
 raise-owed s d w j c f t e l m p k =
@@ -160,6 +158,6 @@ raise-owed s d w j c f t e l m p k =
     (λ i. let z = ltb-false 0 (tally p (drop (suc j) (writeLabels w))) i in inr (omega arith))
 
 -- ---- A mark taken back
-pub back-up : (ps : List Words) (s t : Store) → Raised false ps s t → (q : Words) → effective t q ≡ effective s q
+pub back-up : (ps : List Words) (s t : Store) → Retired false ps s t → (q : Words) → effective t q ≡ effective s q
 unfolding lifts
 back-up ps s t m q = let a = m .up q in omega arith

@@ -9,28 +9,25 @@ use lib.Dec.{eqb}
 use borrow.Author.Tests.{eqb-true, eqb-false, eq-eqb, ne-eqb}
 use lib.ListN.{length}
 use Rattle.laws.proofs.TestLaws.{byTest}
-use Rattle.query.specs.Query.{writeCount}
-use Rattle.rules.specs.Table.{Table, Write, target, effect}
-use Rattle.rules.specs.History.{Note, nothing, reading, writing, Plain, noteAt, oneStep, isAccepted}
-use Rattle.machine.proofs.Sums.{upd, upd-same, upd-other}
-use Rattle.machine.proofs.Keys.{Key, valueOf, writeLabels, length-writeLabels}
-use Rattle.machine.proofs.Machine.{State, looking, tabling, filing, announcing, raising, write-end}
-use Rattle.machine.proofs.Machine.{at-client, with-store, with-filed, with-tab}
-use Rattle.machine.proofs.Machine.{Call, begin-read, begin-write, step, abandon, evict-answer, evict-node, renew}
-use Rattle.machine.proofs.Machine.{Response, refused, went, answered, long, ended, full, number}
-use Rattle.machine.proofs.Transition
-use Rattle.machine.proofs.Transition.{Transition}
+use Rattle.rules.specs.Table.{Table, effect}
+use Rattle.rules.specs.Work.{Write, Ask, valueOf, writeLabels, Work, asking, writing}
+use Rattle.rules.specs.History.{Note, nothing, doing, Plain, tableAfter, noteAt, oneStep, isAccepted}
+use Rattle.machine.specs.Machine.{upd, State, looking, tabling, filing, announcing, raising, write-end, at-client, with-store, with-filed}
+use Rattle.machine.specs.Machine.{with-tab, Call, begin, step, abandon, evict-answer, evict-node, renew, Response, refused, went, answered, long}
+use Rattle.machine.specs.Machine.{ended, full, number, isRefused}
+use Rattle.machine.proofs.Sums.{upd-same, upd-other}
+use Rattle.machine.specs.Transition.{Transition}
 use Rattle.machine.proofs.StateInv.{StateInv, fit-at}
-use Rattle.machine.proofs.Trace.{Act, reads, writes, tableStep, Job, no-job, job, Trace, next-trace, accepted-trace, step-trace, begin-trace}
-use Rattle.machine.proofs.Trace.{abandon-trace, tick, turn, job-after, tabled-at, isRefused}
+use Rattle.machine.proofs.Trace.{tableStep, Job, no-job, job, Trace, next-trace, accepted-trace, step-trace, begin-trace, abandon-trace, tick}
+use Rattle.machine.proofs.Trace.{turn, job-after, tabled-at}
 use Rattle.machine.proofs.TraceInv.{TraceInv}
 use Rattle.machine.proofs.TraceSteps.{job-at}
 use Rattle.machine.proofs.TraceReads.{reader-job}
+use Rattle.machine.specs.Transition
 
 -- ---- The plain table
 unfoldable pub fedAccepted : Plain → Call → Plain
-fedAccepted p (begin-read d q) = noteAt p d (reading (q .asked) 0)
-fedAccepted p (begin-write d w) = noteAt p d (writing w 0)
+fedAccepted p (begin d x) = noteAt p d (doing x 0)
 fedAccepted p (step d) = oneStep p d (p .notes d)
 fedAccepted p (abandon d) = noteAt p d nothing
 fedAccepted p (evict-answer i) = p
@@ -41,41 +38,29 @@ unfoldable pub fed : Plain → Call → ℕ → Plain
 fed p c n = cond (isAccepted n) (fedAccepted p c) p
 
 -- ---- What it has in common with the state and the trace
-unfoldable pub note-of : Act → ℕ → Note
-note-of (reads q) n = reading (q .asked) n
-note-of (writes w) n = writing w n
-
 abbrev pub NoteOk : Job → Note → Type 0
 NoteOk no-job m = Unit
-NoteOk (job x n b t) m = m ≡ note-of x n
+NoteOk (job x n b t) m = m ≡ doing x n
 
 pub record PlainInv (s : State) (p : Plain) (B : Trace) : Type 0 where
   pub table : s .tab ≡ p .table
   pub notes : (d : ℕ) → NoteOk (B .jobs d) (p .notes d)
 
 -- ---- A step
-unfoldable step-tab : Act → ℕ → Table → Table
-step-tab (reads q) n T = T
-step-tab (writes w) n T = cond (eqb n (tableStep (writes w))) (effect w T) T
-
 -- a plain table with one note changed
 abbrev noted : Plain → Table → ℕ → Note → Plain
 noted p T d m = record { shape = p .shape; table = T; notes = upd (p .notes) d m }
 
-one-step : (p : Plain) (d : ℕ) (x : Act) (n : ℕ) → oneStep p d (note-of x n) ≡ noted p (step-tab x (suc n) (p .table)) d (note-of x (suc n))
-unfolding oneStep noteAt note-of step-tab tableStep upd
-one-step p d (reads q) n = let e : n + 1 ≡ suc n = omega arith in rw e refl
-one-step p d (writes w) n =
-    let e : n + 1 ≡ suc n = omega arith in
-    let k : writeCount (target w) + 1 ≡ suc (length (writeLabels w)) = let a = length-writeLabels w in omega arith in
-    rw (e, k) refl
+one-step : (p : Plain) (d : ℕ) (x : Work) (n : ℕ) → oneStep p d (doing x n) ≡ noted p (tableAfter x (suc n) (p .table)) d (doing x (suc n))
+unfolding oneStep noteAt upd
+one-step p d x n = let e : n + 1 ≡ suc n = omega arith in rw e refl
 
-fed-step : (p : Plain) (d : ℕ) (x : Act) (n m : ℕ) → isAccepted m ≡ true → p .notes d ≡ note-of x n
-    → fed p (step d) m ≡ noted p (step-tab x (suc n) (p .table)) d (note-of x (suc n))
+fed-step : (p : Plain) (d : ℕ) (x : Work) (n m : ℕ) → isAccepted m ≡ true → p .notes d ≡ doing x n
+    → fed p (step d) m ≡ noted p (tableAfter x (suc n) (p .table)) d (doing x (suc n))
 unfolding fed fedAccepted
 fed-step p d x n m a e = rw a (ap (oneStep p d) e ∙ one-step p d x n)
 
-note-after : (x : Act) (n b t : ℕ) (a : Response) → NoteOk (job-after x n b t a) (note-of x n)
+note-after : (x : Work) (n b t : ℕ) (a : Response) → NoteOk (job-after x n b t a) (doing x n)
 unfolding job-after
 note-after x n b t (refused m) = refl
 note-after x n b t went = refl
@@ -84,7 +69,7 @@ note-after x n b t long = tt
 note-after x n b t (ended c) = tt
 note-after x n b t full = tt
 
-step-jobs : (B : Trace) (d : ℕ) (x : Act) (n b t : ℕ) (a : Response) (T : Table) → B .jobs d ≡ job x n b t → isRefused a ≡ false
+step-jobs : (B : Trace) (d : ℕ) (x : Work) (n b t : ℕ) (a : Response) (T : Table) → B .jobs d ≡ job x n b t → isRefused a ≡ false
     → next-trace B (step d) a T .jobs ≡ upd (B .jobs) d (job-after x (suc n) b (tabled-at x (suc n) (suc (B .now)) t) a)
 unfolding next-trace accepted-trace step-trace turn
 step-jobs B d x n b t a T e r =
@@ -97,46 +82,46 @@ client-plain s p B d m j v k e = byTest (eqb e d)
     (λ y. rw (eqb-true e d y, upd-same (p .notes) d m, upd-same (B .jobs) d j) k)
     (λ y. let ne = eqb-false e d y in rw (upd-other (p .notes) d m e ne, upd-other (B .jobs) d j e ne) (v .notes e))
 
-step-plain : (s t : State) (p : Plain) (B : Trace) (d : ℕ) (x : Act) (n b i : ℕ) (a : Response) → PlainInv s p B → B .jobs d ≡ job x n b i
-    → isRefused a ≡ false → isAccepted (number a) ≡ true → t .tab ≡ step-tab x (suc n) (s .tab)
+step-plain : (s t : State) (p : Plain) (B : Trace) (d : ℕ) (x : Work) (n b i : ℕ) (a : Response) → PlainInv s p B → B .jobs d ≡ job x n b i
+    → isRefused a ≡ false → isAccepted (number a) ≡ true → t .tab ≡ tableAfter x (suc n) (s .tab)
     → PlainInv t (fed p (step d) (number a)) (next-trace B (step d) a (t .tab))
 step-plain s t p B d x n b i a v e r c T =
-    let k : p .notes d ≡ note-of x n = subst (λ j. NoteOk j (p .notes d)) e (v .notes d) in
+    let k : p .notes d ≡ doing x n = subst (λ j. NoteOk j (p .notes d)) e (v .notes d) in
     let f = fed-step p d x n (number a) c k in
     let j = job-after x (suc n) b (tabled-at x (suc n) (suc (B .now)) i) a in
     record {
-      table = T ∙ ap (step-tab x (suc n)) (v .table) ∙ sym (ap (λ q. q .table) f);
+      table = T ∙ ap (tableAfter x (suc n)) (v .table) ∙ sym (ap (λ q. q .table) f);
       notes = λ d′. rw (f, step-jobs B d x n b i a (t .tab) e r)
-          (client-plain s p B d (note-of x (suc n)) j v (note-after x (suc n) b (tabled-at x (suc n) (suc (B .now)) i) a) d′);
+          (client-plain s p B d (doing x (suc n)) j v (note-after x (suc n) b (tabled-at x (suc n) (suc (B .now)) i) a) d′);
     }
 
-tab-read : (q : Key) (n : ℕ) (T : Table) → T ≡ step-tab (reads q) n T
-unfolding step-tab
+tab-read : (q : Ask) (n : ℕ) (T : Table) → T ≡ tableAfter (asking q) n T
+unfolding tableAfter
 tab-read q n T = refl
 
-tab-write : (w : Write) (n : ℕ) (T : Table) → (n ≡ tableStep (writes w) → ⊥) → T ≡ step-tab (writes w) n T
-unfolding step-tab
-tab-write w n T ne = rw (ne-eqb n (tableStep (writes w)) ne) refl
+tab-write : (w : Write) (n : ℕ) (T : Table) → (n ≡ tableStep (writing w) → ⊥) → T ≡ tableAfter (writing w) n T
+unfolding tableAfter tableStep
+tab-write w n T ne = rw (ne-eqb n (length (writeLabels w) + 1) (λ e. ne (omega arith))) refl
 
-tab-wrote : (w : Write) (n : ℕ) (T : Table) → n ≡ tableStep (writes w) → effect w T ≡ step-tab (writes w) n T
-unfolding step-tab
-tab-wrote w n T e = rw (eq-eqb n (tableStep (writes w)) e) refl
+tab-wrote : (w : Write) (n : ℕ) (T : Table) → n ≡ tableStep (writing w) → effect (w .change) T ≡ tableAfter (writing w) n T
+unfolding tableAfter tableStep
+tab-wrote w n T e = rw (eq-eqb n (length (writeLabels w) + 1) (omega arith)) refl
 
 -- ---- The other calls
-begin-plain : (s t : State) (p : Plain) (B : Trace) (d : ℕ) (x : Act) (c : Call) → PlainInv s p B → t .tab ≡ s .tab
-    → fed p c 0 ≡ noted p (p .table) d (note-of x 0)
+begin-plain : (s t : State) (p : Plain) (B : Trace) (d : ℕ) (x : Work) (c : Call) → PlainInv s p B → t .tab ≡ s .tab
+    → fed p c 0 ≡ noted p (p .table) d (doing x 0)
     → next-trace B c went (t .tab) .jobs ≡ upd (B .jobs) d (job x 0 (suc (B .now)) 0) → PlainInv t (fed p c 0) (next-trace B c went (t .tab))
 begin-plain s t p B d x c v T e f = record {
   table = T ∙ v .table ∙ sym (ap (λ q. q .table) e);
-  notes = λ d′. rw (e, f) (client-plain s p B d (note-of x 0) (job x 0 (suc (B .now)) 0) v refl d′);
+  notes = λ d′. rw (e, f) (client-plain s p B d (doing x 0) (job x 0 (suc (B .now)) 0) v refl d′);
 }
 
-abandon-jobs : (B : Trace) (d : ℕ) (x : Act) (n b t : ℕ) (a : Response) (T : Table) → B .jobs d ≡ job x n b t → isRefused a ≡ false
+abandon-jobs : (B : Trace) (d : ℕ) (x : Work) (n b t : ℕ) (a : Response) (T : Table) → B .jobs d ≡ job x n b t → isRefused a ≡ false
     → next-trace B (abandon d) a T .jobs ≡ upd (B .jobs) d no-job
 unfolding next-trace accepted-trace abandon-trace turn
 abandon-jobs B d x n b t a T e r = rw r (subst (λ y. abandon-trace B d y a T .jobs ≡ upd (B .jobs) d no-job) (sym e) refl)
 
-abandon-plain : (s t : State) (p : Plain) (B : Trace) (d : ℕ) (x : Act) (n b i : ℕ) (a : Response) → PlainInv s p B → B .jobs d ≡ job x n b i
+abandon-plain : (s t : State) (p : Plain) (B : Trace) (d : ℕ) (x : Work) (n b i : ℕ) (a : Response) → PlainInv s p B → B .jobs d ≡ job x n b i
     → isRefused a ≡ false → isAccepted (number a) ≡ true → t .tab ≡ s .tab
     → PlainInv t (fed p (abandon d) (number a)) (next-trace B (abandon d) a (t .tab))
 unfolding fed fedAccepted noteAt upd
@@ -169,40 +154,40 @@ end-not-refused c false = refl
 -- ---- Every call
 pub transition-plain : (s : State) (p : Plain) (B : Trace) {c : Call} {a : Response} {t : State} → StateInv s → TraceInv s B → PlainInv s p B → Transition s c a t
     → PlainInv t (fed p c (number a)) (next-trace B c a (t .tab))
-unfolding at-client with-store with-filed with-tab isRefused number isAccepted tableStep fed fedAccepted noteAt upd next-trace accepted-trace begin-trace turn note-of
+unfolding at-client with-store with-filed with-tab isRefused number isAccepted tableStep fed fedAccepted noteAt upd next-trace accepted-trace begin-trace turn
 transition-plain s p B v u k (Transition.nothing {c} {n} e) = refused-plain s p B c n e k
-transition-plain s p B v u k (Transition.began {d} {q} l e f) = begin-plain s _ p B d (reads q) (begin-read d q) k refl refl refl
-transition-plain s p B v u k (Transition.began-write {d} {w} l e f o) = begin-plain s _ p B d (writes w) (begin-write d w) k refl refl refl
+transition-plain s p B v u k (Transition.began {d} {q} l e f) = begin-plain s _ p B d (asking q) (begin d (asking q)) k refl refl refl
+transition-plain s p B v u k (Transition.began-write {d} {w} l e f o) = begin-plain s _ p B d (writing w) (begin d (writing w)) k refl refl refl
 transition-plain s p B v u k (Transition.looked {d} {q} {ns} {saw} l e f m n) =
-    step-plain s _ p B d (reads q) (length ns) _ _ went k (job-at s B d (looking q ns saw) u e .is) refl refl (tab-read q _ (s .tab))
+    step-plain s _ p B d (asking q) (length ns) _ _ went k (job-at s B d (looking q ns saw) u e .is) refl refl (tab-read q _ (s .tab))
 transition-plain s p B v u k (Transition.missed {d} {q} {ns} {saw} l e f y) =
-    step-plain s _ p B d (reads q) (length ns) _ _ went k (job-at s B d (looking q ns saw) u e .is) refl refl (tab-read q _ (s .tab))
+    step-plain s _ p B d (asking q) (length ns) _ _ went k (job-at s B d (looking q ns saw) u e .is) refl refl (tab-read q _ (s .tab))
 transition-plain s p B v u k (Transition.hit {d} {q} {ns} {a} l e f i g) =
-    step-plain s _ p B d (reads q) (length ns) _ _ (answered (a .list) true) k (job-at s B d (looking q ns false) u e .is) refl refl (tab-read q _ (s .tab))
+    step-plain s _ p B d (asking q) (length ns) _ _ (answered (a .list) true) k (job-at s B d (looking q ns false) u e .is) refl refl (tab-read q _ (s .tab))
 transition-plain s p B v u k (Transition.too-long {d} {q} {ns} {saw} l e f) =
-    step-plain s _ p B d (reads q) _ _ _ long k (job-at s B d (tabling q ns saw) u e .is) refl refl (tab-read q _ (s .tab))
+    step-plain s _ p B d (asking q) _ _ _ long k (job-at s B d (tabling q ns saw) u e .is) refl refl (tab-read q _ (s .tab))
 transition-plain s p B v u k (Transition.listed {d} {q} {ns} l e f) =
-    step-plain s _ p B d (reads q) _ _ _ (answered (valueOf q (s .tab)) false) k (job-at s B d (tabling q ns true) u e .is) refl refl (tab-read q _ (s .tab))
+    step-plain s _ p B d (asking q) _ _ _ (answered (valueOf q (s .tab)) false) k (job-at s B d (tabling q ns true) u e .is) refl refl (tab-read q _ (s .tab))
 transition-plain s p B v u k (Transition.took {d} {q} {ns} l e f) =
-    step-plain s _ p B d (reads q) _ _ _ went k (job-at s B d (tabling q ns false) u e .is) refl refl (tab-read q _ (s .tab))
+    step-plain s _ p B d (asking q) _ _ _ went k (job-at s B d (tabling q ns false) u e .is) refl refl (tab-read q _ (s .tab))
 transition-plain s p B v u k (Transition.filed {d} {q} {ns} {l = y} l e) =
-    step-plain s _ p B d (reads q) _ _ _ (answered y false) k (job-at s B d (filing q ns y) u e .has .is) refl refl (tab-read q _ (s .tab))
+    step-plain s _ p B d (asking q) _ _ _ (answered y false) k (job-at s B d (filing q ns y) u e .has .is) refl refl (tab-read q _ (s .tab))
 transition-plain s p B v u k (Transition.announced {d} {w} {i} l e f m) =
-    step-plain s _ p B d (writes w) i _ _ went k (job-at s B d (announcing w i) u e .has .is) refl refl (tab-write w (suc i) (s .tab) (λ y. omega arith))
+    step-plain s _ p B d (writing w) i _ _ went k (job-at s B d (announcing w i) u e .has .is) refl refl (tab-write w (suc i) (s .tab) (λ y. omega arith))
 transition-plain s p B v u k (Transition.wrote {d} {w} {i} l e f) =
-    step-plain s _ p B d (writes w) i _ _ went k (job-at s B d (announcing w i) u e .has .is) refl refl
+    step-plain s _ p B d (writing w) i _ _ went k (job-at s B d (announcing w i) u e .has .is) refl refl
     (tab-wrote w (suc i) (s .tab) (let y = fit-at s d (announcing w i) v e .1 in omega arith))
 transition-plain s p B v u k (Transition.raised {d} {w} {j} {c} {f = y} l e f m) =
-    step-plain s _ p B d (writes w) (tableStep (writes w) + j) _ _ went k (job-at s B d (raising w j c y) u e .has .is) refl refl
+    step-plain s _ p B d (writing w) (tableStep (writing w) + j) _ _ went k (job-at s B d (raising w j c y) u e .has .is) refl refl
     (tab-write w _ (s .tab) (λ y. omega arith))
 transition-plain s p B v u k (Transition.last {d} {w} {j} {c} {f = y} l e f m) =
-    step-plain s _ p B d (writes w) (tableStep (writes w) + j) _ _ (write-end c y) k (job-at s B d (raising w j c y) u e .has .is) (end-not-refused c y) (end-accepted c y)
+    step-plain s _ p B d (writing w) (tableStep (writing w) + j) _ _ (write-end c y) k (job-at s B d (raising w j c y) u e .has .is) (end-not-refused c y) (end-accepted c y)
     (tab-write w _ (s .tab) (λ y. omega arith))
 transition-plain s p B v u k (Transition.abandoned-read {d} l e) =
     let J = reader-job B d (B .jobs d) (s .clients d) e (u .job d) in
-    abandon-plain s _ p B d (reads (J .0)) (J .1) _ _ went k (J .2 .is) refl refl refl
+    abandon-plain s _ p B d (asking (J .0)) (J .1) _ _ went k (J .2 .is) refl refl refl
 transition-plain s p B v u k (Transition.abandoned-write {d} {w} {i} l e m) =
-    abandon-plain s _ p B d (writes w) i _ _ went k (job-at s B d (announcing w i) u e .has .is) refl refl refl
+    abandon-plain s _ p B d (writing w) i _ _ went k (job-at s B d (announcing w i) u e .has .is) refl refl refl
 transition-plain s p B v u k (Transition.evicted-answer {i} l) = same-plain s _ p B (evict-answer i) k refl refl refl
 transition-plain s p B v u k (Transition.evicted-node {i} l m) = same-plain s _ p B (evict-node i) k refl refl refl
 transition-plain s p B v u k (Transition.renewed i) = same-plain s _ p B renew k refl refl refl

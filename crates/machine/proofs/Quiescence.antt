@@ -1,5 +1,5 @@
--- Demand 2's last sentence, the flags: since a read's begin, and since the begin of the read that filed an answer, no write that touches the
--- key was open and none of its nodes was put out. What the flags promise (QuiescenceInv), and a law for any call that keeps it (turn-keeps).
+-- Demand 2's last sentence, the flags: since a read's begin, and since the begin of the read that filed an answer, no write that shares a
+-- node with the ask was open and none of its nodes was put out. What the flags promise (QuiescenceInv), and a law for any call that keeps it (turn-keeps).
 -- Leans on StateInv. Assumes nothing.
 use mathlib.Core.Path.{_≡_, refl, sym, _∙_, subst}
 use mathlib.Core.Bool.{Bool, true, false, _&&_, _||_, not, cond, false≢true}
@@ -13,75 +13,74 @@ use Rattle.laws.proofs.ListLaws.{and-left, and-right, below-at}
 use Rattle.laws.proofs.TestLaws.{byTest, clash}
 use Rattle.query.specs.Shape.{Shape}
 use Rattle.rules.specs.Layout.{maxClients}
-use Rattle.lists.specs.Lists.{allBelow}
-use Rattle.rules.specs.Table.{Write}
-use Rattle.revisions.proofs.EffectiveRevision.{effective, pendingOf, has, tally}
-use Rattle.machine.proofs.Sums.{Words, sumBelow-none, In, in-take, in-drop, in-at, in-none}
-use Rattle.machine.proofs.Keys.{Key, Val, readLabels, writeLabels, touches, no-key, sameKey, shared-touches}
-use Rattle.machine.proofs.Machine.{State, Phase, idle, looking, tabling, filing, announcing, raising, Ans, node, opened}
-use Rattle.machine.proofs.Machine.{Call, begin-read, begin-write, step, abandon, evict-answer, evict-node, renew}
-use Rattle.machine.proofs.Machine.{Response}
+use Rattle.lists.specs.Lists.{allBelow, In}
+use Rattle.rules.specs.Work.{Write, Ask, Value, readLabels, writeLabels, shares, asking, writing}
+use Rattle.revisions.specs.EffectiveRevision.{effective, pendingOf, has, tally}
+use Rattle.rules.specs.Nodes.{Words}
+use Rattle.machine.proofs.Sums.{sumBelow-none}
+use Rattle.laws.proofs.Members.{in-take, in-drop, in-at, in-none}
+use Rattle.machine.proofs.Asks.{no-ask, shared-shares}
+use Rattle.machine.specs.Machine.{sameAsk, State, Phase, idle, looking, tabling, filing, announcing, raising, Ans, node, opened, Call, begin}
+use Rattle.machine.specs.Machine.{step, abandon, evict-answer, evict-node, renew, Response, isRefused}
 use Rattle.machine.proofs.PendingLabels.{holds, owes, held-of, owes-held, tally-pos}
 use Rattle.machine.proofs.StateInv.{StateInv, Fit}
-use Rattle.machine.proofs.Trace.{isRefused}
 
 -- ---- Quiescent at a moment
--- a write that touches the key is open at the desk
-unfoldable pub opens : Phase → Key → Bool
+-- a write that shares a node with the ask is open at the desk
+unfoldable pub opens : Phase → Ask → Bool
 opens idle q = false
 opens (looking r ns saw) q = false
 opens (tabling r ns saw) q = false
 opens (filing r ns l) q = false
-opens (announcing w i) q = touches q w
-opens (raising w j c f) q = touches q w
+opens (announcing w i) q = shares q w
+opens (raising w j c f) q = shares q w
 
--- no write that touches the key is open
-unfoldable pub quiet : State → Key → Bool
+-- no write that shares a node with it is open
+unfoldable pub quiet : State → Ask → Bool
 quiet s q = allBelow maxClients (λ d. not (opens (s .clients d) q))
 
--- no node of the key was put out on the way from s to t
-unfoldable pub kept : State → State → Key → Bool
+-- no node of it was put out on the way from s to t
+unfoldable pub kept : State → State → Ask → Bool
 kept s t q = allBelow (length (readLabels q)) (λ j. not (has (s .store .nodes) (node q j)) || has (t .store .nodes) (node q j))
 
-unfoldable pub quiescent : State → State → Key → Bool
+unfoldable pub quiescent : State → State → Ask → Bool
 quiescent s t q = quiet t q && kept s t q
 
 -- ---- The flags
--- onClient: quiescent since the begin of the read at the desk. onFile: quiescent since the begin of the read that filed the key's answer.
+-- onClient: quiescent since the begin of the read at the desk. onFile: quiescent since the begin of the read that filed its answer.
 pub record Quiescent : Type 0 where
   pub onClient : ℕ → Bool
-  pub onFile : Key → Bool
+  pub onFile : Ask → Bool
 
-unfoldable pub keyAt : Phase → Key
-keyAt idle = no-key
+unfoldable pub keyAt : Phase → Ask
+keyAt idle = no-ask
 keyAt (looking q ns saw) = q
 keyAt (tabling q ns saw) = q
 keyAt (filing q ns l) = q
-keyAt (announcing w i) = no-key
-keyAt (raising w j c f) = no-key
+keyAt (announcing w i) = no-ask
+keyAt (raising w j c f) = no-ask
 
 -- a read begins at desk d
 unfoldable pub begins : Call → Response → ℕ → Bool
-begins (begin-read e q) a d = eqb d e && not (isRefused a)
-begins (begin-write e w) a d = false
+begins (begin e (asking q)) a d = eqb d e && not (isRefused a)
+begins (begin e (writing w)) a d = false
 begins (step e) a d = false
 begins (abandon e) a d = false
 begins (evict-answer i) a d = false
 begins (evict-node i) a d = false
 begins renew a d = false
 
-unfoldable pub filesAt : Phase → Key → Bool
+unfoldable pub filesAt : Phase → Ask → Bool
 filesAt idle q = false
 filesAt (looking r ns saw) q = false
 filesAt (tabling r ns saw) q = false
-filesAt (filing r ns l) q = sameKey r q
+filesAt (filing r ns l) q = sameAsk r q
 filesAt (announcing w i) q = false
 filesAt (raising w j c f) q = false
 
 -- an answer to q is filed
-unfoldable pub files : State → Call → Response → Key → Bool
-files s (begin-read e r) a q = false
-files s (begin-write e w) a q = false
+unfoldable pub files : State → Call → Response → Ask → Bool
+files s (begin e work) a q = false
 files s (step e) a q = not (isRefused a) && filesAt (s .clients e) q
 files s (abandon e) a q = false
 files s (evict-answer i) a q = false
@@ -89,8 +88,7 @@ files s (evict-node i) a q = false
 files s renew a q = false
 
 unfoldable pub clientOf : Call → ℕ
-clientOf (begin-read e r) = e
-clientOf (begin-write e w) = e
+clientOf (begin e work) = e
 clientOf (step e) = e
 clientOf (abandon e) = e
 clientOf (evict-answer i) = 0
@@ -109,7 +107,7 @@ quiescent-start = record { onClient = λ d. true; onFile = λ q. true }
 
 -- ---- What they promise
 -- the first n revisions are those of nodes that are present
-abbrev pub Still : State → Key → List ℕ → ℕ → Type 0
+abbrev pub Still : State → Ask → List ℕ → ℕ → Type 0
 Still s q ns n = (j : ℕ) → j < n → (has (s .store .nodes) (node q j) ≡ true) × (getD ns j 0 ≡ effective (s .store) (node q j))
 
 abbrev pub Settled : State → Phase → Type 0
@@ -131,14 +129,14 @@ pub opened-quiescent : (sh : Shape) → QuiescenceInv (opened sh) quiescent-star
 unfolding opened
 opened-quiescent sh = record { client = λ d e. tt; file = λ a i e. in-none i }
 
--- ---- The nodes of a key that no open write touches have no marks, and nobody owes them
-no-tally : (q : Key) (w : Write) (p : Words) (ps : List Words) → ((i : In p ps) → In p (writeLabels w)) → In p (readLabels q) → not (touches q w) ≡ true
+-- ---- The nodes of an ask that no open write shares have no marks, and nobody owes them
+no-tally : (q : Ask) (w : Write) (p : Words) (ps : List Words) → ((i : In p ps) → In p (writeLabels w)) → In p (readLabels q) → not (shares q w) ≡ true
     → tally p ps ≡ 0
 no-tally q w p ps f i e = byTest (ltb 0 (tally p ps))
-    (λ k. clash (shared-touches q w i (f (tally-pos p ps (ltb-true 0 (tally p ps) k)))) (not-true (touches q w) e))
+    (λ k. clash (shared-shares q w i (f (tally-pos p ps (ltb-true 0 (tally p ps) k)))) (not-true (shares q w) e))
     (λ k. let z = ltb-false 0 (tally p ps) k in omega arith)
 
-not-held : (q : Key) (p : Words) (x : Phase) → In p (readLabels q) → not (opens x q) ≡ true → tally p (holds x) ≡ 0
+not-held : (q : Ask) (p : Words) (x : Phase) → In p (readLabels q) → not (opens x q) ≡ true → tally p (holds x) ≡ 0
 unfolding opens holds tally
 not-held q p idle i e = refl
 not-held q p (looking r ns saw) i e = refl
@@ -147,13 +145,13 @@ not-held q p (filing r ns l) i e = refl
 not-held q p (announcing w j) i e = no-tally q w p (take j (writeLabels w)) (λ k. in-take j (writeLabels w) k) i e
 not-held q p (raising w j c f) i e = no-tally q w p (drop j (writeLabels w)) (λ k. in-drop j (writeLabels w) k) i e
 
-quiet-held : (s : State) (q : Key) → quiet s q ≡ true → (j : ℕ) → j < length (readLabels q) → (d : ℕ) → d < maxClients
+quiet-held : (s : State) (q : Ask) → quiet s q ≡ true → (j : ℕ) → j < length (readLabels q) → (d : ℕ) → d < maxClients
     → tally (node q j) (holds (s .clients d)) ≡ 0
 unfolding quiet node
 quiet-held s q e j l d k =
     not-held q (getD (readLabels q) j []) (s .clients d) (in-at [] (readLabels q) j l) (below-at 12 (λ d. not (opens (s .clients d) q)) d e k)
 
-pub none-pending : (s : State) (q : Key) → StateInv s → quiet s q ≡ true → (j : ℕ) → j < length (readLabels q) → pendingOf (s .store) (node q j) ≡ 0
+pub none-pending : (s : State) (q : Ask) → StateInv s → quiet s q ≡ true → (j : ℕ) → j < length (readLabels q) → pendingOf (s .store) (node q j) ≡ 0
 unfolding held-of
 none-pending s q v e j l =
     sym (v .held (node q j)) ∙ sumBelow-none 12 (λ d. tally (node q j) (holds (s .clients d))) (λ d k. quiet-held s q e j l d k)
@@ -161,7 +159,7 @@ none-pending s q v e j l =
 abbrev pub Unowed : State → Words → Type 0
 Unowed s p = (d : ℕ) → d < maxClients → tally p (owes (s .clients d)) ≡ 0
 
-unowed : (s : State) (q : Key) → quiet s q ≡ true → (j : ℕ) → j < length (readLabels q) → Unowed s (node q j)
+unowed : (s : State) (q : Ask) → quiet s q ≡ true → (j : ℕ) → j < length (readLabels q) → Unowed s (node q j)
 unowed s q e j l d k = let a = quiet-held s q e j l d k in let b = owes-held (node q j) (s .clients d) in omega arith
 
 -- ---- What no call but a renewal does: a present and unowed node that stays keeps its revision
@@ -172,11 +170,11 @@ or-not : (a b : Bool) → (not a || b) ≡ true → a ≡ true → b ≡ true
 or-not true b e f = e
 or-not false b e f = absurd (false≢true f)
 
-pub quiescent-quiet : (s t : State) (q : Key) → quiescent s t q ≡ true → quiet t q ≡ true
+pub quiescent-quiet : (s t : State) (q : Ask) → quiescent s t q ≡ true → quiet t q ≡ true
 unfolding quiescent
 quiescent-quiet s t q e = and-left (quiet t q) _ e
 
-pub still-moves : (s t : State) (q : Key) (ns : List ℕ) (n : ℕ) → Steady s t → quiet s q ≡ true → quiescent s t q ≡ true
+pub still-moves : (s t : State) (q : Ask) (ns : List ℕ) (n : ℕ) → Steady s t → quiet s q ≡ true → quiescent s t q ≡ true
     → n ≤ length (readLabels q) → Still s q ns n → Still t q ns n
 unfolding quiescent kept
 still-moves s t q ns n d e k l z j b =
@@ -204,7 +202,7 @@ pub data ClientTurn (s : State) (k : Quiescent) (c : Call) (a : Response) (t : S
 
 pub data FileTurn (s : State) (c : Call) (r : Response) (a : Ans) : Type 0 where
   old : files s c r (a .query) ≡ false → In a (s .filed) → FileTurn s c r a
-  new : files s c r (a .query) ≡ true → (l : Val) → s .clients (clientOf c) ≡ filing (a .query) (a .revs) l → FileTurn s c r a
+  new : files s c r (a .query) ≡ true → (l : Value) → s .clients (clientOf c) ≡ filing (a .query) (a .revs) l → FileTurn s c r a
 
 pub record Turn (s : State) (k : Quiescent) (c : Call) (a : Response) (t : State) : Type 0 where
   pub steady : Steady s t

@@ -12,31 +12,34 @@ use lib.ListN.{length, getD, take, drop, drop-of-length-le}
 use Rattle.laws.proofs.TestLaws.{byTest}
 use Rattle.query.specs.Shape.{Shape, maxColumns}
 use Rattle.rules.specs.Layout.{maxClients}
-use Rattle.rules.specs.Table.{Write, effect, changes, noRoom}
-use Rattle.rules.specs.Nodes.{Store, store}
-use Rattle.revisions.proofs.EffectiveRevision.{effective, pendingOf, pendingIn, NoDup, tally, Raised}
-use Rattle.machine.proofs.Sums.{Words, upd, upd-same, upd-other, in-none}
-use Rattle.machine.proofs.Keys.{Key, Val, valueOf, readLabels, writeLabels, width, widthOf, write-labels-some}
-use Rattle.machine.proofs.Machine.{State, Phase, idle, looking, tabling, filing, announcing, raising, Ans, node, opened}
-use Rattle.machine.proofs.Machine.{at-client, with-store, with-filed, with-tab, filed-in}
-use Rattle.machine.proofs.Machine.{Call, begin-read, begin-write, step, abandon, evict-answer, evict-node, renew, Response}
-use Rattle.machine.proofs.FiledAnswers.{OneEach, in-filed, filed-one, cut-one}
+use Rattle.rules.specs.Work.{Write, Ask, Value, valueOf, readLabels, writeLabels}
+use Rattle.rules.specs.Table.{effect, changes, noRoom}
+use Rattle.rules.specs.Nodes.{Store, store, Words}
+use Rattle.revisions.specs.EffectiveRevision.{effective, pendingOf, pendingIn, NoDup, tally, Retired}
+use Rattle.machine.specs.Machine.{upd, State, Phase, idle, looking, tabling, filing, announcing, raising, Ans, node, opened, at-client}
+use Rattle.machine.specs.Machine.{with-store, with-filed, with-tab, filed-in, Call, begin, step, abandon, evict-answer, evict-node, renew}
+use Rattle.machine.specs.Machine.{Response, AskFits, WriteFits}
+use Rattle.machine.proofs.Sums.{upd-same, upd-other}
+use Rattle.laws.proofs.Members.{in-none}
+use Rattle.rules.proofs.WorkLaws.{write-labels-some}
+use Rattle.machine.proofs.FiledAnswers.{OneEach, in-filed}
 use Rattle.machine.proofs.PendingLabels.{holds, owes, owing, held-of, held-upd, none-held, reader-holds, reader-owes, tally-take, tally-drop}
 use Rattle.machine.proofs.PendingLabels.{take-whole, raise-up, raise-less, raise-owed, back-up}
+use Rattle.machine.proofs.Frames.{transition-once, transition-one}
 use Rattle.machine.proofs.Moves.{BoundTo, bound-on, IsAns, in-file, in-hand, AnsOk, New, Move, ans-moves, MoveAt, move-at, move-refl}
 use Rattle.machine.proofs.Moves.{same-lists, quiet-move, cut-move, out-move, wrote-lists, isFiling, not-filing, filing-of, grown, length-grown}
 use Rattle.machine.proofs.Moves.{grown-old, grown-new}
-use Rattle.machine.proofs.Transition
-use Rattle.machine.proofs.Transition.{Transition, isReader}
+use Rattle.machine.specs.Transition.{Transition, isReader}
+use Rattle.machine.specs.Transition
 
 -- a client's own facts
 abbrev pub Fit : Shape → (Words → ℕ) → Phase → Type 0
 Fit sh e idle = Unit
-Fit sh e (looking q ns saw) = (width q ≡ sh .columns) × (length ns ≤ length (readLabels q)) × BoundTo (length ns) e q ns
-Fit sh e (tabling q ns saw) = (width q ≡ sh .columns) × BoundTo (length (readLabels q)) e q ns
-Fit sh e (filing q ns l) = width q ≡ sh .columns
-Fit sh e (announcing w i) = (widthOf w ≡ sh .columns) × (i ≤ length (writeLabels w))
-Fit sh e (raising w j c f) = (widthOf w ≡ sh .columns) × (j < length (writeLabels w))
+Fit sh e (looking q ns saw) = AskFits sh q × (length ns ≤ length (readLabels q)) × BoundTo (length ns) e q ns
+Fit sh e (tabling q ns saw) = AskFits sh q × BoundTo (length (readLabels q)) e q ns
+Fit sh e (filing q ns l) = AskFits sh q
+Fit sh e (announcing w i) = WriteFits sh w × (i ≤ length (writeLabels w))
+Fit sh e (raising w j c f) = WriteFits sh w × (j < length (writeLabels w))
 
 pub record StateInv (s : State) : Type 0 where
   pub few : s .shape .columns ≤ maxColumns
@@ -44,7 +47,7 @@ pub record StateInv (s : State) : Type 0 where
   pub high : (d : ℕ) → 12 ≤ d → s .clients d ≡ idle
   pub fit : (d : ℕ) → Fit (s .shape) (effective (s .store)) (s .clients d)
   pub held : (p : Words) → held-of (s .clients) p ≡ pendingOf (s .store) p
-  pub ans : (q : Key) (r : List ℕ) (l : Val) → IsAns s q r l → AnsOk s q r l
+  pub ans : (q : Ask) (r : List ℕ) (l : Value) → IsAns s q r l → AnsOk s q r l
   pub one : OneEach (s .filed)
 
 fit-on : (sh : Shape) (e f : Words → ℕ) (x : Phase) → ((p : Words) → e p ≤ f p) → Fit sh e x → Fit sh f x
@@ -62,18 +65,14 @@ fit-at s d x v e = subst (λ y. Fit (s .shape) (effective (s .store)) y) e (v .f
 -- the desk d becomes x
 pub record At (s t : State) (d : ℕ) (x : Phase) : Type 0 where
   pub move : MoveAt s t d x
-  pub once : NoDup (t .store .nodes)
   pub fit : Fit (s .shape) (effective (t .store)) x
   pub pendings : (p : Words) → tally p (holds x) + pendingOf (s .store) p ≡ tally p (holds (s .clients d)) + pendingOf (t .store) p
-  pub one : OneEach (t .filed)
 
 -- no desk changes
 pub record Aside (s t : State) : Type 0 where
   pub move : Move s t
   pub clients : t .clients ≡ s .clients
-  pub once : NoDup (t .store .nodes)
   pub pendings : (p : Words) → pendingOf (t .store) p ≡ pendingOf (s .store) p
-  pub one : OneEach (t .filed)
 
 -- a renewal
 pub record Anew (s t : State) : Type 0 where
@@ -89,13 +88,13 @@ pub data Kept (s : State) : Call → State → Type 0 where
   anew : {t : State} → Anew s t → Kept s renew t
 
 -- ---- Each keeps the invariant
-at-inv : (s t : State) (d : ℕ) (x : Phase) → StateInv s → At s t d x → StateInv t
-at-inv s t d x v k =
+at-inv : (s t : State) (d : ℕ) (x : Phase) → StateInv s → NoDup (t .store .nodes) → OneEach (t .filed) → At s t d x → StateInv t
+at-inv s t d x v u o k =
     let ds = k .move .clients in
     let c = k .move .shape in
     record {
       few = rw c (v .few);
-      once = k .once;
+      once = u;
       high = λ e l. ap (λ f. f e) ds ∙ upd-other (s .clients) d x e (λ i. let a = k .move .low in omega arith) ∙ v .high e l;
       fit = λ e. rw c (subst (λ f. Fit (s .shape) (effective (t .store)) (f e)) (sym ds) (byTest (eqb e d)
           (λ i. subst (λ y. Fit (s .shape) (effective (t .store)) (upd (s .clients) d x y)) (sym (eqb-true e d i)) (rw (upd-same (s .clients) d x) (k .fit)))
@@ -103,21 +102,21 @@ at-inv s t d x v k =
       held = λ p. let a = held-upd (s .clients) d x p (k .move .low) in let b = v .held p in let c = k .pendings p in
           subst (λ f. held-of f p ≡ pendingOf (t .store) p) (sym ds) (omega arith);
       ans = ans-moves (move-at (k .move)) (v .ans);
-      one = k .one;
+      one = o;
     }
 
-aside-inv : (s t : State) → StateInv s → Aside s t → StateInv t
-aside-inv s t v k =
+aside-inv : (s t : State) → StateInv s → NoDup (t .store .nodes) → OneEach (t .filed) → Aside s t → StateInv t
+aside-inv s t v u o k =
     let ds = k .clients in
     let c = k .move .shape in
     record {
       few = rw c (v .few);
-      once = k .once;
+      once = u;
       high = λ e l. ap (λ f. f e) ds ∙ v .high e l;
       fit = λ e. rw c (subst (λ f. Fit (s .shape) (effective (t .store)) (f e)) (sym ds) (fit-on (s .shape) (effective (s .store)) (effective (t .store)) (s .clients e) (k .move .mono) (v .fit e)));
       held = λ p. subst (λ f. held-of f p ≡ pendingOf (t .store) p) (sym ds) (v .held p ∙ sym (k .pendings p));
       ans = ans-moves (k .move) (v .ans);
-      one = k .one;
+      one = o;
     }
 
 anew-inv : (s t : State) → StateInv s → Anew s t → StateInv t
@@ -138,21 +137,21 @@ anew-inv s t v k =
 -- a desk that owes nothing becomes one that holds no list; table and answers stay
 quiet-at : {c : Call} (s : State) (t : Store) (d : ℕ) (x : Phase) → StateInv s → d < maxClients → ((p : Words) → effective (s .store) p ≤ effective t p)
     → ((p : Words) → tally p (owes (s .clients d)) ≡ 0) → isFiling x ≡ false
-    → NoDup (t .nodes) → Fit (s .shape) (effective t) x → ((p : Words) → tally p (holds x) + pendingOf (s .store) p ≡ tally p (holds (s .clients d)) + pendingOf t p)
+    → Fit (s .shape) (effective t) x → ((p : Words) → tally p (holds x) + pendingOf (s .store) p ≡ tally p (holds (s .clients d)) + pendingOf t p)
     → Kept s c (at-client (with-store s t) d x)
 unfolding at-client with-store
-quiet-at s t d x v l m o n u f k = at {t = at-client (with-store s t) d x} d x (record
-    { move = quiet-move s (at-client (with-store s t) d x) d x l refl refl refl refl m o n; once = u; fit = f; pendings = k; one = v .one })
+quiet-at s t d x v l m o n f k = at {t = at-client (with-store s t) d x} d x (record
+    { move = quiet-move s (at-client (with-store s t) d x) d x l refl refl refl refl m o n; fit = f; pendings = k })
 
 -- a reader's step that leaves the nodes alone
 reader-at : {c : Call} (s : State) (d : ℕ) (x : Phase) → StateInv s → d < maxClients → isReader (s .clients d) ≡ true → isFiling x ≡ false
     → Fit (s .shape) (effective (s .store)) x → ((p : Words) → tally p (holds x) ≡ 0)
     → Kept s c (at-client s d x)
 unfolding at-client with-store
-reader-at s d x v l e n f h = quiet-at s (s .store) d x v l (λ p. omega arith) (λ p. reader-owes p (s .clients d) e) n (v .once) f
+reader-at s d x v l e n f h = quiet-at s (s .store) d x v l (λ p. omega arith) (λ p. reader-owes p (s .clients d) e) n f
     (λ p. let a = reader-holds p (s .clients d) e in let b = h p in omega arith)
 
-look-fit : (sh : Shape) (e f : Words → ℕ) (q : Key) (ns : List ℕ) (saw saw′ : Bool) → length ns < length (readLabels q) → ((p : Words) → e p ≤ f p)
+look-fit : (sh : Shape) (e f : Words → ℕ) (q : Ask) (ns : List ℕ) (saw saw′ : Bool) → length ns < length (readLabels q) → ((p : Words) → e p ≤ f p)
     → Fit sh e (looking q ns saw)
     → Fit sh f (looking q (grown ns (f (node q (length ns)))) saw′)
 look-fit sh e f q ns saw saw′ l m o =
@@ -169,7 +168,7 @@ look-fit sh e f q ns saw saw′ l m o =
 
 raise-at : {y : Call} (s : State) (t : Store) (d : ℕ) (w : Write) (j : ℕ) (c f : Bool) (x : Phase) → StateInv s → d < maxClients → s .clients d ≡ raising w j c f
     → isFiling x ≡ false
-    → Raised true (getD (writeLabels w) j [] ∷ []) (s .store) t
+    → Retired true (getD (writeLabels w) j [] ∷ []) (s .store) t
     → ((p : Words) → tally p (owes x) ≡ tally p (drop (suc j) (writeLabels w))) → ((p : Words) → tally p (holds x) ≡ tally p (drop (suc j) (writeLabels w)))
     → Fit (s .shape) (effective t) x
     → Kept s y (at-client (with-store s t) d x)
@@ -187,25 +186,23 @@ raise-at s t d w j c f x v l e nf m ow ho fi =
         file = λ q r u a. inl (in-file a);
         hand = λ q r u a. not-filing x nf a;
       };
-      once = m .once;
       fit = fi;
-      one = v .one;
       pendings = λ p. rw e (let a = tally-drop p (writeLabels w) j n in let b = raise-less (getD (writeLabels w) j []) (s .store) t m p in let c = ho p in omega arith);
     })
 
 -- ---- The one walk
 pub transition-kept : (s : State) {c : Call} {a : Response} {t : State} → StateInv s → Transition s c a t → Kept s c t
 unfolding at-client with-store with-filed with-tab holds owes owing tally grown
-transition-kept s v (Transition.nothing e) = aside (record { move = move-refl s; clients = refl; once = v .once; pendings = λ p. refl; one = v .one })
+transition-kept s v (Transition.nothing e) = aside (record { move = move-refl s; clients = refl; pendings = λ p. refl })
 transition-kept s v (Transition.began {d} {q} l e k) =
-    quiet-at s (s .store) d (looking q [] false) v l (λ p. omega arith) (λ p. rw e refl) refl (v .once) (k, omega arith, λ j b. absurd (omega arith)) (λ p. rw e refl)
+    quiet-at s (s .store) d (looking q [] false) v l (λ p. omega arith) (λ p. rw e refl) refl (k, omega arith, λ j b. absurd (omega arith)) (λ p. rw e refl)
 transition-kept s v (Transition.began-write {d} {w} l e k o) =
-    quiet-at s (s .store) d (announcing w 0) v l (λ p. omega arith) (λ p. rw e refl) refl (v .once) (k, omega arith) (λ p. rw e refl)
+    quiet-at s (s .store) d (announcing w 0) v l (λ p. omega arith) (λ p. rw e refl) refl (k, omega arith) (λ p. rw e refl)
 transition-kept s v (Transition.looked {d} {q} {ns} {saw} {t} l e k m n) =
     let o = fit-at s d (looking q ns saw) v e in
     let c = effective t (node q (length ns)) in
     let y = saw || ltb 0 (pendingOf t (node q (length ns))) in
-    quiet-at s t d (looking q (ns ++ (c ∷ [])) y) v l (m .mono) (λ p. rw e refl) refl (m .once)
+    quiet-at s t d (looking q (ns ++ (c ∷ [])) y) v l (m .mono) (λ p. rw e refl) refl
     (look-fit (s .shape) (effective (s .store)) (effective t) q ns saw y k (m .mono) o) (λ p. rw e (let b = m .keep p in omega arith))
 transition-kept s v (Transition.missed {d} {q} {ns} {saw} l e k y) =
     let o = fit-at s d (looking q ns saw) v e in
@@ -227,10 +224,8 @@ transition-kept s v (Transition.took {d} {q} {ns} l e k) =
         file = λ q r l i. inl (in-file i);
         hand = λ q′ r l i. inr (filing-of (New t) i (o .1, o .0, refl));
       };
-      once = v .once;
       fit = o .0;
       pendings = λ p. rw e (omega arith);
-      one = v .one;
     })
 transition-kept s v (Transition.filed {d} {q} {ns} {l = y} l e) =
     let t = at-client (with-filed s (filed-in q ns y (s .filed))) d idle in
@@ -248,34 +243,30 @@ transition-kept s v (Transition.filed {d} {q} {ns} {l = y} l e) =
         ]);
         hand = λ q′ r l′ i. not-filing idle refl i;
       };
-      once = v .once;
       fit = tt;
       pendings = λ p. rw e (omega arith);
-      one = filed-one q ns y (s .filed) (v .one);
     })
 transition-kept s v (Transition.announced {d} {w} {i} {t} l e k m) =
     let o = fit-at s d (announcing w i) v e in
-    quiet-at s t d (announcing w (suc i)) v l (m .mono) (λ p. rw e refl) refl (m .once) (o .0, k)
+    quiet-at s t d (announcing w (suc i)) v l (m .mono) (λ p. rw e refl) refl (o .0, k)
     (λ p. rw e (let a = tally-take p (writeLabels w) i k in let b = m .more p in omega arith))
 transition-kept s v (Transition.wrote {d} {w} {i} l e k) =
     let o = fit-at s d (announcing w i) v e in
-    let c = changes w (s .tab) in
-    let f = noRoom w (s .tab) in
-    let t = at-client (with-tab s (effect w (s .tab))) d (raising w 0 c f) in
+    let c = changes (w .change) (s .tab) in
+    let f = noRoom (w .change) (s .tab) in
+    let t = at-client (with-tab s (effect (w .change) (s .tab))) d (raising w 0 c f) in
     at {t = t} d (raising w 0 c f) (record {
       move = record {
         low = l;
         shape = refl;
         clients = refl;
-        lists = λ q z. wrote-lists s t d w c f q (z ∙ sym (o .0)) l (upd-same (s .clients) d (raising w 0 c f)) refl;
+        lists = λ q z. wrote-lists s t d w c f q z (o .0) l (upd-same (s .clients) d (raising w 0 c f)) refl;
         mono = λ p. omega arith;
         owed = λ p a. let b : tally p (owes (s .clients d)) ≡ 0 = rw e refl in absurd (omega arith);
         file = λ q r u a. inl (in-file a);
         hand = λ q r u a. not-filing (raising w 0 c f) refl a;
       };
-      once = v .once;
       fit = (o .0, write-labels-some w);
-      one = v .one;
       pendings = λ p. rw e (let a = take-whole p (writeLabels w) i k in omega arith);
     })
 transition-kept s v (Transition.raised {d} {w} {j} {c} {f} {t} l e k m) =
@@ -286,23 +277,22 @@ transition-kept s v (Transition.last {d} {w} {j} {c} {f} {t} l e k m) =
     raise-at s t d w j c f idle v l e refl m (λ p. sym (z p)) (λ p. sym (z p)) tt
 transition-kept s v (Transition.abandoned-read {d} l e) = reader-at s d idle v l e refl tt (λ p. refl)
 transition-kept s v (Transition.abandoned-write {d} {w} {i} {t} l e m) =
-    quiet-at s t d idle v l (λ p. let a = back-up (take i (writeLabels w)) (s .store) t m p in omega arith) (λ p. rw e refl) refl (m .once) tt (λ p. rw e (let a = m .less p in omega arith))
-transition-kept s v (Transition.evicted-answer {i} l) = aside (record { move = cut-move s i; clients = refl; once = v .once; pendings = λ p. refl; one = cut-one i (s .filed) (v .one) })
-transition-kept s v (Transition.evicted-node {t} l m) = aside (record { move = out-move s t m; clients = refl; once = m .once; pendings = m .keep; one = v .one })
+    quiet-at s t d idle v l (λ p. let a = back-up (take i (writeLabels w)) (s .store) t m p in omega arith) (λ p. rw e refl) refl tt (λ p. rw e (let a = m .less p in omega arith))
+transition-kept s v (Transition.evicted-answer {i} l) = aside (record { move = cut-move s i; clients = refl; pendings = λ p. refl })
+transition-kept s v (Transition.evicted-node {t} l m) = aside (record { move = out-move s t m; clients = refl; pendings = m .keep })
 transition-kept s v (Transition.renewed i) = anew (record { idle = i; clients = refl; shape = refl; store = refl; filed = refl })
 
 -- ---- So: the invariant, and the move
-kept-inv : (s : State) {c : Call} {t : State} → StateInv s → Kept s c t → StateInv t
-kept-inv s v (at {t = t} d x k) = at-inv s t d x v k
-kept-inv s v (aside {t = t} k) = aside-inv s t v k
-kept-inv s v (anew {t} k) = anew-inv s t v k
+kept-inv : (s : State) {c : Call} {t : State} → StateInv s → NoDup (t .store .nodes) → OneEach (t .filed) → Kept s c t → StateInv t
+kept-inv s v u o (at {t = t} d x k) = at-inv s t d x v u o k
+kept-inv s v u o (aside {t = t} k) = aside-inv s t v u o k
+kept-inv s v u o (anew {t} k) = anew-inv s t v k
 
 pub transition-inv : (s : State) {c : Call} {a : Response} {t : State} → StateInv s → Transition s c a t → StateInv t
-transition-inv s v o = kept-inv s v (transition-kept s v o)
+transition-inv s v o = kept-inv s v (transition-once s (v .once) o) (transition-one s (v .one) o) (transition-kept s v o)
 
 abbrev pub renews : Call → Bool
-renews (begin-read d q) = false
-renews (begin-write d w) = false
+renews (begin d work) = false
 renews (step d) = false
 renews (abandon d) = false
 renews (evict-answer i) = false
@@ -316,14 +306,6 @@ kept-move s (anew k) e = absurd (true≢false e)
 
 pub transition-move : (s : State) {c : Call} {a : Response} {t : State} → StateInv s → Transition s c a t → renews c ≡ false → Move s t
 transition-move s v o e = kept-move s (transition-kept s v o) e
-
-kept-shape : (s : State) {c : Call} {t : State} → Kept s c t → t .shape ≡ s .shape
-kept-shape s (at d x k) = k .move .shape
-kept-shape s (aside k) = k .move .shape
-kept-shape s (anew k) = k .shape
-
-pub transition-shape : (s : State) {c : Call} {a : Response} {t : State} → StateInv s → Transition s c a t → t .shape ≡ s .shape
-transition-shape s v o = kept-shape s (transition-kept s v o)
 
 -- an opened hall
 pub opened-inv : (sh : Shape) → sh .columns ≤ maxColumns → StateInv (opened sh)

@@ -2,35 +2,30 @@
 -- what became of it and at which call it stands: a read or write at its table step, a read answered from file just after a call.
 -- Leans on Machine. Definitions only. Assumes nothing.
 use mathlib.Core.Path.{_≡_}
-use mathlib.Core.Bool.{Bool, true, false, _&&_, cond}
+use mathlib.Core.Bool.{true, false, _&&_, cond}
 use mathlib.Core.List.{[]}
 use Prim.Native.Nat.{ℕ, suc, max}
 use lib.Dec.{eqb}
 use lib.ListN.{length}
-use Rattle.rules.specs.Table.{Table, Write, effect, changes, noRoom}
-use Rattle.machine.proofs.Sums.{upd}
-use Rattle.machine.proofs.Keys.{Key, Val, valueOf, short, readLabels, writeLabels, sameKey}
-use Rattle.machine.proofs.Machine.{Call, begin-read, begin-write, step, abandon, evict-answer, evict-node, renew, write-end}
-use Rattle.machine.proofs.Machine.{Response, refused, went, answered, long, ended, full}
+use Rattle.rules.specs.Table.{Table, effect, changes, noRoom}
+use Rattle.rules.specs.Work.{Work, Ask, Value, valueOf, mayAnswer, readLabels, writeLabels, asking, writing}
+use Rattle.machine.specs.Machine.{upd, sameAsk, Call, begin, step, abandon, evict-answer, evict-node, renew, write-end, Response, refused, went}
+use Rattle.machine.specs.Machine.{answered, long, ended, full, isRefused}
 
 -- ---- What is run
-pub data Act : Type 0 where
-  reads : Key → Act
-  writes : Write → Act
-
 -- the number of the step that goes to the table
-unfoldable pub tableStep : Act → ℕ
-tableStep (reads q) = suc (suc (length (readLabels q)))
-tableStep (writes w) = suc (length (writeLabels w))
+unfoldable pub tableStep : Work → ℕ
+tableStep (asking q) = suc (suc (length (readLabels q)))
+tableStep (writing w) = suc (length (writeLabels w))
 
 -- what it gives alone on a table, and the table after it
-unfoldable pub alone : Act → Table → Response
-alone (reads q) t = cond (short (valueOf q t)) (answered (valueOf q t) false) long
-alone (writes w) t = write-end (changes w t) (noRoom w t)
+unfoldable pub alone : Work → Table → Response
+alone (asking q) t = cond (mayAnswer (valueOf q t)) (answered (valueOf q t) false) long
+alone (writing w) t = write-end (changes (w .change) t) (noRoom (w .change) t)
 
-unfoldable pub leaves : Act → Table → Table
-leaves (reads q) t = t
-leaves (writes w) t = effect w t
+unfoldable pub leaves : Work → Table → Table
+leaves (asking q) t = t
+leaves (writing w) t = effect (w .change) t
 
 -- the same, without saying whether an answer was filed before
 unfoldable pub unsourced : Response → Response
@@ -44,7 +39,7 @@ unsourced full = full
 -- Calls are numbered from 1. What is under way at a desk: what, its steps, the call that began it, the call of its table step or 0.
 pub data Job : Type 0 where
   no-job : Job
-  job : Act → ℕ → ℕ → ℕ → Job
+  job : Work → ℕ → ℕ → ℕ → Job
 
 -- the call that ended it, and its result
 pub data End : Type 0 where
@@ -55,8 +50,8 @@ pub data End : Type 0 where
 -- from file, which stands just after the call named first, with its list and the call that answered
 pub data Op : Type 0 where
   no-op : Op
-  at-table : Act → ℕ → End → Op
-  from-file : Key → ℕ → Val → ℕ → Op
+  at-table : Work → ℕ → End → Op
+  from-file : Ask → ℕ → Value → ℕ → Op
 
 pub record Trace : Type 0 where
   pub now : ℕ
@@ -64,11 +59,11 @@ pub record Trace : Type 0 where
   pub owner : ℕ → ℕ  -- the desk of a begin
   pub who : ℕ → ℕ  -- the begin of what a step belonged to
   pub jobs : ℕ → Job
-  pub filings : Key → ℕ  -- the table step of the last read that filed under the query
+  pub filings : Ask → ℕ  -- the table step of the last read that filed under the query
   pub ops : ℕ → Op
 
 -- one call more: every change of the trace is one
-unfoldable pub turn : Trace → Table → ℕ → ℕ → (ℕ → Job) → (Key → ℕ) → (ℕ → Op) → Trace
+unfoldable pub turn : Trace → Table → ℕ → ℕ → (ℕ → Job) → (Ask → ℕ) → (ℕ → Op) → Trace
 turn B T d b js fs os = record {
   now = suc (B .now);
   tabs = upd (B .tabs) (suc (B .now)) T;
@@ -84,7 +79,7 @@ unfoldable pub tick : Trace → Table → Trace
 tick B T = turn B T 0 0 (B .jobs) (B .filings) (B .ops)
 
 -- the job after a step with this result
-unfoldable pub job-after : Act → ℕ → ℕ → ℕ → Response → Job
+unfoldable pub job-after : Work → ℕ → ℕ → ℕ → Response → Job
 job-after x n b t (refused m) = job x n b t
 job-after x n b t went = job x n b t
 job-after x n b t (answered l f) = no-job
@@ -93,38 +88,38 @@ job-after x n b t (ended c) = no-job
 job-after x n b t full = no-job
 
 -- where it stands after a step at call i: t is its table step, f the filing read's
-unfoldable pub placed : Act → ℕ → ℕ → ℕ → ℕ → Response → Op
-placed (reads q) b t f i (refused n) = no-op
-placed (reads q) b t f i went = no-op
-placed (reads q) b t f i (answered l true) = from-file q (max b f) l i
-placed (reads q) b t f i (answered l false) = at-table (reads q) t (gave i (answered l false))
-placed (reads q) b t f i long = at-table (reads q) t (gave i long)
-placed (reads q) b t f i (ended c) = no-op
-placed (reads q) b t f i full = no-op
-placed (writes w) b t f i (refused n) = no-op
-placed (writes w) b t f i went = cond (eqb t 0) no-op (at-table (writes w) t not-yet)
-placed (writes w) b t f i (answered l c) = no-op
-placed (writes w) b t f i long = no-op
-placed (writes w) b t f i (ended c) = at-table (writes w) t (gave i (ended c))
-placed (writes w) b t f i full = at-table (writes w) t (gave i full)
+unfoldable pub placed : Work → ℕ → ℕ → ℕ → ℕ → Response → Op
+placed (asking q) b t f i (refused n) = no-op
+placed (asking q) b t f i went = no-op
+placed (asking q) b t f i (answered l true) = from-file q (max b f) l i
+placed (asking q) b t f i (answered l false) = at-table (asking q) t (gave i (answered l false))
+placed (asking q) b t f i long = at-table (asking q) t (gave i long)
+placed (asking q) b t f i (ended c) = no-op
+placed (asking q) b t f i full = no-op
+placed (writing w) b t f i (refused n) = no-op
+placed (writing w) b t f i went = cond (eqb t 0) no-op (at-table (writing w) t not-yet)
+placed (writing w) b t f i (answered l c) = no-op
+placed (writing w) b t f i long = no-op
+placed (writing w) b t f i (ended c) = at-table (writing w) t (gave i (ended c))
+placed (writing w) b t f i full = at-table (writing w) t (gave i full)
 
-unfoldable pub filing-of-act : Act → (Key → ℕ) → ℕ
-filing-of-act (reads q) fs = fs q
-filing-of-act (writes w) fs = 0
+unfoldable pub filing-of-act : Work → (Ask → ℕ) → ℕ
+filing-of-act (asking q) fs = fs q
+filing-of-act (writing w) fs = 0
 
 -- a read that answers one step after its table step has filed its list
-unfoldable pub filed-under : Act → ℕ → ℕ → Response → (Key → ℕ) → Key → ℕ
-filed-under (writes w) n t a fs p = fs p
-filed-under (reads q) n t (answered l false) fs p = cond (eqb n (suc (tableStep (reads q))) && sameKey q p) t (fs p)
-filed-under (reads q) n t (answered l true) fs p = fs p
-filed-under (reads q) n t (refused m) fs p = fs p
-filed-under (reads q) n t went fs p = fs p
-filed-under (reads q) n t long fs p = fs p
-filed-under (reads q) n t (ended c) fs p = fs p
-filed-under (reads q) n t full fs p = fs p
+unfoldable pub filed-under : Work → ℕ → ℕ → Response → (Ask → ℕ) → Ask → ℕ
+filed-under (writing w) n t a fs p = fs p
+filed-under (asking q) n t (answered l false) fs p = cond (eqb n (suc (tableStep (asking q))) && sameAsk q p) t (fs p)
+filed-under (asking q) n t (answered l true) fs p = fs p
+filed-under (asking q) n t (refused m) fs p = fs p
+filed-under (asking q) n t went fs p = fs p
+filed-under (asking q) n t long fs p = fs p
+filed-under (asking q) n t (ended c) fs p = fs p
+filed-under (asking q) n t full fs p = fs p
 
 -- the call of the table step, if step n at call i is it
-unfoldable pub tabled-at : Act → ℕ → ℕ → ℕ → ℕ
+unfoldable pub tabled-at : Work → ℕ → ℕ → ℕ → ℕ
 tabled-at x n i t = cond (eqb n (tableStep x)) i t
 
 unfoldable pub step-trace : Trace → ℕ → Job → Response → Table → Trace
@@ -134,7 +129,7 @@ step-trace B d (job x n b t) a T =
     (filed-under x (suc n) t a (B .filings))
     (upd (B .ops) b (placed x b (tabled-at x (suc n) (suc (B .now)) t) (filing-of-act x (B .filings)) (suc (B .now)) a))
 
-unfoldable pub begin-trace : Trace → ℕ → Act → Table → Trace
+unfoldable pub begin-trace : Trace → ℕ → Work → Table → Trace
 begin-trace B d x T = turn B T d 0 (upd (B .jobs) d (job x 0 (suc (B .now)) 0)) (B .filings) (B .ops)
 
 -- an abandoning that reports a write's end ends it as its last raise would
@@ -142,17 +137,8 @@ unfoldable pub abandon-trace : Trace → ℕ → Job → Response → Table → 
 abandon-trace B d no-job a T = tick B T
 abandon-trace B d (job x n b t) a T = turn B T 0 b (upd (B .jobs) d no-job) (B .filings) (upd (B .ops) b (placed x b t 0 (suc (B .now)) a))
 
-unfoldable pub isRefused : Response → Bool
-isRefused (refused n) = true
-isRefused went = false
-isRefused (answered l b) = false
-isRefused long = false
-isRefused (ended b) = false
-isRefused full = false
-
 unfoldable pub accepted-trace : Trace → Call → Response → Table → Trace
-accepted-trace B (begin-read d q) a T = begin-trace B d (reads q) T
-accepted-trace B (begin-write d w) a T = begin-trace B d (writes w) T
+accepted-trace B (begin d work) a T = begin-trace B d work T
 accepted-trace B (step d) a T = step-trace B d (B .jobs d) a T
 accepted-trace B (abandon d) a T = abandon-trace B d (B .jobs d) a T
 accepted-trace B (evict-answer i) a T = tick B T
@@ -171,4 +157,4 @@ abbrev pub GaveIt : Op → Table → Type 0
 GaveIt no-op t = ⊥
 GaveIt (at-table x i not-yet) t = Unit
 GaveIt (at-table x i (gave n a)) t = unsourced a ≡ alone x t
-GaveIt (from-file q i l n) t = unsourced (answered l true) ≡ alone (reads q) t
+GaveIt (from-file q i l n) t = unsourced (answered l true) ≡ alone (asking q) t

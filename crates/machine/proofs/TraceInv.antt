@@ -1,4 +1,4 @@
--- What stays true of the trace. Each answer was its key's list at its table step; each read under way will answer from file only with the
+-- What stays true of the trace. Each answer was its ask's list at its table step; each read under way will answer from file only with the
 -- list at the later of its begin and that table step; what stands, stands right. And: a law for any call that changes the trace (turned).
 -- Leans on Trace and StateInv. Assumes nothing.
 use mathlib.Core.Path.{_≡_, refl, sym, ap, _∙_}
@@ -12,16 +12,17 @@ use borrow.Author.Tests.{eqb-true, eqb-false}
 use lib.ListN.{length}
 use Rattle.laws.proofs.TestLaws.{byTest}
 use Rattle.query.specs.Shape.{Shape}
-use Rattle.rules.specs.Table.{Table, Write}
-use Rattle.machine.proofs.Sums.{upd-same, upd-other, In, in-none}
-use Rattle.machine.proofs.Keys.{Key, Val, valueOf, short, readLabels}
-use Rattle.machine.proofs.Machine.{State, Phase, idle, looking, tabling, filing, announcing, raising, write-end, opened}
-use Rattle.machine.proofs.Machine.{answered}
-use Rattle.machine.proofs.Moves
+use Rattle.rules.specs.Table.{Table}
+use Rattle.rules.specs.Work.{Write, Ask, Value, valueOf, mayAnswer, readLabels, Work, asking, writing}
+use Rattle.machine.proofs.Sums.{upd-same, upd-other}
+use Rattle.laws.proofs.Members.{in-none}
+use Rattle.lists.specs.Lists.{In}
+use Rattle.machine.specs.Machine.{State, Phase, idle, looking, tabling, filing, announcing, raising, write-end, opened, answered}
 use Rattle.machine.proofs.Moves.{IsAns, Move, Behind, behind-moves, not-filing}
 use Rattle.machine.proofs.StateInv.{StateInv}
-use Rattle.machine.proofs.Trace.{Act, reads, writes, tableStep, alone, leaves, Job, no-job, job, End, not-yet, gave, Op, no-op, at-table}
-use Rattle.machine.proofs.Trace.{from-file, Trace, turn, empty-trace, GaveIt}
+use Rattle.machine.proofs.Trace.{tableStep, alone, leaves, Job, no-job, job, End, not-yet, gave, Op, no-op, at-table, from-file, Trace, turn}
+use Rattle.machine.proofs.Trace.{empty-trace, GaveIt}
+use Rattle.machine.proofs.Moves
 
 abbrev pub begunBy : Job → ℕ
 begunBy no-job = 0
@@ -35,7 +36,7 @@ abbrev pub EndAfter : ℕ → End → ℕ → Type 0
 EndAfter t not-yet n = Unit
 EndAfter t (gave m a) n = (t ≤ m) × (m ≤ n)
 
-pub record AtTable (B : Trace) (b : ℕ) (x : Act) (t : ℕ) (e : End) : Type 0 where
+pub record AtTable (B : Trace) (b : ℕ) (x : Work) (t : ℕ) (e : End) : Type 0 where
   pub after : b < t
   pub upto : t ≤ B .now
   pub who : B .who t ≡ b
@@ -43,7 +44,7 @@ pub record AtTable (B : Trace) (b : ℕ) (x : Act) (t : ℕ) (e : End) : Type 0 
   pub gives : GaveIt (at-table x t e) (B .tabs (pred t))
   pub ends : EndAfter t e (B .now)
 
-pub record FromFile (B : Trace) (b : ℕ) (q : Key) (i : ℕ) (l : Val) (n : ℕ) : Type 0 where
+pub record FromFile (B : Trace) (b : ℕ) (q : Ask) (i : ℕ) (l : Value) (n : ℕ) : Type 0 where
   pub pos : 0 < b
   pub after : b ≤ i
   pub upto : i ≤ n
@@ -56,56 +57,56 @@ Placed B b (at-table x t e) = AtTable B b x t e
 Placed B b (from-file q i l n) = FromFile B b q i l n
 
 -- the job of a busy desk
-pub record HasJob (B : Trace) (d : ℕ) (x : Act) (n : ℕ) (o : Op) (j : Job) : Type 0 where
+pub record HasJob (B : Trace) (d : ℕ) (x : Work) (n : ℕ) (o : Op) (j : Job) : Type 0 where
   pub is : j ≡ job x n (begunBy j) (tabledBy j)
   pub pos : 0 < begunBy j
   pub upto : begunBy j ≤ B .now
   pub mine : B .owner (begunBy j) ≡ d
   pub op : B .ops (begunBy j) ≡ o
 
-pub record FileJob (B : Trace) (d : ℕ) (q : Key) (l : Val) (j : Job) : Type 0 where
-  pub has : HasJob B d (reads q) (tableStep (reads q)) no-op j
+pub record FileJob (B : Trace) (d : ℕ) (q : Ask) (l : Value) (j : Job) : Type 0 where
+  pub has : HasJob B d (asking q) (tableStep (asking q)) no-op j
   pub after : begunBy j < tabledBy j
   pub upto : tabledBy j ≤ B .now
   pub who : B .who (tabledBy j) ≡ begunBy j
   pub moved : B .tabs (tabledBy j) ≡ B .tabs (pred (tabledBy j))
-  pub list : answered l false ≡ alone (reads q) (B .tabs (pred (tabledBy j)))
+  pub list : answered l false ≡ alone (asking q) (B .tabs (pred (tabledBy j)))
 
 pub record AnnounceJob (B : Trace) (d : ℕ) (w : Write) (i : ℕ) (j : Job) : Type 0 where
-  pub has : HasJob B d (writes w) i no-op j
+  pub has : HasJob B d (writing w) i no-op j
   pub none : tabledBy j ≡ 0
 
 pub record RaiseJob (B : Trace) (d : ℕ) (w : Write) (i : ℕ) (c f : Bool) (j : Job) : Type 0 where
-  pub has : HasJob B d (writes w) (tableStep (writes w) + i) (at-table (writes w) (tabledBy j) not-yet) j
+  pub has : HasJob B d (writing w) (tableStep (writing w) + i) (at-table (writing w) (tabledBy j) not-yet) j
   pub upto : tabledBy j ≤ B .now
-  pub end : write-end c f ≡ alone (writes w) (B .tabs (pred (tabledBy j)))
+  pub end : write-end c f ≡ alone (writing w) (B .tabs (pred (tabledBy j)))
 
 abbrev pub JobOk : Trace → ℕ → Job → Phase → Type 0
 JobOk B d j idle = j ≡ no-job
-JobOk B d j (looking q ns saw) = HasJob B d (reads q) (length ns) no-op j
-JobOk B d j (tabling q ns saw) = HasJob B d (reads q) (suc (length (readLabels q))) no-op j
+JobOk B d j (looking q ns saw) = HasJob B d (asking q) (length ns) no-op j
+JobOk B d j (tabling q ns saw) = HasJob B d (asking q) (suc (length (readLabels q))) no-op j
 JobOk B d j (filing q ns l) = FileJob B d q l j
 JobOk B d j (announcing w i) = AnnounceJob B d w i j
 JobOk B d j (raising w i c f) = RaiseJob B d w i c f j
 
 -- an answer and the call at which its list was taken
-pub data AnsAt (s : State) (B : Trace) (q : Key) (r : List ℕ) (l : Val) (t : ℕ) : Type 0 where
+pub data AnsAt (s : State) (B : Trace) (q : Ask) (r : List ℕ) (l : Value) (t : ℕ) : Type 0 where
   on-file : In (record { query = q; revs = r; list = l }) (s .filed) → B .filings q ≡ t → AnsAt s B q r l t
   at-hand : (d : ℕ) → s .clients d ≡ filing q r l → tabledBy (B .jobs d) ≡ t → AnsAt s B q r l t
 
-pub is-ans : {s : State} {B : Trace} {q : Key} {r : List ℕ} {l : Val} {t : ℕ} → AnsAt s B q r l t → IsAns s q r l
+pub is-ans : {s : State} {B : Trace} {q : Ask} {r : List ℕ} {l : Value} {t : ℕ} → AnsAt s B q r l t → IsAns s q r l
 is-ans (on-file i e) = Moves.in-file i
 is-ans (at-hand d e f) = Moves.in-hand d e
 
-pub record AnsWas (B : Trace) (q : Key) (l : Val) (t : ℕ) : Type 0 where
+pub record AnsWas (B : Trace) (q : Ask) (l : Value) (t : ℕ) : Type 0 where
   pub upto : t ≤ B .now
-  pub few : short l ≡ true
+  pub few : mayAnswer l ≡ true
   pub was : l ≡ valueOf q (B .tabs t)
 
 -- a read's answer, if it is to come from file, is the list at the later of its begin and the table step
 abbrev pub ReadsAt : State → Trace → Job → Phase → Type 0
 ReadsAt s B j idle = Unit
-ReadsAt s B j (looking q ns saw) = (r : List ℕ) (l : Val) (t : ℕ) → AnsAt s B q r l t
+ReadsAt s B j (looking q ns saw) = (r : List ℕ) (l : Value) (t : ℕ) → AnsAt s B q r l t
     → (begunBy j ≤ t) ⊎ ((l ≡ valueOf q (B .tabs (begunBy j))) ⊎ Behind s q ns saw r)
 ReadsAt s B j (tabling q ns saw) = Unit
 ReadsAt s B j (filing q ns l) = Unit
@@ -113,7 +114,7 @@ ReadsAt s B j (announcing w i) = Unit
 ReadsAt s B j (raising w i c f) = Unit
 
 abbrev pub WriteAt : Trace → ℕ → Type 0
-WriteAt B i = (w : Write) × (e : End) × (B .ops (B .who i) ≡ at-table (writes w) i e)
+WriteAt B i = (w : Write) × (e : End) × (B .ops (B .who i) ≡ at-table (writing w) i e)
 
 pub record TraceInv (s : State) (B : Trace) : Type 0 where
   pub tab : B .tabs (B .now) ≡ s .tab
@@ -122,7 +123,7 @@ pub record TraceInv (s : State) (B : Trace) : Type 0 where
   pub job : (d : ℕ) → JobOk B d (B .jobs d) (s .clients d)
   pub op : (b : ℕ) → Placed B b (B .ops b)
   pub turns : (i : ℕ) → i < B .now → (B .tabs (suc i) ≡ B .tabs i) ⊎ WriteAt B (suc i)
-  pub was : (q : Key) (r : List ℕ) (l : Val) (t : ℕ) → AnsAt s B q r l t → AnsWas B q l t
+  pub was : (q : Ask) (r : List ℕ) (l : Value) (t : ℕ) → AnsAt s B q r l t → AnsWas B q l t
   pub reads : (d : ℕ) → ReadsAt s B (B .jobs d) (s .clients d)
 
 -- what the trace says of the calls before stays
@@ -133,7 +134,7 @@ pub record Ext (B C : Trace) (T : Table) : Type 0 where
   pub owner : (j : ℕ) → j ≤ B .now → C .owner j ≡ B .owner j
   pub who : (j : ℕ) → j ≤ B .now → C .who j ≡ B .who j
 
-pub turn-ext : (B : Trace) (T : Table) (d b : ℕ) (js : ℕ → Job) (fs : Key → ℕ) (os : ℕ → Op) → Ext B (turn B T d b js fs os) T
+pub turn-ext : (B : Trace) (T : Table) (d b : ℕ) (js : ℕ → Job) (fs : Ask → ℕ) (os : ℕ → Op) → Ext B (turn B T d b js fs os) T
 unfolding turn
 turn-ext B T d b js fs os = record {
   now = refl;
@@ -174,7 +175,7 @@ placed-ext {B} {C} b (from-file q i l n) x p =
       gives = gives-on (from-file q i l n) (B .tabs i) (C .tabs i) (x .tabs i (omega arith)) (p .gives);
     }
 
-has-ext : {B C : Trace} {T : Table} {d : ℕ} {x : Act} {n : ℕ} {o : Op} {j : Job} → Ext B C T
+has-ext : {B C : Trace} {T : Table} {d : ℕ} {x : Work} {n : ℕ} {o : Op} {j : Job} → Ext B C T
     → (B .owner (begunBy j) ≡ d → begunBy j ≤ B .now → C .ops (begunBy j) ≡ B .ops (begunBy j)) → HasJob B d x n o j → HasJob C d x n o j
 has-ext {j} e k h = record {
   is = h .is;
@@ -199,7 +200,7 @@ job-ext {B} {C} d j (filing q ns l) e k h =
       upto = let n = e .now in omega arith;
       who = e .who (tabledBy j) u ∙ h .who;
       moved = a ∙ h .moved ∙ sym c;
-      list = h .list ∙ ap (alone (reads q)) (sym c);
+      list = h .list ∙ ap (alone (asking q)) (sym c);
     }
 job-ext d j (announcing w i) e k h = record { has = has-ext e k (h .has); none = h .none }
 job-ext {B} {C} d j (raising w i c f) e k h =
@@ -207,11 +208,11 @@ job-ext {B} {C} d j (raising w i c f) e k h =
     record {
       has = has-ext e k (h .has);
       upto = let n = e .now in omega arith;
-      end = h .end ∙ ap (alone (writes w)) (sym (e .tabs (pred (tabledBy j)) (omega arith)));
+      end = h .end ∙ ap (alone (writing w)) (sym (e .tabs (pred (tabledBy j)) (omega arith)));
     }
 
-abbrev pub NewAt : State → Trace → Key → Val → ℕ → Type 0
-NewAt t B q l n = (n ≡ suc (B .now)) × (l ≡ valueOf q (t .tab)) × (short l ≡ true)
+abbrev pub NewAt : State → Trace → Ask → Value → ℕ → Type 0
+NewAt t B q l n = (n ≡ suc (B .now)) × (l ≡ valueOf q (t .tab)) × (mayAnswer l ≡ true)
 
 -- What a call does to the trace: desk by desk it stays, or it is shown anew.
 pub record Turned (s : State) (B : Trace) (t : State) (C : Trace) : Type 0 where
@@ -224,9 +225,9 @@ pub record Turned (s : State) (B : Trace) (t : State) (C : Trace) : Type 0 where
   pub op : (b : ℕ) → Placed C b (C .ops b)
   pub turn : (C .tabs (suc (B .now)) ≡ B .tabs (B .now)) ⊎ WriteAt C (suc (B .now))
   pub kept : (i : ℕ) → i ≤ B .now → WriteAt B i → WriteAt C i
-  pub ans : (q : Key) (r : List ℕ) (l : Val) (n : ℕ) → AnsAt t C q r l n → AnsAt s B q r l n ⊎ NewAt t B q l n
+  pub ans : (q : Ask) (r : List ℕ) (l : Value) (n : ℕ) → AnsAt t C q r l n → AnsAt s B q r l n ⊎ NewAt t B q l n
 
-turned-was : {s t : State} {B C : Trace} → TraceInv s B → Turned s B t C → (q : Key) (r : List ℕ) (l : Val) (n : ℕ) → AnsAt t C q r l n → AnsWas C q l n
+turned-was : {s t : State} {B C : Trace} → TraceInv s B → Turned s B t C → (q : Ask) (r : List ℕ) (l : Value) (n : ℕ) → AnsAt t C q r l n → AnsWas C q l n
 turned-was {s} {t} {B} {C} u k q r l n a = elim (k .ans q r l n a) [
   | inl o ↦ let w = u .was q r l n o in let p = w .upto in
       record { upto = let m = k .ext .now in omega arith; few = w .few; was = w .was ∙ ap (valueOf q) (sym (k .ext .tabs n p)) }
@@ -235,10 +236,10 @@ turned-was {s} {t} {B} {C} u k q r l n a = elim (k .ans q r l n a) [
 
 -- what a read was promised stays, over a move
 pub promise-moves : {s t : State} {B C : Trace} → StateInv s → Move s t → Ext B C (t .tab)
-    → ((q : Key) (r : List ℕ) (l : Val) (n : ℕ) → AnsAt t C q r l n → AnsAt s B q r l n ⊎ NewAt t B q l n)
-    → (q : Key) (ns : List ℕ) (saw : Bool) (b : ℕ) → b ≤ B .now
-    → ((r : List ℕ) (l : Val) (n : ℕ) → AnsAt s B q r l n → (b ≤ n) ⊎ ((l ≡ valueOf q (B .tabs b)) ⊎ Behind s q ns saw r))
-    → (r : List ℕ) (l : Val) (n : ℕ) → AnsAt t C q r l n → (b ≤ n) ⊎ ((l ≡ valueOf q (C .tabs b)) ⊎ Behind t q ns saw r)
+    → ((q : Ask) (r : List ℕ) (l : Value) (n : ℕ) → AnsAt t C q r l n → AnsAt s B q r l n ⊎ NewAt t B q l n)
+    → (q : Ask) (ns : List ℕ) (saw : Bool) (b : ℕ) → b ≤ B .now
+    → ((r : List ℕ) (l : Value) (n : ℕ) → AnsAt s B q r l n → (b ≤ n) ⊎ ((l ≡ valueOf q (B .tabs b)) ⊎ Behind s q ns saw r))
+    → (r : List ℕ) (l : Value) (n : ℕ) → AnsAt t C q r l n → (b ≤ n) ⊎ ((l ≡ valueOf q (C .tabs b)) ⊎ Behind t q ns saw r)
 promise-moves v m x f q ns saw b lb p r l n a = elim (f q r l n a) [
   | inl o ↦ elim (p r l n o) [
     | inl z ↦ inl z
@@ -251,7 +252,7 @@ promise-moves v m x f q ns saw b lb p r l n a = elim (f q r l n a) [
 ]
 
 turned-reads : {s t : State} {B C : Trace} → StateInv s → Move s t → Ext B C (t .tab)
-    → ((q : Key) (r : List ℕ) (l : Val) (n : ℕ) → AnsAt t C q r l n → AnsAt s B q r l n ⊎ NewAt t B q l n)
+    → ((q : Ask) (r : List ℕ) (l : Value) (n : ℕ) → AnsAt t C q r l n → AnsAt s B q r l n ⊎ NewAt t B q l n)
     → (d : ℕ) (j : Job) (x : Phase) → JobOk B d j x → ReadsAt s B j x → ReadsAt t C j x
 turned-reads v m x f d j idle o p = tt
 turned-reads v m x f d j (looking q ns saw) o p = promise-moves v m x f q ns saw (begunBy j) (o .upto) p

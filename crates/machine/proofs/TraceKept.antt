@@ -9,26 +9,21 @@ use lib.Dec.{eqb, ltb}
 use borrow.Author.Tests.{eqb-true, eqb-false}
 use lib.ListN.{length}
 use Rattle.laws.proofs.TestLaws.{byTest}
-use Rattle.revisions.proofs.EffectiveRevision.{effective, pendingOf}
-use Rattle.machine.proofs.Sums.{upd-other, in-none}
-use Rattle.machine.proofs.Machine.{State, idle, announcing, node}
-use Rattle.machine.proofs.Machine.{at-client, with-store, with-filed, with-tab}
-use Rattle.machine.proofs.Machine.{Call}
-use Rattle.machine.proofs.Machine.{Response}
+use Rattle.revisions.specs.EffectiveRevision.{effective, pendingOf}
+use Rattle.machine.proofs.Sums.{upd-other}
+use Rattle.laws.proofs.Members.{in-none}
+use Rattle.machine.specs.Machine.{State, idle, announcing, node, at-client, with-store, with-filed, with-tab, Call, Response, isRefused}
 use Rattle.machine.proofs.FiledAnswers.{in-cut}
-use Rattle.machine.proofs.Moves.{move-refl, not-filing, grown}
-use Rattle.machine.proofs.Transition
-use Rattle.machine.proofs.Transition.{Transition}
+use Rattle.machine.proofs.Moves.{move-refl, not-filing, grown, cut-move, out-move}
+use Rattle.machine.specs.Transition.{Transition}
 use Rattle.machine.proofs.StateInv.{StateInv, fit-at, transition-move}
-use Rattle.machine.proofs.Trace.{reads, job, Trace, turn, tick}
-use Rattle.machine.proofs.Trace.{isRefused, accepted-trace, next-trace}
-use Rattle.machine.proofs.TraceInv.{JobOk, on-file, at-hand, ReadsAt, TraceInv}
-use Rattle.machine.proofs.TraceInv.{turn-ext, placed-ext}
-use Rattle.machine.proofs.Moves.{cut-move, out-move}
+use Rattle.machine.proofs.Trace.{job, Trace, turn, tick, accepted-trace, next-trace}
+use Rattle.machine.proofs.TraceInv.{JobOk, on-file, at-hand, ReadsAt, TraceInv, turn-ext, placed-ext}
 use Rattle.machine.proofs.TraceSteps.{job-at, ticked}
 use Rattle.machine.proofs.TraceReads.{trace-began, trace-looked, trace-missed, trace-hit, table-long, table-list, trace-took, trace-filed}
 use Rattle.machine.proofs.TraceReads.{trace-abandoned-read}
 use Rattle.machine.proofs.TraceWrites.{trace-began-write, trace-announced, trace-wrote, trace-raised, trace-ended, trace-abandoned-write}
+use Rattle.machine.specs.Transition
 
 -- a renewal: all desks idle, no answers
 trace-renewed : (s S : State) (B : Trace) → TraceInv s B → ((d : ℕ) → s .clients d ≡ idle) → S .clients ≡ s .clients → S .tab ≡ s .tab → S .filed ≡ []

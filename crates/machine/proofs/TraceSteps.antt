@@ -9,43 +9,41 @@ use native.Mathlib.Omega.{arith}
 use lib.Dec.{eqb}
 use borrow.Author.Tests.{eqb-true, eqb-false, eq-eqb, ne-eqb}
 use Rattle.laws.proofs.TestLaws.{byTest}
-use Rattle.rules.specs.Table.{Table, Write}
-use Rattle.machine.proofs.Sums.{upd, upd-same, upd-other, In}
-use Rattle.machine.proofs.Keys.{Key, Val, valueOf, short}
-use Rattle.machine.proofs.Machine.{State, Phase, idle, Ans}
-use Rattle.machine.proofs.Machine.{step, abandon}
-use Rattle.machine.proofs.Machine.{Response, answered, long}
+use Rattle.rules.specs.Table.{Table}
+use Rattle.rules.specs.Work.{Write, Ask, Value, valueOf, mayAnswer, Work, asking, writing}
+use Rattle.machine.specs.Machine.{upd, State, Phase, idle, Ans, step, abandon, Response, answered, long, isRefused}
+use Rattle.machine.proofs.Sums.{upd-same, upd-other}
+use Rattle.lists.specs.Lists.{In}
 use Rattle.machine.proofs.Moves.{Move, isFiling, not-filing}
 use Rattle.machine.proofs.StateInv.{StateInv}
-use Rattle.machine.proofs.Trace.{Act, reads, writes, tableStep, alone, Job, no-job, job, End, Op, no-op, at-table, from-file, Trace, turn, tick}
-use Rattle.machine.proofs.Trace.{job-after, placed, filing-of-act, filed-under, tabled-at, step-trace, begin-trace, abandon-trace, isRefused}
-use Rattle.machine.proofs.Trace.{accepted-trace, next-trace}
-use Rattle.machine.proofs.TraceInv.{begunBy, tabledBy, Placed, HasJob, JobOk, AnsAt, on-file, at-hand, ReadsAt, WriteAt, TraceInv}
-use Rattle.machine.proofs.TraceInv.{turn-ext, placed-ext, NewAt, Turned, turned}
+use Rattle.machine.proofs.Trace.{tableStep, alone, Job, no-job, job, End, Op, no-op, at-table, from-file, Trace, turn, tick, job-after, placed}
+use Rattle.machine.proofs.Trace.{filing-of-act, filed-under, tabled-at, step-trace, begin-trace, abandon-trace, accepted-trace, next-trace}
+use Rattle.machine.proofs.TraceInv.{begunBy, tabledBy, Placed, HasJob, JobOk, AnsAt, on-file, at-hand, ReadsAt, WriteAt, TraceInv, turn-ext}
+use Rattle.machine.proofs.TraceInv.{placed-ext, NewAt, Turned, turned}
 
 -- a write that stands at its table step stays there
 abbrev pub StillWrite : Op → Op → Type 0
 StillWrite no-op p = Unit
-StillWrite (at-table (reads q) i e) p = Unit
-StillWrite (at-table (writes w) i e) p = (f : End) × (p ≡ at-table (writes w) i f)
+StillWrite (at-table (asking q) i e) p = Unit
+StillWrite (at-table (writing w) i e) p = (f : End) × (p ≡ at-table (writing w) i f)
 StillWrite (from-file q i l n) p = Unit
 
 -- A step of the job at desk d.
-pub record TraceStep (s t : State) (B C : Trace) (d : ℕ) (x : Phase) (act : Act) (n : ℕ) (o : Op) (j : Job) (p : Op) : Type 0 where
+pub record TraceStep (s t : State) (B C : Trace) (d : ℕ) (x : Phase) (act : Work) (n : ℕ) (o : Op) (j : Job) (p : Op) : Type 0 where
   pub has : HasJob B d act n o (B .jobs d)
   pub clients : t .clients ≡ upd (s .clients) d x
   pub move : Move s t
   pub own : JobOk C d j x
   pub reads : ReadsAt t C j x
   pub place : Placed C (begunBy (B .jobs d)) p
-  pub turn : (t .tab ≡ s .tab) ⊎ ((w : Write) × (e : End) × (p ≡ at-table (writes w) (suc (B .now)) e))
+  pub turn : (t .tab ≡ s .tab) ⊎ ((w : Write) × (e : End) × (p ≡ at-table (writing w) (suc (B .now)) e))
   pub still : StillWrite o p
-  pub ans : (q : Key) (r : List ℕ) (l : Val) (m : ℕ) → AnsAt t C q r l m → AnsAt s B q r l m ⊎ NewAt t B q l m
+  pub ans : (q : Ask) (r : List ℕ) (l : Value) (m : ℕ) → AnsAt t C q r l m → AnsAt s B q r l m ⊎ NewAt t B q l m
 
-abbrev pub stepped : State → Trace → ℕ → Job → (Key → ℕ) → Op → Trace
+abbrev pub stepped : State → Trace → ℕ → Job → (Ask → ℕ) → Op → Trace
 stepped t B d j fs p = turn B (t .tab) 0 (begunBy (B .jobs d)) (upd (B .jobs) d j) fs (upd (B .ops) (begunBy (B .jobs d)) p)
 
-step-kept : (s t : State) (B : Trace) (d : ℕ) (x : Phase) (act : Act) (n : ℕ) (o : Op) (j : Job) (fs : Key → ℕ) (p : Op)
+step-kept : (s t : State) (B : Trace) (d : ℕ) (x : Phase) (act : Work) (n : ℕ) (o : Op) (j : Job) (fs : Ask → ℕ) (p : Op)
     → TraceStep s t B (stepped t B d j fs p) d x act n o j p → (i : ℕ) → i ≤ B .now → WriteAt B i → WriteAt (stepped t B d j fs p) i
 unfolding turn
 step-kept s t B d x act n o j fs p k i l z =
@@ -53,12 +51,12 @@ step-kept s t B d x act n o j fs p k i l z =
     let w = upd-other (B .who) (suc (B .now)) b i (λ e. omega arith) in
     byTest (eqb (B .who i) b)
     (λ e. let e′ = eqb-true (B .who i) b e in
-    let y : o ≡ at-table (writes (z .0)) i (z .1) = sym (k .has .op) ∙ ap (B .ops) (sym e′) ∙ z .2 in
+    let y : o ≡ at-table (writing (z .0)) i (z .1) = sym (k .has .op) ∙ ap (B .ops) (sym e′) ∙ z .2 in
     let f = subst (λ y. StillWrite y p) y (k .still) in
     (z .0, f .0, rw w (ap (upd (B .ops) b p) e′ ∙ upd-same (B .ops) b p ∙ f .1)))
     (λ e. (z .0, z .1, rw w (upd-other (B .ops) b p (B .who i) (eqb-false (B .who i) b e) ∙ z .2)))
 
-pub step-turned : (s t : State) (B : Trace) (d : ℕ) (x : Phase) (act : Act) (n : ℕ) (o : Op) (j : Job) (fs : Key → ℕ) (p : Op) → TraceInv s B
+pub step-turned : (s t : State) (B : Trace) (d : ℕ) (x : Phase) (act : Work) (n : ℕ) (o : Op) (j : Job) (fs : Ask → ℕ) (p : Op) → TraceInv s B
     → TraceStep s t B (stepped t B d j fs p) d x act n o j p → Turned s B t (stepped t B d j fs p)
 step-turned s t B d x act n o j fs p u k =
     let b = begunBy (B .jobs d) in
@@ -92,29 +90,29 @@ step-turned s t B d x act n o j fs p u k =
       ans = k .ans;
     }
   where
-    own-at : (s t : State) (B : Trace) (d : ℕ) (x : Phase) (act : Act) (n : ℕ) (o : Op) (j : Job) (fs : Key → ℕ) (p : Op) → TraceStep s t B (stepped t B d j fs p) d x act n o j p
+    own-at : (s t : State) (B : Trace) (d : ℕ) (x : Phase) (act : Work) (n : ℕ) (o : Op) (j : Job) (fs : Ask → ℕ) (p : Op) → TraceStep s t B (stepped t B d j fs p) d x act n o j p
         → JobOk (stepped t B d j fs p) d (stepped t B d j fs p .jobs d) (t .clients d) × ReadsAt t (stepped t B d j fs p) (stepped t B d j fs p .jobs d) (t .clients d)
     own-at s t B d x act n o j fs p k =
         let e : stepped t B d j fs p .jobs d ≡ j = unfold turn in (upd-same (B .jobs) d j) in
         let f : t .clients d ≡ x = ap (λ g. g d) (k .clients) ∙ upd-same (s .clients) d x in
         rw (e, f) (k .own, k .reads)
 
-    place-at : (s t : State) (B : Trace) (d : ℕ) (x : Phase) (act : Act) (n : ℕ) (o : Op) (j : Job) (fs : Key → ℕ) (p : Op) → TraceStep s t B (stepped t B d j fs p) d x act n o j p
+    place-at : (s t : State) (B : Trace) (d : ℕ) (x : Phase) (act : Work) (n : ℕ) (o : Op) (j : Job) (fs : Ask → ℕ) (p : Op) → TraceStep s t B (stepped t B d j fs p) d x act n o j p
         → Placed (stepped t B d j fs p) (begunBy (B .jobs d)) (stepped t B d j fs p .ops (begunBy (B .jobs d)))
     place-at s t B d x act n o j fs p k =
         let e : stepped t B d j fs p .ops (begunBy (B .jobs d)) ≡ p = unfold turn in (upd-same (B .ops) (begunBy (B .jobs d)) p) in
         rw e (k .place)
 
 -- the table step's number
-pub tabled-on : (x : Act) (n i t : ℕ) → (n ≡ tableStep x → ⊥) → tabled-at x n i t ≡ t
+pub tabled-on : (x : Work) (n i t : ℕ) → (n ≡ tableStep x → ⊥) → tabled-at x n i t ≡ t
 unfolding tabled-at
 tabled-on x n i t ne = rw (ne-eqb n (tableStep x) ne) refl
 
-pub tabled-now : (x : Act) (n i t : ℕ) → n ≡ tableStep x → tabled-at x n i t ≡ i
+pub tabled-now : (x : Work) (n i t : ℕ) → n ≡ tableStep x → tabled-at x n i t ≡ i
 unfolding tabled-at
 tabled-now x n i t e = rw (eq-eqb n (tableStep x) e) refl
 
-pub stepped-inv : (s t : State) (B : Trace) (d : ℕ) (x : Phase) (act : Act) (n : ℕ) (o : Op) (j : Job) (p : Op) (a : Response) (m : ℕ) → StateInv s
+pub stepped-inv : (s t : State) (B : Trace) (d : ℕ) (x : Phase) (act : Work) (n : ℕ) (o : Op) (j : Job) (p : Op) (a : Response) (m : ℕ) → StateInv s
     → TraceInv s B
     → isRefused a ≡ false → tabled-at act (suc n) (suc (B .now)) (tabledBy (B .jobs d)) ≡ m
     → job-after act (suc n) (begunBy (B .jobs d)) m a ≡ j
@@ -127,7 +125,7 @@ stepped-inv s t B d x act n o j p a m v u r e f g k =
     (rw (e, f, g) (turned v u (step-turned s t B d x act n o j (filed-under act (suc n) (tabledBy (B .jobs d)) a (B .filings)) p u k))))
 
 -- the job after it
-pub has-next : (t : State) (B : Trace) (d : ℕ) (act : Act) (n : ℕ) (o : Op) (fs : Key → ℕ) (p : Op) (m τ : ℕ) → HasJob B d act n o (B .jobs d)
+pub has-next : (t : State) (B : Trace) (d : ℕ) (act : Work) (n : ℕ) (o : Op) (fs : Ask → ℕ) (p : Op) (m τ : ℕ) → HasJob B d act n o (B .jobs d)
     → HasJob (stepped t B d (job act m (begunBy (B .jobs d)) τ) fs p) d act m p (job act m (begunBy (B .jobs d)) τ)
 unfolding turn
 has-next t B d act n o fs p m τ h = record {
@@ -139,10 +137,10 @@ has-next t B d act n o fs p m τ h = record {
 }
 
 -- no new answers
-pub quiet-ans : (s t : State) (B : Trace) (d b o : ℕ) (x : Phase) (j : Job) (fs : Key → ℕ) (os : ℕ → Op) → t .clients ≡ upd (s .clients) d x
+pub quiet-ans : (s t : State) (B : Trace) (d b o : ℕ) (x : Phase) (j : Job) (fs : Ask → ℕ) (os : ℕ → Op) → t .clients ≡ upd (s .clients) d x
     → ((a : Ans) → In a (t .filed) → In a (s .filed))
-    → ((q : Key) → fs q ≡ B .filings q) → isFiling x ≡ false
-    → (q : Key) (r : List ℕ) (l : Val) (m : ℕ) → AnsAt t (turn B (t .tab) o b (upd (B .jobs) d j) fs os) q r l m → AnsAt s B q r l m ⊎ NewAt t B q l m
+    → ((q : Ask) → fs q ≡ B .filings q) → isFiling x ≡ false
+    → (q : Ask) (r : List ℕ) (l : Value) (m : ℕ) → AnsAt t (turn B (t .tab) o b (upd (B .jobs) d j) fs os) q r l m → AnsAt s B q r l m ⊎ NewAt t B q l m
 unfolding turn
 quiet-ans s t B d b o x j fs os e f g n q r l m (on-file i k) = inl (on-file (f _ i) (sym (g q) ∙ k))
 quiet-ans s t B d b o x j fs os e f g n q r l m (at-hand d′ i k) = byTest (eqb d′ d)
@@ -158,11 +156,11 @@ pub promised-at : (s : State) (B : Trace) (d : ℕ) (x : Phase) → TraceInv s B
 promised-at s B d x u e = subst (λ y. ReadsAt s B (B .jobs d) y) e (u .reads d)
 
 -- a read's answer on a bare table
-pub alone-list : (q : Key) (l : Val) (T : Table) → short l ≡ true → l ≡ valueOf q T → answered l false ≡ alone (reads q) T
+pub alone-list : (q : Ask) (l : Value) (T : Table) → mayAnswer l ≡ true → l ≡ valueOf q T → answered l false ≡ alone (asking q) T
 unfolding alone
 alone-list q l T f e = rw (← e, f) refl
 
-pub alone-long : (q : Key) (T : Table) → short (valueOf q T) ≡ false → long ≡ alone (reads q) T
+pub alone-long : (q : Ask) (T : Table) → mayAnswer (valueOf q T) ≡ false → long ≡ alone (asking q) T
 unfolding alone
 alone-long q T f = rw f refl
 
@@ -217,7 +215,7 @@ ticked s t B v u mv ds tb fl =
       ans = λ q r l m a. inl (elim a [ on-file i k ↦ on-file (fl _ i) k | at-hand d i k ↦ at-hand d (sym (ap (λ f. f d) ds) ∙ i) k ]);
     })
 
-pub abandoned-inv : (s t : State) (B : Trace) (d : ℕ) (act : Act) (n : ℕ) (o p : Op) (a : Response) → StateInv s → TraceInv s B → isRefused a ≡ false
+pub abandoned-inv : (s t : State) (B : Trace) (d : ℕ) (act : Work) (n : ℕ) (o p : Op) (a : Response) → StateInv s → TraceInv s B → isRefused a ≡ false
     → placed act (begunBy (B .jobs d)) (tabledBy (B .jobs d)) 0 (suc (B .now)) a ≡ p
     → TraceStep s t B (stepped t B d no-job (B .filings) p) d idle act n o no-job p
     → TraceInv t (next-trace B (abandon d) a (t .tab))
@@ -230,7 +228,7 @@ abandoned-inv s t B d act n o p a v u r e k =
 new-op : (s : State) (B : Trace) → TraceInv s B → B .ops (suc (B .now)) ≡ no-op
 new-op s B u = u .later (suc (B .now)) (omega arith)
 
-pub begun-has : (s : State) (B : Trace) (d : ℕ) (x : Act) (T : Table) → TraceInv s B
+pub begun-has : (s : State) (B : Trace) (d : ℕ) (x : Work) (T : Table) → TraceInv s B
     → HasJob (begin-trace B d x T) d x 0 no-op (job x 0 (suc (B .now)) 0)
 unfolding begin-trace turn
 begun-has s B d x T u = record

@@ -1,7 +1,7 @@
 -- What the functions that find, add and alter a label's node leave in the nodes memory, in the terms of the code. Leans on the rules' definitions
 -- and on the laws of NodeStores, NodeScans and NodeSizes. Assumes nothing.
 use mathlib.Core.Path.{_≡_, refl, sym, ap, _∙_}
-use mathlib.Core.Bool.{Bool, true, false, cond, _&&_}
+use mathlib.Core.Bool.{Bool, true, false, cond}
 use mathlib.Core.List.{List, []}
 use mathlib.Core.Option.{Option, none, some}
 use mathlib.Core.Logic.{_⊎_, inl, inr, ⊎-elim}
@@ -9,10 +9,11 @@ use Prim.Native.Nat.{ℕ, _+_, _*_, _-_, _≤_, _<_}
 use native.Mathlib.Omega.{arith}
 use lib.Dec.{ltb, leb}
 use lib.ListN.{length, getD, set}
-use lib.Seq.{getD-set-other}
+use lib.Seq.{getD-set-other, set-comm}
 use borrow.Author.Tests.{lt-ltb, le-ltb, le-leb, lt-leb}
-use Rattle.laws.proofs.ListLaws.{and-true, false-left, false-right, true-false}
-use Rattle.rules.specs.Nodes.{Words, Store, store, pending, revision, withPending, withRevision, nodePlace, isPresent, nodeOf, withNode, evictNode, added, oldestFree, makeRoom, addedIn, ensured, announcedIn, announced, isPending, released, raised}
+use Rattle.laws.proofs.ListLaws.{false-left, true-false}
+use Rattle.rules.specs.Nodes.{Words, Store, pending, revision, withPending, withRevision, nodePlace, isPresent, nodeOf, withNode, evictNode}
+use Rattle.rules.specs.Nodes.{added, oldestFree, makeRoom, addedIn, ensured, announcedIn, announced, isPending, mayRetire}
 use Rattle.lists.specs.Lists.{header}
 use Rattle.query.specs.Encoding.{labelWidth}
 use Rattle.query.specs.Shape.{narrow}
@@ -21,16 +22,70 @@ use Rattle.rules.specs.Memory.{storeIn, withStore}
 use Rattle.nodes.specs.declared.Sight.the-variants.{Seen, Stuck}
 use Rattle.nodes.specs.declared.Spot.the-variants.{At, Nowhere}
 use Rattle.nodes.specs.declared.Spot.{Spot}
-use Rattle.nodes.specs.NodeContracts.{Fit, Tried, attempt, tried, saw, looked, Placed, put, placed, pendingSpot, releasedAt}
+use Rattle.nodes.specs.NodeContracts.{Fit, Tried, attempt, tried, saw, looked, Placed, put, placed}
+use Rattle.nodes.specs.NodeContracts.{retirableSpot, nodeAt, releasedAt, liftedAt, retiredAt}
 use Rattle.nodes.proofs.NodeStores.{Sized, Keeps, count-nodes, sized-in, count-store, keeps-store, store-back, store-self, store-twice, store-word}
 use Rattle.nodes.proofs.NodeScans.{pending-at, revision-at}
-use Rattle.nodes.proofs.NodeSizes.{sized-word, sized-released, length-word, place-word, Room, made-room, Present, made-present, added-place, added-more, sized-added}
+use Rattle.nodes.proofs.NodeSizes.{sized-word, length-word, length-lifted-at, length-retired-at, sized-lifted-at, sized-retired-at}
+use Rattle.nodes.proofs.NodeSizes.{Room, made-room, Present, made-present, added-place, added-more, sized-added}
 
--- ---- one taken off node i
-pub release-at : (s : List ℕ) (i : ℕ) → Fit s → i < getD s nodeCountOffset 0 → set s (header + i * nodeWidth + pendingOffset) (getD s (header + i * nodeWidth + pendingOffset) 0 - 1) ≡ withStore narrow s (releasedAt i (storeIn narrow s))
-unfolding releasedAt withPending
-release-at s i f h =
-    sym (store-word s f i 5 (pending (getD (storeIn narrow s .nodes) i []) - 1) h (omega arith) ∙ ap (λ (x : ℕ). set s (header + i * nodeWidth + pendingOffset) (x - 1)) (pending-at s i h))
+-- where the pending writes and the revision of node i stand in the memory
+abbrev pendingPlace : ℕ → ℕ
+pendingPlace i = header + i * nodeWidth + pendingOffset
+
+abbrev revisionPlace : ℕ → ℕ
+revisionPlace i = header + i * nodeWidth + revisionOffset
+
+-- ---- a mark taken off node i
+module _ (s : List ℕ) (i : ℕ) (f : Fit s) (h : i < getD s nodeCountOffset 0) where
+  release-at : set s (pendingPlace i) (getD s (pendingPlace i) 0 - 1) ≡ withStore narrow s (releasedAt i (storeIn narrow s))
+  unfolding releasedAt withPending
+  release-at =
+      sym (store-word s f i 5 (pending (nodeAt i (storeIn narrow s)) - 1) h (omega arith)
+      ∙ ap (λ (x : ℕ). set s (pendingPlace i) (x - 1)) (pending-at s i h))
+
+  lift-at : set s (revisionPlace i) (getD s (revisionPlace i) 0 + 1) ≡ withStore narrow s (liftedAt true i (storeIn narrow s))
+  unfolding liftedAt withRevision
+  lift-at =
+      sym (store-word s f i 6 (revision narrow (nodeAt i (storeIn narrow s)) + 1) h (omega arith)
+      ∙ ap (λ (x : ℕ). set s (revisionPlace i) (x + 1)) (revision-at s i h))
+
+module _ (s : List ℕ) (i : ℕ) (lift : Bool) (f : Fit s) (h : i < getD s nodeCountOffset 0) where
+  -- without a lift one number is altered
+  pub retire-plain : lift ≡ false
+      → set s (pendingPlace i) (getD s (pendingPlace i) 0 - 1) ≡ withStore narrow s (retiredAt lift i (storeIn narrow s))
+  unfolding retiredAt liftedAt
+  retire-plain e = rw e (release-at s i f h)
+
+  -- with a lift the revision is another number of the same node
+  pub retire-lifted : lift ≡ true
+      → set (set s (pendingPlace i) (getD s (pendingPlace i) 0 - 1)) (revisionPlace i) (getD s (revisionPlace i) 0 + 1)
+      ≡ withStore narrow s (retiredAt lift i (storeIn narrow s))
+  unfolding retiredAt
+  retire-lifted e =
+      let x : ℕ = getD s (pendingPlace i) 0 - 1 in
+      let y : ℕ = getD s (revisionPlace i) 0 + 1 in
+      let o : Store = storeIn narrow s in
+      let t : Store = liftedAt true i o in
+      let u : List ℕ = set s (revisionPlace i) y in
+      let n : length (o .nodes) ≡ getD s nodeCountOffset 0 = count-nodes s in
+      let m : length (t .nodes) ≡ length (o .nodes) = length-lifted-at true i o in
+      let l : length (retiredAt true i o .nodes) ≡ length (o .nodes) = length-retired-at true i o in
+      let z : Sized t = sized-lifted-at true i o (omega arith) (sized-in s f) in
+      let w : Sized (releasedAt i t) = sized-retired-at true i o (omega arith) (sized-in s f) in
+      let a : u ≡ withStore narrow s t = lift-at s i f h in
+      let b : storeIn narrow u ≡ t = ap (storeIn narrow) a ∙ store-back s t f z in
+      let k : Keeps s u = rw a (keeps-store s t f z) in
+      let d : getD u nodeCountOffset 0 ≡ getD s nodeCountOffset 0 = getD-set-other s (revisionPlace i) 1 y 0 (λ q. omega arith) in
+      let p : getD u (pendingPlace i) 0 ≡ getD s (pendingPlace i) 0 =
+      getD-set-other s (revisionPlace i) (pendingPlace i) y 0 (λ q. omega arith) in
+      rw e
+      (set-comm s (pendingPlace i) (revisionPlace i) x y (λ q. omega arith)
+      ∙ ap (λ (r : ℕ). set u (pendingPlace i) (r - 1)) (sym p)
+      ∙ release-at u i (k .fit) (omega arith)
+      ∙ ap (λ (r : Store). withStore narrow u (releasedAt i r)) b
+      ∙ ap (λ (r : List ℕ). withStore narrow r (releasedAt i t)) a
+      ∙ store-twice s t (releasedAt i t) f z w (λ q. omega arith))
 
 -- ---- the label's node at place i
 module _ (p : Words) (s : List ℕ) (i : ℕ) (e : i ≡ nodePlace p (storeIn narrow s .nodes)) where
@@ -42,6 +97,10 @@ module _ (p : Words) (s : List ℕ) (i : ℕ) (e : i ≡ nodePlace p (storeIn na
   pending-missing : getD s nodeCountOffset 0 ≤ i → false ≡ isPending p (storeIn narrow s)
   unfolding isPending
   pending-missing h = sym (false-left (isPresent p (storeIn narrow s)) (ltb 0 (pending (nodeOf p (storeIn narrow s)))) (missing h))
+
+  spot-none : (lift : Bool) → isPending p (storeIn narrow s) ≡ false → Nowhere ≡ retirableSpot lift p (storeIn narrow s)
+  unfolding retirableSpot mayRetire
+  spot-none lift h = rw h
 
   module _ (h : i < getD s nodeCountOffset 0) where
     there : isPresent p (storeIn narrow s) ≡ true
@@ -67,73 +126,29 @@ module _ (p : Words) (s : List ℕ) (i : ℕ) (e : i ≡ nodePlace p (storeIn na
     unfolding withNode nodeOf
     word-here j x f k = rw (← e) (store-word s f i j x h k)
 
-    release-here : Fit s → set s (header + i * nodeWidth + pendingOffset) (getD s (header + i * nodeWidth + pendingOffset) 0 - 1) ≡ withStore narrow s (released p (storeIn narrow s))
-    unfolding releasedAt released withNode nodeOf
-    release-here f = release-at s i f h ∙ ap (λ (j : ℕ). withStore narrow s (releasedAt j (storeIn narrow s))) e
+    -- where it stands, if a mark can be taken off it
+    module _ (lift : Bool) where
+      pub spot-idle : getD s (pendingPlace i) 0 ≡ 0 → Nowhere ≡ retirableSpot lift p (storeIn narrow s)
+      spot-idle z = spot-none lift (sym pending-test ∙ le-ltb 0 (getD s (pendingPlace i) 0) (omega arith))
 
-    -- where it stands, if it has a pending write
-    pub spot-idle : getD s (header + i * nodeWidth + pendingOffset) 0 ≡ 0 → Nowhere ≡ pendingSpot p (storeIn narrow s)
-    unfolding pendingSpot
-    spot-idle z = rw (← pending-test, le-ltb 0 (getD s (header + i * nodeWidth + pendingOffset) 0) (omega arith))
+      module _ (z : getD s (pendingPlace i) 0 ≡ 0 → ⊥) where
+        marked : isPending p (storeIn narrow s) ≡ true
+        marked = sym pending-test ∙ lt-ltb 0 (getD s (pendingPlace i) 0) (omega arith)
 
-    pub spot-there : (getD s (header + i * nodeWidth + pendingOffset) 0 ≡ 0 → ⊥) → At i ≡ pendingSpot p (storeIn narrow s)
-    unfolding pendingSpot
-    spot-there z = rw (← pending-test, lt-ltb 0 (getD s (header + i * nodeWidth + pendingOffset) 0) (omega arith)) (ap At e)
+        pub spot-plain : lift ≡ false → At i ≡ retirableSpot lift p (storeIn narrow s)
+        unfolding retirableSpot mayRetire
+        spot-plain d = rw (marked, d) (ap At e)
 
-  pub spot-missing : getD s nodeCountOffset 0 ≤ i → Nowhere ≡ pendingSpot p (storeIn narrow s)
-  unfolding pendingSpot
-  spot-missing h = rw (← pending-missing h)
+        pub spot-largest : lift ≡ true → maxRevision narrow ≤ getD s (revisionPlace i) 0 → Nowhere ≡ retirableSpot lift p (storeIn narrow s)
+        unfolding retirableSpot mayRetire
+        spot-largest d k = rw (marked, d, revision-here, le-ltb (getD s (revisionPlace i) 0) (maxRevision narrow) k)
 
--- ---- a raise
-raised-not : (p : Words) (s : List ℕ) → isPending p (storeIn narrow s) && ltb (revision narrow (nodeOf p (storeIn narrow s))) (maxRevision narrow) ≡ false → attempt false s ≡ tried s (raised narrow p (storeIn narrow s))
-unfolding raised tried
-raised-not p s h = rw h
+        pub spot-lifted : lift ≡ true → getD s (revisionPlace i) 0 < maxRevision narrow → At i ≡ retirableSpot lift p (storeIn narrow s)
+        unfolding retirableSpot mayRetire
+        spot-lifted d k = rw (marked, d, revision-here, lt-ltb (getD s (revisionPlace i) 0) (maxRevision narrow) k) (ap At e)
 
-raised-so : (p : Words) (s : List ℕ) → isPending p (storeIn narrow s) && ltb (revision narrow (nodeOf p (storeIn narrow s))) (maxRevision narrow) ≡ true
-    → tried s (raised narrow p (storeIn narrow s)) ≡ attempt true (withStore narrow s (released p (withNode p (set (nodeOf p (storeIn narrow s)) 6 (revision narrow (nodeOf p (storeIn narrow s)) + 1)) (storeIn narrow s))))
-unfolding raised tried withRevision
-raised-so p s h = rw h
-
-module _ (p : Words) (s : List ℕ) (i : ℕ) (e : i ≡ nodePlace p (storeIn narrow s .nodes)) where
-  pub raise-missing : getD s nodeCountOffset 0 ≤ i → attempt false s ≡ tried s (raised narrow p (storeIn narrow s))
-  raise-missing h = raised-not p s (false-left (isPending p (storeIn narrow s)) (ltb (revision narrow (nodeOf p (storeIn narrow s))) (maxRevision narrow)) (sym (pending-missing p s i e h)))
-
-  module _ (h : i < getD s nodeCountOffset 0) where
-    pub raise-idle : getD s (header + i * nodeWidth + pendingOffset) 0 ≡ 0 → attempt false s ≡ tried s (raised narrow p (storeIn narrow s))
-    raise-idle z =
-        raised-not p s (false-left (isPending p (storeIn narrow s)) (ltb (revision narrow (nodeOf p (storeIn narrow s))) (maxRevision narrow))
-        (sym (pending-test p s i e h) ∙ le-ltb 0 (getD s (header + i * nodeWidth + pendingOffset) 0) (omega arith)))
-
-    pub raise-largest : maxRevision narrow ≤ getD s (header + i * nodeWidth + revisionOffset) 0 → attempt false s ≡ tried s (raised narrow p (storeIn narrow s))
-    raise-largest z =
-        raised-not p s (false-right (isPending p (storeIn narrow s)) (ltb (revision narrow (nodeOf p (storeIn narrow s))) (maxRevision narrow))
-        (rw (revision-here p s i e h) (le-ltb (getD s (header + i * nodeWidth + revisionOffset) 0) (maxRevision narrow) z)))
-
-    -- the revision is set first, then the pending writes
-    pub raise-both : Fit s → (getD s (header + i * nodeWidth + pendingOffset) 0 ≡ 0 → ⊥) → getD s (header + i * nodeWidth + revisionOffset) 0 < maxRevision narrow
-        → attempt true (set (set s (header + i * nodeWidth + revisionOffset) (getD s (header + i * nodeWidth + revisionOffset) 0 + 1)) (header + i * nodeWidth + pendingOffset) (getD s (header + i * nodeWidth + pendingOffset) 0 - 1)) ≡ tried s (raised narrow p (storeIn narrow s))
-    raise-both f y z =
-        let x : ℕ = revision narrow (nodeOf p (storeIn narrow s)) + 1 in
-        let t : Store = withNode p (set (nodeOf p (storeIn narrow s)) 6 x) (storeIn narrow s) in
-        let u : List ℕ = set s (header + i * nodeWidth + revisionOffset) (getD s (header + i * nodeWidth + revisionOffset) 0 + 1) in
-        let sized : Sized t = sized-word p (storeIn narrow s) 6 x (sized-in s f) in
-        let a : withStore narrow s t ≡ u = word-here p s i e h 6 x f (omega arith) ∙ ap (λ (r : ℕ). set s (header + i * nodeWidth + revisionOffset) (r + 1)) (revision-here p s i e h) in
-        let b : storeIn narrow u ≡ t = ap (storeIn narrow) (sym a) ∙ store-back s t f sized in
-        let k : Keeps s u = rw a at (keeps-store s t f sized) in
-        let l : length (t .nodes) ≡ length (storeIn narrow s .nodes) = length-word p (set (nodeOf p (storeIn narrow s)) 6 x) (storeIn narrow s) in
-        let n : length (storeIn narrow s .nodes) ≡ getD s nodeCountOffset 0 = count-nodes s in
-        let d : getD u nodeCountOffset 0 ≡ getD s nodeCountOffset 0 = getD-set-other s (header + i * nodeWidth + revisionOffset) 1 (getD s (header + i * nodeWidth + revisionOffset) 0 + 1) 0 (λ q. omega arith) in
-        let m : getD u (header + i * nodeWidth + pendingOffset) 0 ≡ getD s (header + i * nodeWidth + pendingOffset) 0 = getD-set-other s (header + i * nodeWidth + revisionOffset) (header + i * nodeWidth + pendingOffset) (getD s (header + i * nodeWidth + revisionOffset) 0 + 1) 0 (λ q. omega arith) in
-        let o : i ≡ nodePlace p (storeIn narrow u .nodes) = e ∙ sym (place-word p (storeIn narrow s) 6 x (omega arith)) ∙ ap (λ (r : Store). nodePlace p (r .nodes)) (sym b) in
-        let v : set u (header + i * nodeWidth + pendingOffset) (getD s (header + i * nodeWidth + pendingOffset) 0 - 1) ≡ withStore narrow s (released p t) =
-        ap (λ (r : ℕ). set u (header + i * nodeWidth + pendingOffset) (r - 1)) (sym m)
-        ∙ release-here p u i o (omega arith) (k .fit)
-        ∙ ap (λ (r : Store). withStore narrow u (released p r)) b
-        ∙ ap (λ (r : List ℕ). withStore narrow r (released p t)) (sym a)
-        ∙ store-twice s t (released p t) f sized (sized-released p t sized) (λ q. omega arith) in
-        let q : isPending p (storeIn narrow s) ≡ true = sym (pending-test p s i e h) ∙ lt-ltb 0 (getD s (header + i * nodeWidth + pendingOffset) 0) (omega arith) in
-        let w : ltb (revision narrow (nodeOf p (storeIn narrow s))) (maxRevision narrow) ≡ true = rw (revision-here p s i e h) (lt-ltb (getD s (header + i * nodeWidth + revisionOffset) 0) (maxRevision narrow) z) in
-        ap (attempt true) v ∙ sym (raised-so p s (and-true (isPending p (storeIn narrow s)) (ltb (revision narrow (nodeOf p (storeIn narrow s))) (maxRevision narrow)) q w))
+  pub spot-missing : (lift : Bool) → getD s nodeCountOffset 0 ≤ i → Nowhere ≡ retirableSpot lift p (storeIn narrow s)
+  spot-missing lift h = spot-none lift (sym (pending-missing h))
 
 -- ---- room for a node more
 module _ (s : List ℕ) where

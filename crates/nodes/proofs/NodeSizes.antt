@@ -1,7 +1,7 @@
 -- What the operations on the floor and the nodes keep: nodes of 8 numbers, at most 1,024 of them; and where the label's node stands afterwards.
 -- Leans on the rules' definitions and on the laws of entries. Assumes nothing.
 use mathlib.Core.Path.{_≡_, refl, ap, _∙_}
-use mathlib.Core.Bool.{Bool, true, false, cond, _&&_}
+use mathlib.Core.Bool.{Bool, true, false, cond}
 use mathlib.Core.List.{List, [], _∷_, _++_}
 use mathlib.Core.Option.{Option, none, some}
 use mathlib.Core.Logic.{_⊎_, inl, inr}
@@ -15,11 +15,13 @@ use Rattle.lists.specs.Lists.{same, place, without}
 use Rattle.laws.proofs.ListLaws.{same-refl, length-without}
 use Rattle.laws.proofs.SearchLaws.{place-le}
 use Rattle.laws.proofs.RowLaws.{wide-nil, wide-set, wide-without, wide-snoc, wide-at}
-use Rattle.rules.specs.Nodes.{Words, Node, Store, store, labelIn, pending, revision, withPending, withRevision, hasLabel, nodePlace, isPresent, nodeOf, withNode, evictNode, added, oldestFree, makeRoom, addedIn, ensured, announcedIn, announced, isPending, released, raised, releasedAll}
+use Rattle.rules.specs.Nodes.{Words, Node, Store, store, labelIn, pending, revision, withPending, withRevision, hasLabel, nodePlace}
+use Rattle.rules.specs.Nodes.{isPresent, nodeOf, withNode, evictNode, added, oldestFree, makeRoom, addedIn, ensured, announcedIn, announced}
+use Rattle.rules.specs.Nodes.{released, lifted, mayRetire, retired}
 use Rattle.query.specs.Encoding.{labelWidth}
 use Rattle.query.specs.Shape.{narrow}
-use Rattle.rules.specs.Layout.{maxNodes, maxPending, maxRevision}
-use Rattle.nodes.specs.NodeContracts.{releasedAt}
+use Rattle.rules.specs.Layout.{maxNodes, maxPending}
+use Rattle.nodes.specs.NodeContracts.{nodeAt, withNodeAt, releasedAt, liftedAt, retiredAt}
 use Rattle.nodes.proofs.NodeStores.{Sized}
 use Rattle.nodes.proofs.NodePlaces.{place-set, place-snoc, place-without}
 
@@ -71,25 +73,85 @@ place-word p t j x h =
     let n : Node = getD (t .nodes) (place (hasLabel p) (t .nodes)) [] in
     place-set (hasLabel p) (t .nodes) (place (hasLabel p) (t .nodes)) (set n j x) [] (label-word p n j x h)
 
--- a mark taken back: every label's node stands where it stood
-pub place-released : (p q : Words) (t : Store) → nodePlace q (released p t .nodes) ≡ nodePlace q (t .nodes)
-unfolding nodePlace released withPending withNode nodeOf
-place-released p q t =
+-- a mark taken off, with a lift or without: every label's node stands where it stood
+place-altered : (p q : Words) (t : Store) (j x : ℕ) → 5 ≤ j
+    → nodePlace q (withNode p (set (nodeOf p t) j x) t .nodes) ≡ nodePlace q (t .nodes)
+unfolding nodePlace withNode nodeOf
+place-altered p q t j x h =
     let n : Node = getD (t .nodes) (place (hasLabel p) (t .nodes)) [] in
-    place-set (hasLabel q) (t .nodes) (place (hasLabel p) (t .nodes)) (set n 5 (pending n - 1)) [] (label-word q n 5 (pending n - 1) (omega arith))
+    place-set (hasLabel q) (t .nodes) (place (hasLabel p) (t .nodes)) (set n j x) [] (label-word q n j x h)
 
-pub sized-released : (p : Words) (t : Store) → Sized t → Sized (released p t)
+place-lifted : (lift : Bool) (p q : Words) (t : Store) → nodePlace q (lifted narrow lift p t .nodes) ≡ nodePlace q (t .nodes)
+unfolding lifted withRevision
+place-lifted true p q t = place-altered p q t 6 (revision narrow (nodeOf p t) + 1) (omega arith)
+place-lifted false p q t = refl
+
+place-released : (p q : Words) (t : Store) → nodePlace q (released p t .nodes) ≡ nodePlace q (t .nodes)
+unfolding released withPending
+place-released p q t = place-altered p q t 5 (pending (nodeOf p t) - 1) (omega arith)
+
+pub place-retired : (lift : Bool) (p q : Words) (t : Store)
+    → nodePlace q (released p (lifted narrow lift p t) .nodes) ≡ nodePlace q (t .nodes)
+place-retired lift p q t = place-released p q (lifted narrow lift p t) ∙ place-lifted lift p q t
+
+-- by the label as by its place
+released-at : (p : Words) (t : Store) → released p t ≡ releasedAt (nodePlace p (t .nodes)) t
+unfolding released releasedAt withNode nodeOf
+released-at p t = refl
+
+lifted-at : (lift : Bool) (p : Words) (t : Store) → lifted narrow lift p t ≡ liftedAt lift (nodePlace p (t .nodes)) t
+unfolding lifted liftedAt withNode nodeOf
+lifted-at lift p t = refl
+
+pub retired-at : (lift : Bool) (p : Words) (t : Store) → released p (lifted narrow lift p t) ≡ retiredAt lift (nodePlace p (t .nodes)) t
+unfolding retiredAt
+retired-at lift p t = released-at p (lifted narrow lift p t) ∙ rw (place-lifted lift p p t, lifted-at lift p t)
+
+-- sizes
+sized-lifted : (lift : Bool) (p : Words) (t : Store) → Sized t → Sized (lifted narrow lift p t)
+unfolding lifted withRevision
+sized-lifted true p t z = sized-word p t 6 (revision narrow (nodeOf p t) + 1) z
+sized-lifted false p t z = z
+
+sized-released : (p : Words) (t : Store) → Sized t → Sized (released p t)
 unfolding released withPending
 sized-released p t z = sized-word p t 5 (pending (nodeOf p t) - 1) z
 
-pub sized-released-at : (i : ℕ) (t : Store) → i < length (t .nodes) → Sized t → Sized (releasedAt i t)
-unfolding releasedAt withPending
-sized-released-at i t h z =
+sized-word-at : (i : ℕ) (t : Store) (j x : ℕ) → i < length (t .nodes) → Sized t → Sized (withNodeAt i (set (nodeAt i t) j x) t)
+sized-word-at i t j x h z =
     let n : Node = getD (t .nodes) i [] in
     record {
-      wide = wide-set 8 (t .nodes) i (set n 5 (pending n - 1)) (z .wide) (word-length n 5 (pending n - 1) (wide-at 8 (t .nodes) i (z .wide) h));
+      wide = wide-set 8 (t .nodes) i (set n j x) (z .wide) (word-length n j x (wide-at 8 (t .nodes) i (z .wide) h));
       few = rw length-set (z .few);
     }
+
+pub length-lifted-at : (lift : Bool) (i : ℕ) (t : Store) → length (liftedAt lift i t .nodes) ≡ length (t .nodes)
+unfolding liftedAt
+length-lifted-at true i t = length-set (t .nodes) i _
+length-lifted-at false i t = refl
+
+length-released-at : (i : ℕ) (t : Store) → length (releasedAt i t .nodes) ≡ length (t .nodes)
+unfolding releasedAt
+length-released-at i t = length-set (t .nodes) i _
+
+pub length-retired-at : (lift : Bool) (i : ℕ) (t : Store) → length (retiredAt lift i t .nodes) ≡ length (t .nodes)
+unfolding retiredAt
+length-retired-at lift i t = length-released-at i (liftedAt lift i t) ∙ length-lifted-at lift i t
+
+pub sized-lifted-at : (lift : Bool) (i : ℕ) (t : Store) → i < length (t .nodes) → Sized t → Sized (liftedAt lift i t)
+unfolding liftedAt withRevision
+sized-lifted-at true i t h z = sized-word-at i t 6 (revision narrow (nodeAt i t) + 1) h z
+sized-lifted-at false i t h z = z
+
+sized-released-at : (i : ℕ) (t : Store) → i < length (t .nodes) → Sized t → Sized (releasedAt i t)
+unfolding releasedAt withPending
+sized-released-at i t h z = sized-word-at i t 5 (pending (nodeAt i t) - 1) h z
+
+pub sized-retired-at : (lift : Bool) (i : ℕ) (t : Store) → i < length (t .nodes) → Sized t → Sized (retiredAt lift i t)
+unfolding retiredAt
+sized-retired-at lift i t h z =
+    let l : length (liftedAt lift i t .nodes) ≡ length (t .nodes) = length-lifted-at lift i t in
+    sized-released-at i (liftedAt lift i t) (omega arith) (sized-lifted-at lift i t h z)
 
 -- ---- one out, one in
 without-le : (i : ℕ) (l : List Node) → length (without i l) ≤ length l
@@ -227,22 +289,17 @@ sized-announced p t u h z = go (ensured narrow p t) refl
         more false k =
             rw (← some-is (withNode p (set (nodeOf p r) 5 (pending (nodeOf p r) + 1)) r) u k) (sized-word p r 5 (pending (nodeOf p r) + 1) (made-present p t r h z e .sized))
 
-pub sized-raised : (p : Words) (t u : Store) → Sized t → raised narrow p t ≡ some u → Sized u
-unfolding raised withRevision
-sized-raised p t u z = go (isPending p t && ltb (revision narrow (nodeOf p t)) (maxRevision narrow))
+pub sized-retired : (lift : Bool) (ps : List Words) (t u : Store) → Sized t → retired narrow lift ps t ≡ some u → Sized u
+unfolding retired
+sized-retired lift [] t u z k = rw (← some-is t u k) z
+sized-retired lift (p ∷ ps) t u z k = go (mayRetire narrow lift p t) (sized-retired lift ps v u y) k
   where
-    r : Store
-    r = withNode p (set (nodeOf p t) 6 (revision narrow (nodeOf p t) + 1)) t
+    v : Store
+    v = released p (lifted narrow lift p t)
 
-    go : (b : Bool) → cond b (some (released p r)) none ≡ some u → Sized u
-    go true k = rw (← some-is (released p r) u k) (sized-released p r (sized-word p t 6 (revision narrow (nodeOf p t) + 1) z))
-    go false k = none-not u k
+    y : Sized v
+    y = sized-released p (lifted narrow lift p t) (sized-lifted lift p t z)
 
-pub sized-released-all : (ps : List Words) (t u : Store) → Sized t → releasedAll ps t ≡ some u → Sized u
-unfolding releasedAll
-sized-released-all [] t u z k = rw (← some-is t u k) z
-sized-released-all (p ∷ ps) t u z k = go (isPending p t) (sized-released-all ps (released p t) u (sized-released p t z)) k
-  where
-    go : (b : Bool) → (releasedAll ps (released p t) ≡ some u → Sized u) → cond b (releasedAll ps (released p t)) none ≡ some u → Sized u
+    go : (b : Bool) → (retired narrow lift ps v ≡ some u → Sized u) → cond b (retired narrow lift ps v) none ≡ some u → Sized u
     go true r k = r k
     go false r k = none-not u k

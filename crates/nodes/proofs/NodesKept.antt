@@ -1,18 +1,20 @@
 -- Every operation on the nodes memory leaves it fit and as long as it was. Leans on the laws of NodeStores and NodeSizes. Assumes nothing.
 use mathlib.Core.Path.{_≡_, refl}
+use mathlib.Core.Bool.{Bool}
 use mathlib.Core.List.{List, []}
 use mathlib.Core.Option.{Option, none, some}
 use Prim.Native.Nat.{ℕ, _<_}
 use native.Mathlib.Omega.{arith}
 use lib.ListN.{length, getD}
-use Rattle.rules.specs.Nodes.{Words, Store, store, evictNode, added, ensured, announced, raised, releasedAll}
+use Rattle.rules.specs.Nodes.{Words, Store, store, evictNode, added, ensured, announced, retired}
 use Rattle.query.specs.Encoding.{labelWidth}
 use Rattle.query.specs.Shape.{narrow}
 use Rattle.rules.specs.Layout.{maxNodes, nodeCountOffset}
 use Rattle.rules.specs.Memory.{storeIn, withStore}
-use Rattle.nodes.specs.NodeContracts.{Fit, tried, looked, releasedAt}
+use Rattle.nodes.specs.NodeContracts.{Fit, tried, looked, retiredAt}
 use Rattle.nodes.proofs.NodeStores.{Sized, Keeps, count-nodes, sized-in, keeps-store}
-use Rattle.nodes.proofs.NodeSizes.{sized-none, sized-evict, sized-added, sized-released-at, made-present, sized-announced, sized-raised, sized-released-all}
+use Rattle.nodes.proofs.NodeSizes.{sized-none, sized-evict, sized-added, sized-retired-at}
+use Rattle.nodes.proofs.NodeSizes.{made-present, sized-announced, sized-retired}
 
 module _ (s : List ℕ) (f : Fit s) where
   keeps-self : Keeps s s
@@ -27,10 +29,11 @@ module _ (s : List ℕ) (f : Fit s) where
       let l : length (storeIn narrow s .nodes) ≡ getD s nodeCountOffset 0 = count-nodes s in
       keeps-store s (added narrow p (storeIn narrow s)) f (sized-added p (storeIn narrow s) h (omega arith) (sized-in s f))
 
-  pub keeps-released-at : (i : ℕ) → i < getD s nodeCountOffset 0 → Keeps s (withStore narrow s (releasedAt i (storeIn narrow s)))
-  keeps-released-at i h =
+  pub keeps-retired-at : (lift : Bool) (i : ℕ) → i < getD s nodeCountOffset 0
+      → Keeps s (withStore narrow s (retiredAt lift i (storeIn narrow s)))
+  keeps-retired-at lift i h =
       let l : length (storeIn narrow s .nodes) ≡ getD s nodeCountOffset 0 = count-nodes s in
-      keeps-store s (releasedAt i (storeIn narrow s)) f (sized-released-at i (storeIn narrow s) (omega arith) (sized-in s f))
+      keeps-store s (retiredAt lift i (storeIn narrow s)) f (sized-retired-at lift i (storeIn narrow s) (omega arith) (sized-in s f))
 
   pub keeps-empty : Keeps s (withStore narrow s (store 1 []))
   keeps-empty = keeps-store s (store 1 []) f (sized-none 1)
@@ -44,11 +47,9 @@ module _ (s : List ℕ) (f : Fit s) where
   pub keeps-announced : (p : Words) → length p ≡ labelWidth → Keeps s (tried s (announced narrow p (storeIn narrow s)) .mem)
   keeps-announced p h = keeps-tried (announced narrow p (storeIn narrow s)) (λ t e. sized-announced p (storeIn narrow s) t h (sized-in s f) e)
 
-  pub keeps-raised : (p : Words) → Keeps s (tried s (raised narrow p (storeIn narrow s)) .mem)
-  keeps-raised p = keeps-tried (raised narrow p (storeIn narrow s)) (λ t e. sized-raised p (storeIn narrow s) t (sized-in s f) e)
-
-  pub keeps-released-all : (ps : List Words) → Keeps s (tried s (releasedAll ps (storeIn narrow s)) .mem)
-  keeps-released-all ps = keeps-tried (releasedAll ps (storeIn narrow s)) (λ t e. sized-released-all ps (storeIn narrow s) t (sized-in s f) e)
+  pub keeps-retired : (lift : Bool) (ps : List Words) → Keeps s (tried s (retired narrow lift ps (storeIn narrow s)) .mem)
+  keeps-retired lift ps =
+      keeps-tried (retired narrow lift ps (storeIn narrow s)) (λ t e. sized-retired lift ps (storeIn narrow s) t (sized-in s f) e)
 
   looked-mem : (p : Words) (o : Option Store) → looked p s o .mem ≡ tried s o .mem
   unfolding looked tried

@@ -2,9 +2,9 @@
 use mathlib.Core.Bool.{Bool, true, false, cond}
 use mathlib.Core.List.{List, []}
 use mathlib.Core.Option.{Option, none, some}
-use Prim.Native.Nat.{ℕ, _-_, _≤_}
+use Prim.Native.Nat.{ℕ, _+_, _-_, _≤_}
 use lib.ListN.{length, getD, set}
-use Rattle.rules.specs.Nodes.{Words, Store, store, pending, revision, withPending, nodePlace, nodeOf, isPending}
+use Rattle.rules.specs.Nodes.{Words, Node, Store, store, pending, revision, withPending, withRevision, nodePlace, nodeOf, mayRetire}
 use Rattle.rules.specs.Memory.{withStore}
 use Rattle.nodes.specs.declared.Sight.{Sight}
 use Rattle.nodes.specs.declared.Sight.the-variants.{Seen, Stuck}
@@ -54,10 +54,22 @@ unfoldable pub placed : Words → List ℕ → Option Store → Placed
 placed p s none = put Nowhere s
 placed p s (some t) = put (At (nodePlace p (t .nodes))) (withStore narrow s t)
 
--- ---- the label's node where it has a pending write
-unfoldable pub pendingSpot : Words → Store → Spot
-pendingSpot p s = cond (isPending p s) (At (nodePlace p (s .nodes))) Nowhere
+-- ---- the label's node where a mark can be taken off it, with a lift or without
+unfoldable pub retirableSpot : Bool → Words → Store → Spot
+retirableSpot lift p s = cond (mayRetire narrow lift p s) (At (nodePlace p (s .nodes))) Nowhere
 
--- ---- the taking back of one mark at node i: the rules' `released` with the place in place of the label
+-- ---- one mark taken off node i: the rules' `lifted`, then `released`, with the place in place of the label
+abbrev pub nodeAt : ℕ → Store → Node
+nodeAt i s = getD (s .nodes) i []
+
+abbrev pub withNodeAt : ℕ → Node → Store → Store
+withNodeAt i n s = store (s .floor) (set (s .nodes) i n)
+
 unfoldable pub releasedAt : ℕ → Store → Store
-releasedAt i s = store (s .floor) (set (s .nodes) i (withPending (getD (s .nodes) i []) (pending (getD (s .nodes) i []) - 1)))
+releasedAt i s = withNodeAt i (withPending (nodeAt i s) (pending (nodeAt i s) - 1)) s
+
+unfoldable pub liftedAt : Bool → ℕ → Store → Store
+liftedAt lift i s = cond lift (withNodeAt i (withRevision narrow (nodeAt i s) (revision narrow (nodeAt i s) + 1)) s) s
+
+unfoldable pub retiredAt : Bool → ℕ → Store → Store
+retiredAt lift i s = releasedAt i (liftedAt lift i s)

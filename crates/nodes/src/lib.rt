@@ -2,17 +2,18 @@
 // one scan. What they leave stands in the rules' Nodes.antt, read and written back by the rules' Memory.antt.
 use hall::Hall;
 ghost use mathlib.Core.Path.{_≡_};
-ghost use mathlib.Core.Bool.{Bool, true, false};
+ghost use mathlib.Core.Bool.{true};
 ghost use mathlib.Core.List.{[]};
 ghost use Prim.Native.Nat.{_+_, _≤_, _<_, max};
 ghost use lib.ListN.{length, getD, take, drop};
 ghost use Rattle.lists.specs.Lists.{same};
-ghost use Rattle.rules.specs.Nodes.{store, nodePlace, oldestFree, evictNode, added, makeRoom, ensured, announced, raised, pending, isWorn};
+ghost use Rattle.rules.specs.Nodes.{store, nodePlace, oldestFree, evictNode, added, makeRoom, ensured, announced};
+ghost use Rattle.rules.specs.Nodes.{pending, revision, isWorn};
 ghost use Rattle.query.specs.Encoding.{labelWidth};
 ghost use Rattle.query.specs.Shape.{Shape, narrow};
-ghost use Rattle.rules.specs.Layout.{maxNodes, firstFloor, nodeCountOffset};
+ghost use Rattle.rules.specs.Layout.{maxNodes, maxRevision, firstFloor, nodeCountOffset};
 ghost use Rattle.rules.specs.Memory.{storeIn, withStore};
-ghost use Rattle.nodes.specs.NodeContracts.{Fit, attempt, tried, saw, looked, put, placed, pendingSpot, releasedAt};
+ghost use Rattle.nodes.specs.NodeContracts.{Fit, attempt, tried, saw, looked, put, placed, retirableSpot, retiredAt};
 
 // The most nodes that are kept.
 const NODES: usize = Hall::NODES as usize;
@@ -193,16 +194,23 @@ pub fn announce(nodes: &mut [u32], label: &[u32]) -> bool
     true
 }
 
-// The place of the label's node where it is there and has a pending write.
-pub fn find_pending(nodes: &[u32], label: &[u32]) -> Spot
+// The place of the label's node, where it is there, has a pending write, and its revision can be lifted if it is to be.
+pub fn find_retirable(nodes: &[u32], label: &[u32], lift: bool) -> Spot
     requires { ⌜ Fit (now nodes) × (length (now label) ≡ labelWidth) ⌝ }
-    ensures { λ r. ⌜ r ≡ pendingSpot (now (label .entry)) (storeIn narrow (now (nodes .entry))) ⌝ }
+    ensures { λ r. ⌜ r ≡ retirableSpot lift (now (label .entry)) (storeIn narrow (now (nodes .entry))) ⌝ }
 {
     let i = find(nodes, label);
     if nodes[Hall::NODE_COUNT_OFFSET] as usize <= i {
         return Spot::Nowhere;
     }
-    if nodes[Hall::HEADER + i * Hall::NODE_WIDTH + Hall::PENDING_OFFSET] == 0 {
+    let at = Hall::HEADER + i * Hall::NODE_WIDTH;
+    if nodes[at + Hall::PENDING_OFFSET] == 0 {
+        return Spot::Nowhere;
+    }
+    if !lift {
+        return Spot::At(i);
+    }
+    if Hall::LARGEST_REVISION <= nodes[at + Hall::REVISION_OFFSET] {
         return Spot::Nowhere;
     }
     Spot::At(i)
@@ -216,40 +224,21 @@ pub fn pending_at(nodes: &[u32], i: usize) -> u32
     nodes[Hall::HEADER + i * Hall::NODE_WIDTH + Hall::PENDING_OFFSET]
 }
 
-// One pending write fewer at node i.
-pub fn release(nodes: &mut [u32], i: usize)
+// One pending write fewer at node i; with a lift its revision goes up by one too.
+pub fn retire(nodes: &mut [u32], i: usize, lift: bool)
     requires { ⌜ Fit (now nodes) × ((i < getD (now nodes) nodeCountOffset 0) × (0 < pending (getD (storeIn narrow (now nodes) .nodes) i []))) ⌝ }
-    ensures { λ _. ⌜ now (nodes .exit) ≡ withStore narrow (now (nodes .entry)) (releasedAt i (storeIn narrow (now (nodes .entry)))) ⌝ }
+    requires { ⌜ (lift ≡ true → revision narrow (getD (storeIn narrow (now nodes) .nodes) i []) < maxRevision narrow) ⌝ }
+    ensures { λ _. ⌜ now (nodes .exit) ≡ withStore narrow (now (nodes .entry)) (retiredAt lift i (storeIn narrow (now (nodes .entry)))) ⌝ }
 {
-    let at = Hall::HEADER + i * Hall::NODE_WIDTH + Hall::PENDING_OFFSET;
-    let pending = nodes[at];
-    let fewer = pending - 1;
-    nodes[at] = fewer;
-}
-
-// The label's node: revision up by one, pending writes down by one. False: it is missing, has none pending, or its revision is the largest.
-pub fn raise(nodes: &mut [u32], label: &[u32]) -> bool
-    requires { ⌜ Fit (now nodes) × (length (now label) ≡ labelWidth) ⌝ }
-    ensures { λ r. ⌜ attempt r (now (nodes .exit)) ≡ tried (now (nodes .entry)) (raised narrow (now (label .entry)) (storeIn narrow (now (nodes .entry)))) ⌝ }
-{
-    let i = find(nodes, label);
-    if nodes[Hall::NODE_COUNT_OFFSET] as usize <= i {
-        return false;
-    }
     let at = Hall::HEADER + i * Hall::NODE_WIDTH;
     let pending = nodes[at + Hall::PENDING_OFFSET];
-    if pending == 0 {
-        return false;
-    }
     let revision = nodes[at + Hall::REVISION_OFFSET];
-    if Hall::LARGEST_REVISION <= revision {
-        return false;
-    }
-    let next = revision + 1;
     let fewer = pending - 1;
-    nodes[at + Hall::REVISION_OFFSET] = next;
     nodes[at + Hall::PENDING_OFFSET] = fewer;
-    true
+    if lift {
+        let next = revision + 1;
+        nodes[at + Hall::REVISION_OFFSET] = next;
+    }
 }
 
 // Whether the floor or a revision is too high for another write.

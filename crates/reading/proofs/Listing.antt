@@ -6,10 +6,10 @@ use mathlib.Core.List.{List}
 use Prim.Native.Nat.{ℕ, _+_, _*_, _-_, _≤_, _<_}
 use native.Mathlib.Nat.{add-zero}
 use native.Mathlib.Omega.{arith}
-use lib.Dec.{ltb, leb}
+use lib.Dec.{leb}
 use lib.ListN.{length, getD, take, drop, length-drop, length-take}
 use lib.Seq.{take-all, take-at, length-take-le}
-use borrow.Author.Tests.{lt-ltb, le-ltb, leb-false}
+use borrow.Author.Tests.{le-leb, lt-leb, leb-false}
 use borrow.Rule.Slice.PartMut.{putMid}
 use Rattle.lists.specs.Lists.{written, flat}
 use Rattle.laws.proofs.WrittenLaws.{mid-written, length-written, getD-before, drop-of-written, written-self}
@@ -19,7 +19,8 @@ use Rattle.query.specs.Query.{Record}
 use Rattle.columns.specs.ColumnContracts.{four}
 use Rattle.rules.specs.declared.Outcome.the-variants.{Accepted, Answered, Long}
 use Rattle.rules.specs.Table.{listOf}
-use Rattle.rules.specs.Client.{Client, steps, sawPending, idle, queryAt, holding}
+use Rattle.rules.specs.Work.{Value, ofRecords, valueOf, mayAnswer, askIn}
+use Rattle.rules.specs.Client.{Client, steps, sawPending, idle, queryAt, askAt, holding}
 use Rattle.rules.specs.Memory.{mem, clientIn, withClient, recordsIn}
 use Rattle.rules.specs.Outcome.{resultWith}
 use Rattle.rules.specs.Refusals.{columns, client}
@@ -69,6 +70,10 @@ over l n e h = go (leb (length l) maxList) refl e
 -- the list that the step takes
 abbrev pub listFor : List ℕ → List ℕ → ℕ → ℕ → List Record
 listFor s clients d k = listOf (queryAt (shapeOf k) (clientIn narrow clients d)) (recordsIn k s)
+
+value-is : (s clients : List ℕ) (d k : ℕ) → valueOf (askAt (shapeOf k) (clientIn narrow clients d)) (recordsIn k s) ≡ ofRecords (listFor s clients d k)
+unfolding valueOf askAt askIn queryAt
+value-is s clients d k = refl
 
 module _ (s clients : List ℕ) (d k : ℕ) (r : Reads clients d k) (f : table.Fit k s) where
   list-short : length (flat (take maxList (listFor s clients d k))) ≤ listRoom
@@ -139,15 +144,16 @@ module _ (s clients : List ℕ) (d k : ℕ) (r : Reads clients d k) (f : table.F
     -- ---- the step's ends
     module _ (h : made clients d ≡ looks clients d k + 1) (tray clients₂ : List ℕ) where
       table-at : (ns a : List ℕ)
-          → readResult (mem s ns a clients) tray d (queryAt (shapeOf k) (clientIn narrow clients d)) (made clients d) ≡ tableResult (mem s ns a clients) tray d (listFor s clients d k)
+          → readResult (mem s ns a clients) tray d (askAt (shapeOf k) (clientIn narrow clients d)) (made clients d) ≡ tableResult (mem s ns a clients) tray d (ofRecords (listFor s clients d k))
       table-at ns a =
-          table-is (mem s ns a clients) tray d (queryAt (shapeOf k) (clientIn narrow clients d)) (made clients d) h
-          ∙ ap (λ (x : ℕ). tableResult (mem s ns a clients) tray d (listOf (queryAt (shapeOf k) (clientIn narrow clients d)) (recordsIn x s))) (sym (r .columns))
+          table-is (mem s ns a clients) tray d (askAt (shapeOf k) (clientIn narrow clients d)) (made clients d) h
+          ∙ ap (λ (x : ℕ). tableResult (mem s ns a clients) tray d (valueOf (askAt (shapeOf k) (clientIn narrow clients d)) (recordsIn x s))) (sym (r .columns))
+          ∙ ap (λ (v : Value). tableResult (mem s ns a clients) tray d v) (value-is s clients d k)
 
       pub table-long : maxList < n → clients₂ ≡ withClient narrow clients₁ d (idle narrow) → (ns a : List ℕ)
-          → resultWith Long (mem s ns a clients₂) tray ≡ readResult (mem s ns a clients) tray d (queryAt (shapeOf k) (clientIn narrow clients d)) (made clients d)
-      unfolding tableResult nowAt
-      table-long o u ns a = rw (table-at ns a, lt-ltb maxList (length (listFor s clients d k)) (over (listFor s clients d k) n e o), idle-again clients₂ u)
+          → resultWith Long (mem s ns a clients₂) tray ≡ readResult (mem s ns a clients) tray d (askAt (shapeOf k) (clientIn narrow clients d)) (made clients d)
+      unfolding tableResult mayAnswer ofRecords nowAt
+      table-long o u ns a = rw (table-at ns a, lt-leb (length (listFor s clients d k)) maxList (over (listFor s clients d k) n e o), idle-again clients₂ u)
 
       module _ (o : n ≤ maxList) where
         many : length (listFor s clients d k) ≡ n
@@ -162,22 +168,22 @@ module _ (s clients : List ℕ) (d k : ℕ) (r : Reads clients d k) (f : table.F
         whole : clients₁ ≡ written clients (clientOffset narrow d + heldListOffset narrow (shapeOf k)) (flat (listFor s clients d k))
         whole = let l = many in g ∙ rw (take-all maxList (listFor s clients d k) (omega arith))
 
-        not-long : ltb maxList (length (listFor s clients d k)) ≡ false
-        not-long = let l = many in le-ltb maxList (length (listFor s clients d k)) (omega arith)
+        not-long : leb (length (listFor s clients d k)) maxList ≡ true
+        not-long = let l = many in le-leb (length (listFor s clients d k)) maxList (omega arith)
 
         pub table-held : (b : Bool) → b ≡ sawPending (clientIn narrow clients₁ d) → not b ≡ true → clients₂ ≡ withClient narrow clients₁ d (listSet n (shapeOf k) (clientIn narrow clients₁ d)) → (ns a : List ℕ)
-            → resultWith Accepted (mem s ns a clients₂) tray ≡ readResult (mem s ns a clients) tray d (queryAt (shapeOf k) (clientIn narrow clients d)) (made clients d)
-        unfolding tableResult nowAt client
+            → resultWith Accepted (mem s ns a clients₂) tray ≡ readResult (mem s ns a clients) tray d (askAt (shapeOf k) (clientIn narrow clients d)) (made clients d)
+        unfolding tableResult mayAnswer ofRecords nowAt client
         table-held true q p u ns a = absurd (let z : _≡_ {A = ℕ} 0 1 = cc in omega arith)
         table-held false q p u ns a =
-            let w : clients₂ ≡ withClient narrow clients d (holding narrow (shapeOf k) (listFor s clients d k) (clientIn narrow clients d)) = u ∙ list-written clients d (fit-clients clients d k r) clients₁ n k (listFor s clients d k) whole many long-flat room in
+            let w : clients₂ ≡ withClient narrow clients d (holding narrow (shapeOf k) (ofRecords (listFor s clients d k)) (clientIn narrow clients d)) = u ∙ list-written clients d (fit-clients clients d k r) clients₁ n k (ofRecords (listFor s clients d k)) whole many long-flat room in
             rw (table-at ns a, not-long, ← pending-kept, ← q, w, r .columns)
 
         pub table-given : (b : Bool) (tray′ : List ℕ) (at : ℕ) → at ≡ clientOffset narrow d + heldListOffset narrow (shapeOf k)
             → b ≡ sawPending (clientIn narrow clients₁ d) → not b ≡ false → tray′ ≡ written tray 0 (take (at + n * k - at) (drop at clients₁))
             → clients₂ ≡ withClient narrow clients₁ d (idle narrow) → (ns a : List ℕ)
-            → resultWith (Answered n false) (mem s ns a clients₂) tray′ ≡ readResult (mem s ns a clients) tray d (queryAt (shapeOf k) (clientIn narrow clients d)) (made clients d)
-        unfolding tableResult answered nowAt client
+            → resultWith (Answered n false) (mem s ns a clients₂) tray′ ≡ readResult (mem s ns a clients) tray d (askAt (shapeOf k) (clientIn narrow clients d)) (made clients d)
+        unfolding tableResult mayAnswer ofRecords answered nowAt client
         table-given false tray′ at o q p v u ns a = absurd (let z : _≡_ {A = ℕ} 0 1 = cc in omega arith)
         table-given true tray′ at o q p v u ns a =
             let m : at + n * k - at ≡ n * k = omega arith in

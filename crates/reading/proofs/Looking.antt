@@ -1,22 +1,24 @@
 -- Laws of a look: what is noted, and the refusal where there is no room for the node. Leans on rules and on ReadClient. Assumes nothing.
 use mathlib.Core.Path.{_≡_, sym, ap, _∙_}
-use mathlib.Core.List.{List}
+use mathlib.Core.List.{List, []}
 use mathlib.Core.Option.{Option, none, some}
 use Prim.Native.Nat.{ℕ, _<_}
 use native.Mathlib.Omega.{arith}
-use lib.ListN.{take}
+use lib.ListN.{getD, take}
 use Rattle.query.specs.declared.Column.{Column}
 use Rattle.query.specs.Query.{readNode, readCount}
 use Rattle.query.specs.Encoding.{labelWords}
 use Rattle.columns.specs.ColumnContracts.{four}
 use Rattle.rules.specs.declared.Outcome.the-variants.{Refused, Accepted}
 use Rattle.rules.specs.Nodes.{Words, Store, ensured, nodeOf, revision, pending}
-use Rattle.rules.specs.Client.{queryAt, noted}
+use Rattle.rules.specs.Work.{readLabels}
+use Rattle.rules.specs.Client.{queryAt, askAt, noted}
 use Rattle.rules.specs.Memory.{mem, clientIn, withClient, storeIn, withStore}
 use Rattle.rules.specs.Outcome.{resultWith}
 use Rattle.rules.specs.Refusals.{client}
 use Rattle.query.specs.Shape.{narrow, shapeOf}
 use Rattle.rules.specs.Steps.{nowAt, storeBack, lookResult, readResult}
+use Rattle.rules.proofs.ClientLaws.{looks-at, read-label-of}
 use Rattle.nodes.specs.declared.Sight.{Sight}
 use Rattle.nodes.specs.declared.Sight.the-variants.{Seen, Stuck}
 use Rattle.nodes.specs.NodeContracts.{Looked, saw, looked}
@@ -50,21 +52,23 @@ look-not t a y ns ns′ clients d j p (some s) e =
 module _ (clients : List ℕ) (d k : ℕ) (r : Reads clients d k) (h : made clients d < looks clients d k) (cols : List Column) (look : ℕ)
     (e : cols ≡ four (queryAt (shapeOf k) (clientIn narrow clients d))) (l : look ≡ made clients d) where
   pub look-below : look < readCount (take k cols)
-  look-below = rw (l, read-columns clients d k r cols e) h
+  look-below = rw (l, read-columns clients d k r cols e, ← looks-at (shapeOf k) (clientIn narrow clients d)) h
 
   module _ (ns : List ℕ) (p : Words) (f : p ≡ labelWords (readNode (take k cols) look)) (sight : Sight) (ns′ : List ℕ)
       (g : saw sight ns′ ≡ looked p ns (ensured narrow p (storeIn narrow ns))) where
-    label-is : p ≡ labelWords (readNode (queryAt (shapeOf k) (clientIn narrow clients d)) (made clients d))
-    label-is = f ∙ rw (read-columns clients d k r cols e, l)
+    label-is : p ≡ getD (readLabels (askAt (shapeOf k) (clientIn narrow clients d))) (made clients d) []
+    label-is =
+        let o = looks-at (shapeOf k) (clientIn narrow clients d) in
+        f ∙ rw (read-columns clients d k r cols e, l) (sym (read-label-of (shapeOf k) (clientIn narrow clients d) (made clients d) (omega arith)))
 
     pub look-stuck : sight ≡ Stuck → (t a y : List ℕ)
-        → resultWith (Refused 3) (mem t ns′ a clients) y ≡ readResult (mem t ns a clients) y d (queryAt (shapeOf k) (clientIn narrow clients d)) (made clients d)
+        → resultWith (Refused 3) (mem t ns′ a clients) y ≡ readResult (mem t ns a clients) y d (askAt (shapeOf k) (clientIn narrow clients d)) (made clients d)
     look-stuck x t a y =
-        rw (look-is (mem t ns a clients) y d (queryAt (shapeOf k) (clientIn narrow clients d)) (made clients d) h, ← label-is)
+        rw (look-is (mem t ns a clients) y d (askAt (shapeOf k) (clientIn narrow clients d)) (made clients d) h, ← label-is)
         (look-not t a y ns ns′ clients d (made clients d) p (ensured narrow p (storeIn narrow ns)) (ap (λ (s : Sight). saw s ns′) (sym x) ∙ g))
 
     pub look-noted : (revised open′ : ℕ) → sight ≡ Seen revised open′ → (clients′ : List ℕ) → clients′ ≡ withClient narrow clients d (noted narrow look revised open′ (clientIn narrow clients d)) → (t a y : List ℕ)
-        → resultWith Accepted (mem t ns′ a clients′) y ≡ readResult (mem t ns a clients) y d (queryAt (shapeOf k) (clientIn narrow clients d)) (made clients d)
+        → resultWith Accepted (mem t ns′ a clients′) y ≡ readResult (mem t ns a clients) y d (askAt (shapeOf k) (clientIn narrow clients d)) (made clients d)
     look-noted revised open′ x clients′ u t a y =
-        rw (look-is (mem t ns a clients) y d (queryAt (shapeOf k) (clientIn narrow clients d)) (made clients d) h, ← label-is)
+        rw (look-is (mem t ns a clients) y d (askAt (shapeOf k) (clientIn narrow clients d)) (made clients d) h, ← label-is)
         (look-given t a y ns ns′ clients clients′ d (made clients d) revised open′ p (ensured narrow p (storeIn narrow ns)) (ap (λ (s : Sight). saw s ns′) (sym x) ∙ g) (u ∙ rw l))

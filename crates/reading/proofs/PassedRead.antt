@@ -5,11 +5,12 @@ use mathlib.Core.List.{List}
 use Prim.Native.Nat.{ℕ}
 use borrow.Author.Tests.{eq-eqb}
 use native.Mathlib.Omega.{arith}
-use Rattle.rules.specs.Client.{kind, steps, queryAt}
+use Rattle.rules.specs.Work.{workIn}
+use Rattle.rules.specs.Client.{kind, steps, askAt, workAt}
 use Rattle.rules.specs.Layout.{reads}
 use Rattle.rules.specs.Memory.{Mem}
 use Rattle.rules.specs.Refusals.{columns, client, stepCode}
-use Rattle.rules.specs.Steps.{readResult, progress}
+use Rattle.rules.specs.Steps.{readResult, progressOf, progress}
 use Rattle.rules.specs.Calls.{stepResult}
 use Rattle.rules.specs.Refusals.{shape}
 use Rattle.rules.proofs.PassedChecks.{step-passed}
@@ -31,6 +32,6 @@ module _ (m : Mem) (tray : List ℕ) (d : ℕ) (e : stepCode m tray d ≡ 0) (x 
         room = t .0;
       }
 
-  pub read-due : stepResult m tray d ≡ readResult m tray d (queryAt (shape m) (client m d)) (steps (client m d))
-  unfolding stepResult progress
+  pub read-due : stepResult m tray d ≡ readResult m tray d (askAt (shape m) (client m d)) (steps (client m d))
+  unfolding stepResult progress progressOf workAt workIn askAt
   read-due = rw (eq-eqb (stepCode m tray d) 0 e, eq-eqb (kind (client m d)) reads x)

@@ -5,9 +5,9 @@ use mathlib.Core.Bool.{false, cond}
 use mathlib.Core.List.{List}
 use Prim.Native.Nat.{ℕ, _+_, _≤_, _<_}
 use lib.ListN.{length, getD}
-use Rattle.query.specs.Query.{readCount}
+use Rattle.rules.specs.Work.{readLabels}
 use Rattle.rules.specs.Answers.{fetchPlace, someLong}
-use Rattle.rules.specs.Client.{Client, kind, steps, sawPending, entryOf, isIdle, isBad, queryAt}
+use Rattle.rules.specs.Client.{Client, kind, steps, sawPending, entryOf, isIdle, isBad, askAt}
 use Rattle.query.specs.Shape.{shapeOf, maxColumns, narrow}
 use Rattle.rules.specs.Layout.{maxClients, trayLeast, lookRoom, clientsEnd, reads}
 use Rattle.rules.specs.Memory.{shapeIn, clientIn, answersIn}
@@ -29,7 +29,7 @@ pub record Reads (clients : List ℕ) (d k : ℕ) : Type 0 where
 
 -- how many nodes the read has, and how many steps it has made
 abbrev pub looks : List ℕ → ℕ → ℕ → ℕ
-looks clients d k = readCount (queryAt (shapeOf k) (clientIn narrow clients d))
+looks clients d k = length (readLabels (askAt (shapeOf k) (clientIn narrow clients d)))
 
 abbrev pub made : List ℕ → ℕ → ℕ
 made clients d = steps (clientIn narrow clients d)

@@ -7,7 +7,7 @@ ghost use Prim.Native.Nat.{ℕ, _+_, _*_};
 ghost use lib.ListN.{take};
 ghost use Rattle.lists.specs.Lists.{written, flat};
 ghost use Rattle.rules.specs.Table.{listOf};
-ghost use Rattle.rules.specs.Client.{queryAt};
+ghost use Rattle.rules.specs.Client.{queryAt, askAt};
 ghost use Rattle.rules.specs.Memory.{mem, clientIn, recordsIn};
 ghost use Rattle.rules.specs.Outcome.{resultWith};
 ghost use Rattle.query.specs.Shape.{shapeOf, narrow};
@@ -24,7 +24,7 @@ const LIST: usize = Hall::LIST as usize;
 // A look: the next node's revision is noted, and whether writes are pending there.
 fn look_step(nodes: &mut [u32], clients: &mut [u32], d: usize, k: usize) -> Outcome
     requires { ⌜ Looks (now nodes) (now clients) d k ⌝ }
-    ensures { λ r. ⌜ ((t a y : List ℕ) → resultWith r (mem t (now (nodes .exit)) a (now (clients .exit))) y ≡ readResult (mem t (now (nodes .entry)) a (now (clients .entry))) y d (queryAt (shapeOf k) (clientIn narrow (now (clients .entry)) d)) (made (now (clients .entry)) d)) ⌝ }
+    ensures { λ r. ⌜ ((t a y : List ℕ) → resultWith r (mem t (now (nodes .exit)) a (now (clients .exit))) y ≡ readResult (mem t (now (nodes .entry)) a (now (clients .entry))) y d (askAt (shapeOf k) (clientIn narrow (now (clients .entry)) d)) (made (now (clients .entry)) d)) ⌝ }
 {
     let cols = clients::columns_at(clients, d, k);
     let look = clients::steps_of(clients, d) as usize;
@@ -53,7 +53,7 @@ fn find_filed(answers: &[u32], clients: &[u32], d: usize) -> usize
 // The fetch: a filed answer that is recent enough is answered with.
 fn fetch_step(answers: &[u32], clients: &mut [u32], tray: &mut [u32], d: usize, k: usize) -> Outcome
     requires { ⌜ Fetches (now answers) (now clients) (now tray) d k ⌝ }
-    ensures { λ r. ⌜ ((t n : List ℕ) → resultWith r (mem t n (now (answers .entry)) (now (clients .exit))) (now (tray .exit)) ≡ readResult (mem t n (now (answers .entry)) (now (clients .entry))) (now (tray .entry)) d (queryAt (shapeOf k) (clientIn narrow (now (clients .entry)) d)) (made (now (clients .entry)) d)) ⌝ }
+    ensures { λ r. ⌜ ((t n : List ℕ) → resultWith r (mem t n (now (answers .entry)) (now (clients .exit))) (now (tray .exit)) ≡ readResult (mem t n (now (answers .entry)) (now (clients .entry))) (now (tray .entry)) d (askAt (shapeOf k) (clientIn narrow (now (clients .entry)) d)) (made (now (clients .entry)) d)) ⌝ }
 {
     let i = find_filed(answers, clients, d);
     if answers[Hall::ANSWER_COUNT_OFFSET] as usize <= i {
@@ -83,7 +83,7 @@ fn gather_list(table: &[u32], clients: &mut [u32], d: usize, k: usize) -> usize
 // The table step: the list is taken. Where it is too long the read ends; where a look saw a mark it is answered with and not filed.
 fn table_step(table: &[u32], clients: &mut [u32], tray: &mut [u32], d: usize, k: usize) -> Outcome
     requires { ⌜ Lists (now table) (now clients) (now tray) d k ⌝ }
-    ensures { λ r. ⌜ ((n a : List ℕ) → resultWith r (mem (now (table .entry)) n a (now (clients .exit))) (now (tray .exit)) ≡ readResult (mem (now (table .entry)) n a (now (clients .entry))) (now (tray .entry)) d (queryAt (shapeOf k) (clientIn narrow (now (clients .entry)) d)) (made (now (clients .entry)) d)) ⌝ }
+    ensures { λ r. ⌜ ((n a : List ℕ) → resultWith r (mem (now (table .entry)) n a (now (clients .exit))) (now (tray .exit)) ≡ readResult (mem (now (table .entry)) n a (now (clients .entry))) (now (tray .entry)) d (askAt (shapeOf k) (clientIn narrow (now (clients .entry)) d)) (made (now (clients .entry)) d)) ⌝ }
 {
     let n = gather_list(table, clients, d, k);
     if LIST < n {
@@ -113,7 +113,7 @@ fn file_step(
     k: usize,
 ) -> Outcome
     requires { ⌜ Files (now answers) (now clients) (now tray) d k ⌝ }
-    ensures { λ r. ⌜ ((t n : List ℕ) → resultWith r (mem t n (now (answers .exit)) (now (clients .exit))) (now (tray .exit)) ≡ readResult (mem t n (now (answers .entry)) (now (clients .entry))) (now (tray .entry)) d (queryAt (shapeOf k) (clientIn narrow (now (clients .entry)) d)) (made (now (clients .entry)) d)) ⌝ }
+    ensures { λ r. ⌜ ((t n : List ℕ) → resultWith r (mem t n (now (answers .exit)) (now (clients .exit))) (now (tray .exit)) ≡ readResult (mem t n (now (answers .entry)) (now (clients .entry))) (now (tray .entry)) d (askAt (shapeOf k) (clientIn narrow (now (clients .entry)) d)) (made (now (clients .entry)) d)) ⌝ }
 {
     answers::file(answers, clients::entry(clients, d));
     let count = clients::give_list(clients, d, k, tray);
@@ -145,7 +145,7 @@ pub fn read_step(
     k: usize,
 ) -> Outcome
     requires { ⌜ Steps (now table) (now nodes) (now answers) (now clients) (now tray) d k ⌝ }
-    ensures { λ r. ⌜ resultWith r (mem (now (table .entry)) (now (nodes .exit)) (now (answers .exit)) (now (clients .exit))) (now (tray .exit)) ≡ readResult (mem (now (table .entry)) (now (nodes .entry)) (now (answers .entry)) (now (clients .entry))) (now (tray .entry)) d (queryAt (shapeOf k) (clientIn narrow (now (clients .entry)) d)) (made (now (clients .entry)) d) ⌝ }
+    ensures { λ r. ⌜ resultWith r (mem (now (table .entry)) (now (nodes .exit)) (now (answers .exit)) (now (clients .exit))) (now (tray .exit)) ≡ readResult (mem (now (table .entry)) (now (nodes .entry)) (now (answers .entry)) (now (clients .entry))) (now (tray .entry)) d (askAt (shapeOf k) (clientIn narrow (now (clients .entry)) d)) (made (now (clients .entry)) d) ⌝ }
 {
     let count = looks_of(clients, d, k);
     let step = clients::steps_of(clients, d) as usize;

@@ -14,7 +14,7 @@ use Rattle.laws.proofs.ListLaws.{true-false, same-eq, eq-same, keep-le, and-lef
 use Rattle.laws.proofs.TestLaws.{byTest, or-left, or-right}
 use Rattle.query.specs.Query.{Query, Record, lies}
 use Rattle.rules.specs.Layout.{maxRecords}
-use Rattle.rules.specs.Table.{Table, listOf, has, putIn, Write, insert, delete, isFull, outside, effect, noRoom, changes}
+use Rattle.rules.specs.Table.{Table, listOf, has, putIn, Change, insert, delete, isFull, outside, effect, noRoom, changes}
 use Rattle.records.proofs.RecordWrites.{length-put, effect-there, effect-full, effect-put, effect-cases, effect-delete}
 
 -- ---- `has` is membership
@@ -101,15 +101,15 @@ keep-full p (s ∷ t) h = go (p s) h (keep-full p t)
     go true h f = ap (λ (u : Table). s ∷ u) (f (omega arith))
     go false h f = absurd (omega (arith, keep-le p t))
 
-pub change-none : (w : Write) (t : Table) → effect w t ≡ t → changes w t ≡ false
+pub change-none : (w : Change) (t : Table) → effect w t ≡ t → changes w t ≡ false
 unfolding changes
 change-none w t e = rw (e, eq-eqb (length t) (length t) refl)
 
-same-number : (w : Write) (t : Table) → changes w t ≡ false → length (effect w t) ≡ length t
+same-number : (w : Change) (t : Table) → changes w t ≡ false → length (effect w t) ≡ length t
 unfolding changes
 same-number w t h = eqb-true _ _ (not-false (eqb (length (effect w t)) (length t)) h)
 
-pub none-changed : (w : Write) (t : Table) → changes w t ≡ false → effect w t ≡ t
+pub none-changed : (w : Change) (t : Table) → changes w t ≡ false → effect w t ≡ t
 none-changed (insert r) t h =
     effect-cases r t (λ (u : Table). length u ≡ length t → u ≡ t) (λ e. refl) (λ e g l. absurd (omega (arith, length-put r t))) (same-number (insert r) t h)
 none-changed (delete q) t h = effect-delete q t ∙ keep-full (outside q) t (ap length (sym (effect-delete q t)) ∙ same-number (delete q) t h)

@@ -9,7 +9,7 @@ use Rattle.lists.specs.Lists.{same, before, keep}
 use Rattle.laws.proofs.ListLaws.{true-false, same-eq}
 use Rattle.laws.proofs.RowLaws.{Wide}
 use Rattle.query.specs.Query.{Query, Record, lies}
-use Rattle.rules.specs.Table.{Table, listOf, has, putIn, Write, insert, delete, outside, effect, Follows, Ascending, Distinct}
+use Rattle.rules.specs.Table.{Table, listOf, has, putIn, Change, insert, delete, outside, effect, Follows, Ascending, Distinct}
 use Rattle.records.proofs.RecordOrder.{irreflexive, before-trans, before-total}
 use Rattle.records.proofs.RecordWrites.{effect-cases, effect-delete, OfWidth}
 
@@ -61,7 +61,7 @@ pub list-ascending : (q : Query) (t : Table) → Ascending t → Ascending (list
 unfolding listOf
 list-ascending q t a = keep-ascending (lies q) t a
 
-pub effect-ascending : (k : ℕ) (w : Write) (t : Table) → OfWidth k w → Wide k t → Ascending t → Ascending (effect w t)
+pub effect-ascending : (k : ℕ) (w : Change) (t : Table) → OfWidth k w → Wide k t → Ascending t → Ascending (effect w t)
 effect-ascending k (insert r) t h w a = effect-cases r t Ascending a (λ e g. put-ascending k r t h w e a)
 effect-ascending k (delete q) t h w a = rw (effect-delete q t) (keep-ascending (outside q) t a)
 

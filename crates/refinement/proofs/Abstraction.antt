@@ -4,66 +4,56 @@ use mathlib.Core.Path.{_≡_}
 use mathlib.Core.Bool.{Bool, true, false, cond}
 use mathlib.Core.List.{List, map}
 use Prim.Native.Nat.{ℕ, _+_, _-_, _*_, _≤_, _<_}
+use native.Mathlib.Omega.{arith}
 use lib.Dec.{eqb, ltb, leb}
 use lib.ListN.{length, getD, take, drop}
-use native.Mathlib.Omega.{arith}
-use Rattle.query.specs.Query.{readCount, writeCount}
-use Rattle.query.specs.Encoding.{queryOf, recordOf, queryIn, isKey}
+use Rattle.lists.specs.Lists.{In}
+use Rattle.query.specs.Encoding.{isKey}
 use Rattle.query.specs.Shape.{Shape, maxColumns, narrow}
 use Rattle.rules.specs.Layout.{maxRecords, maxNodes, maxAnswers, maxClients, maxList, tableLeast, nodesLeast, answersLeast, clientsLeast}
-use Rattle.rules.specs.Layout.{recordCountOffset, nodeCountOffset, answerCountOffset, revisionsOffset, answersEnd, reads}
+use Rattle.rules.specs.Layout.{recordCountOffset, nodeCountOffset, answerCountOffset, revisionsOffset, answersEnd}
 use Rattle.rules.specs.declared.Outcome.{Outcome}
 use Rattle.rules.specs.declared.Outcome.the-variants.{Refused, Accepted, Answered, Long, Ended, Full}
-use Rattle.rules.specs.Table.{Write, insert, delete, target}
-use Rattle.rules.specs.Answers.{Entry, keyIn, lengthIn, listIn}
-use Rattle.rules.specs.Client.{Client, kind, steps, sawPending, didChange, foundFull, entryOf, isIdle, isBad, writeAt}
+use Rattle.rules.specs.Work.{Ask, Value, readLabels, askIn, Write, writeLabels, Work, asking, writing, workOf}
+use Rattle.rules.specs.Answers.{Entry, keyIn, lengthIn, valueIn}
+use Rattle.rules.specs.Client.{Client, steps, sawPending, didChange, foundFull, entryOf, workAt, isIdle, isBad}
 use Rattle.rules.specs.Memory.{Mem, recordsIn, storeIn, answersIn}
-use Rattle.rules.specs.Refusals.{columns, client}
+use Rattle.rules.specs.Refusals.{columns, client, shape}
 use Rattle.rules.specs.Outcome.{StepResult}
-use Rattle.rules.specs.Refusals.{shape}
 use Rattle.rules.specs.History as rules
-use Rattle.machine.proofs.Sums.{In}
-use Rattle.machine.proofs.Keys.{Key, Val}
-use Rattle.machine.proofs.Machine as machine
-use Rattle.machine.proofs.Machine.{Phase, idle, looking, tabling, filing, announcing, raising, Ans, State, Response}
+use Rattle.machine.specs.Machine.{Phase, idle, looking, tabling, filing, announcing, raising, Ans, State, Response}
+use Rattle.machine.specs.Machine as machine
 
 -- ---- Filed answers
-unfoldable pub keyOf : Shape → Entry → Key
-keyOf sh e = record { asked = queryIn sh (keyIn e) }
-
-unfoldable pub valueIn : Shape → Entry → Val
-valueIn sh e = record { count = lengthIn e; numbers = listIn narrow sh e }
-
--- the first n revisions noted in an entry
+-- the first n revisions noted in an entry, and those of all nodes of what is asked
 unfoldable pub revisionsIn : ℕ → Entry → List ℕ
 revisionsIn n e = take n (drop revisionsOffset e)
 
--- how many nodes its query has
-unfoldable pub looksOf : Shape → Entry → ℕ
-looksOf sh e = readCount (queryIn sh (keyIn e))
+abbrev pub notedOf : Ask → Entry → List ℕ
+notedOf x e = revisionsIn (length (readLabels x)) e
 
 unfoldable pub ansOf : Shape → Entry → Ans
-ansOf sh e = record { query = keyOf sh e; revs = revisionsIn (looksOf sh e) e; list = valueIn sh e }
+ansOf sh e = record { query = askIn sh (keyIn e); revs = notedOf (askIn sh (keyIn e)) e; list = valueIn narrow sh e }
 
 -- ---- Desks
 -- a reader with the entry e that has made i steps
-unfoldable pub readerOf : Shape → Entry → ℕ → Bool → Phase
-readerOf sh e i saw =
-    cond (leb i (looksOf sh e)) (looking (keyOf sh e) (revisionsIn i e) saw)
-    (cond (eqb i (looksOf sh e + 1)) (tabling (keyOf sh e) (revisionsIn (looksOf sh e) e) saw)
-    (filing (keyOf sh e) (revisionsIn (looksOf sh e) e) (valueIn sh e)))
+unfoldable pub readerOf : Shape → Ask → Entry → ℕ → Bool → Phase
+readerOf sh x e i saw =
+    cond (leb i (length (readLabels x))) (looking x (revisionsIn i e) saw)
+    (cond (eqb i (length (readLabels x) + 1)) (tabling x (notedOf x e) saw) (filing x (notedOf x e) (valueIn narrow sh e)))
 
 -- a writer that has made i steps
 unfoldable pub writerOf : Write → ℕ → Bool → Bool → Phase
 writerOf w i changed full =
-    cond (leb i (writeCount (target w))) (announcing w i) (raising w (i - (writeCount (target w) + 1)) changed full)
+    cond (leb i (length (writeLabels w))) (announcing w i) (raising w (i - (length (writeLabels w) + 1)) changed full)
 
-unfoldable pub busyPhase : Shape → Client → Phase
-busyPhase sh c =
-    cond (eqb (kind c) reads) (readerOf sh (entryOf c) (steps c) (sawPending c)) (writerOf (writeAt sh c) (steps c) (didChange c) (foundFull c))
+-- a busy client, by its work
+unfoldable pub busyPhase : Shape → Client → Work → Phase
+busyPhase sh c (asking x) = readerOf sh x (entryOf c) (steps c) (sawPending c)
+busyPhase sh c (writing w) = writerOf w (steps c) (didChange c) (foundFull c)
 
 unfoldable pub phaseOf : Shape → Client → Phase
-phaseOf sh c = cond (isIdle narrow c) idle (busyPhase sh c)
+phaseOf sh c = cond (isIdle narrow c) idle (busyPhase sh c (workAt sh c))
 
 -- ---- The state
 unfoldable pub phasesOf : Mem → ℕ → Phase
@@ -82,15 +72,13 @@ stateOf m = record {
 }
 
 -- ---- Calls and results
-unfoldable pub callOf : rules.Call → machine.Call
-callOf (rules.beginRead d a) = machine.begin-read d (record { asked = queryOf a })
-callOf (rules.beginInsert d a) = machine.begin-write d (insert (recordOf (queryOf a)))
-callOf (rules.beginDelete d a) = machine.begin-write d (delete (queryOf a))
-callOf (rules.step d tray) = machine.step d
-callOf (rules.abandon d) = machine.abandon d
-callOf (rules.evictAnswer i) = machine.evict-answer i
-callOf (rules.evictNode i) = machine.evict-node i
-callOf rules.renew = machine.renew
+unfoldable pub callOf : Shape → rules.Call → machine.Call
+callOf sh (rules.begin d r) = machine.begin d (workOf sh r)
+callOf sh (rules.step d tray) = machine.step d
+callOf sh (rules.abandon d) = machine.abandon d
+callOf sh (rules.evictAnswer i) = machine.evict-answer i
+callOf sh (rules.evictNode i) = machine.evict-node i
+callOf sh rules.renew = machine.renew
 
 -- an answer's records are read from the tray: k numbers each, from its start
 unfoldable pub responseIn : Shape → List ℕ → Outcome → Response
@@ -103,6 +91,10 @@ responseIn sh tray Full = machine.full
 
 unfoldable pub responseOf : Shape → StepResult → Response
 responseOf sh x = responseIn sh (x .tray) (x .out)
+
+-- a result of a hall: as many numbers for each record as there are columns
+abbrev pub Whole : Shape → Value → Type 0
+Whole sh v = length (v .numbers) ≡ v .count * sh .columns
 
 -- ---- Memories that a history leaves
 -- a filed answer is to a query of k columns, and has at most 32 records

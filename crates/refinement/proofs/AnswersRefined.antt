@@ -2,27 +2,27 @@
 -- Assumes nothing.
 use mathlib.Core.Path.{_≡_, refl, sym, ap, _∙_}
 use mathlib.Core.Logic.{_⊎_, inl, inr}
-use mathlib.Core.Bool.{Bool, true, false, cond}
+use mathlib.Core.Bool.{Bool, true, cond}
 use mathlib.Core.List.{List, [], _∷_, _++_, map}
 use Prim.Native.Nat.{ℕ, zero, suc, _≤_, _<_}
 use native.Mathlib.Omega.{arith}
 use lib.Dec.{ltb, leb}
-use borrow.Author.Tests.{ltb-true, ltb-false}
 use lib.ListN.{length, getD, drop, length-map, length-append}
 use lib.Seq.{getD-take, getD-drop}
-use Rattle.laws.proofs.TestLaws.{byTest, clash}
-use Rattle.lists.specs.Lists.{same, place, without, allBelow}
-use Rattle.laws.proofs.ListLaws.{same-eq, same-refl, length-without}
+use borrow.Author.Tests.{ltb-true, ltb-false}
+use Rattle.lists.specs.Lists.{same, place, without, allBelow, In, here, there}
+use Rattle.laws.proofs.TestLaws.{byTest}
+use Rattle.laws.proofs.ListLaws.{same-eq, length-without, same-ne}
 use Rattle.laws.proofs.RowLaws.{Wide, wide-without, wide-snoc}
-use Rattle.query.specs.Query.{readCount}
+use Rattle.laws.proofs.Members.{in-append}
 use Rattle.query.specs.Encoding.{queryIn, isKey, keyWords}
 use Rattle.query.specs.Shape.{Shape, narrow}
 use Rattle.rules.specs.Layout.{maxAnswers, entryWidth}
-use Rattle.rules.specs.Answers.{Entry, keyIn, revisionIn, hasKeyOf, atLeast, serves, keyPlace, filed}
-use Rattle.machine.proofs.Sums.{In, here, there, in-append}
-use Rattle.machine.proofs.Keys.{Key, sameKey, sameKey-eq, sameKey-refl, readLabels, length-readLabels}
-use Rattle.machine.proofs.Machine.{holds-for, has-key, cut, room, filed-in}
-use Rattle.refinement.proofs.Abstraction.{keyOf, valueIn, revisionsIn, looksOf, ansOf}
+use Rattle.rules.specs.Answers.{Entry, keyIn, revisionIn, hasKeyOf, atLeast, serves, keyPlace, filed, valueIn}
+use Rattle.rules.specs.Work.{Ask, readLabels, askIn, askKey}
+use Rattle.machine.specs.Machine.{sameAsk, holds-for, has-key, cut, room, filed-in}
+use Rattle.machine.proofs.Asks.{sameAsk-eq, sameAsk-refl}
+use Rattle.refinement.proofs.Abstraction.{revisionsIn, notedOf, ansOf}
 
 -- ---- Lists of answers
 place-map : {A B : Type 0} (f : A → B) (p : B → Bool) (q : A → Bool) (l : List A) → ((e : A) → In e l → p (f e) ≡ q e) → place p (map f l) ≡ place q l
@@ -58,27 +58,18 @@ map-in f (here e) = here (ap f e)
 map-in f (there i) = there (map-in f i)
 
 -- ---- Keys
-key-decoded : (sh : Shape) (key : List ℕ) → isKey sh key ≡ true → key ≡ keyWords (queryIn sh key)
-unfolding isKey
+key-decoded : (sh : Shape) (key : List ℕ) → isKey sh key ≡ true → key ≡ askKey (askIn sh key)
+unfolding isKey askKey askIn
 key-decoded sh key e = same-eq key (keyWords (queryIn sh key)) e
 
-asked-eq : (sh : Shape) (e x : Entry) → keyOf sh e ≡ keyOf sh x → queryIn sh (keyIn e) ≡ queryIn sh (keyIn x)
-unfolding keyOf
-asked-eq sh e x h = ap (λ (q : Key). q .asked) h
-
--- two keys are the same exactly if the queries are
-same-key : (sh : Shape) (e x : Entry) → isKey sh (keyIn e) ≡ true → isKey sh (keyIn x) ≡ true → sameKey (keyOf sh e) (keyOf sh x) ≡ same (keyIn e) (keyIn x)
-unfolding keyOf
-same-key sh e x h g =
-    byTest (same (keyIn e) (keyIn x))
-    (λ t. rw (t, same-eq (keyIn e) (keyIn x) t) (sameKey-refl (keyOf sh x)))
-    (λ t. rw t (byTest (sameKey (keyOf sh e) (keyOf sh x)) (λ u. absurd (apart t u)) (λ u. u)))
-  where
-    apart : same (keyIn e) (keyIn x) ≡ false → sameKey (keyOf sh e) (keyOf sh x) ≡ true → ⊥
-    apart t u =
-        let q : queryIn sh (keyIn e) ≡ queryIn sh (keyIn x) = asked-eq sh e x (sameKey-eq (keyOf sh e) (keyOf sh x) u) in
-        let z : keyIn e ≡ keyIn x = key-decoded sh (keyIn e) h ∙ ap keyWords q ∙ sym (key-decoded sh (keyIn x) g) in
-        clash (rw z (same-refl (keyIn x))) t
+-- two keys of a hall are the same exactly if they ask the same
+same-key : (sh : Shape) (k l : List ℕ) → isKey sh k ≡ true → isKey sh l ≡ true → sameAsk (askIn sh k) (askIn sh l) ≡ same k l
+same-key sh k l h g =
+    byTest (same k l)
+    (λ t. rw (t, same-eq k l t) (sameAsk-refl (askIn sh l)))
+    (λ t. rw t (byTest (sameAsk (askIn sh k) (askIn sh l))
+    (λ u. absurd (same-ne k l t (key-decoded sh k h ∙ ap askKey (sameAsk-eq (askIn sh k) (askIn sh l) u) ∙ sym (key-decoded sh l g))))
+    (λ u. u)))
 
 -- ---- Fetch
 below-cong : (n : ℕ) (f g : ℕ → Bool) → ((j : ℕ) → j < n → f j ≡ g j) → allBelow n f ≡ allBelow n g
@@ -94,22 +85,18 @@ at-least : (n : ℕ) (x e : Entry) (j : ℕ) → j < n → leb (getD (revisionsI
 unfolding atLeast
 at-least n x e j h = rw (revision-at n x j h, revision-at n e j h)
 
-pub length-looks : (sh : Shape) (x : Entry) → length (readLabels (keyOf sh x)) ≡ looksOf sh x
-unfolding keyOf looksOf
-length-looks sh x = length-readLabels (keyOf sh x)
+-- the entry x of a read that asks q
+module _ (sh : Shape) (x : Entry) (q : Ask) (a : askIn sh (keyIn x) ≡ q) (g : isKey sh (keyIn x) ≡ true) where
+  asks-same : (e : Entry) → isKey sh (keyIn e) ≡ true → sameAsk (askIn sh (keyIn e)) q ≡ same (keyIn e) (keyIn x)
+  asks-same e h = rw (← a) (same-key sh (keyIn e) (keyIn x) h g)
 
-looks-same : (sh : Shape) (e x : Entry) → keyIn e ≡ keyIn x → looksOf sh e ≡ looksOf sh x
-unfolding looksOf
-looks-same sh e x h = ap (λ (t : List ℕ). readCount (queryIn sh t)) h
-
-pub serves-holds : (sh : Shape) (x e : Entry) → isKey sh (keyIn e) ≡ true → isKey sh (keyIn x) ≡ true
-    → holds-for (keyOf sh x) (revisionsIn (looksOf sh x) x) (ansOf sh e) ≡ serves narrow (looksOf sh x) x e
-unfolding holds-for ansOf serves hasKeyOf
-serves-holds sh x e h g =
-    byTest (same (keyIn e) (keyIn x))
-    (λ t. rw (same-key sh e x h g, t, length-looks sh x, looks-same sh e x (same-eq (keyIn e) (keyIn x) t))
-    (below-cong (looksOf sh x) _ (atLeast narrow x e) (λ j l. at-least (looksOf sh x) x e j l)))
-    (λ t. rw (same-key sh e x h g, t))
+  pub serves-holds : (e : Entry) → isKey sh (keyIn e) ≡ true → holds-for q (notedOf q x) (ansOf sh e) ≡ serves narrow (length (readLabels q)) x e
+  unfolding holds-for ansOf serves hasKeyOf
+  serves-holds e h =
+      byTest (same (keyIn e) (keyIn x))
+      (λ t. rw (asks-same e h, t, ap (askIn sh) (same-eq (keyIn e) (keyIn x) t) ∙ a)
+      (below-cong (length (readLabels q)) _ (atLeast narrow x e) (λ j l. at-least (length (readLabels q)) x e j l)))
+      (λ t. rw (asks-same e h, t))
 
 -- ---- File
 -- where a file step makes room
@@ -120,12 +107,12 @@ filed-room : (x : Entry) (es : List Entry) → filed x es ≡ roomFor x es ++ (x
 unfolding filed roomFor
 filed-room x es = refl
 
-module _ (sh : Shape) (x : Entry) (es : List Entry) (g : isKey sh (keyIn x) ≡ true) (h : (e : Entry) → In e es → isKey sh (keyIn e) ≡ true) where
-  key-place : place (has-key (keyOf sh x)) (map (ansOf sh) es) ≡ keyPlace x es
+module _ (sh : Shape) (x : Entry) (q : Ask) (a : askIn sh (keyIn x) ≡ q) (g : isKey sh (keyIn x) ≡ true) (es : List Entry) (h : (e : Entry) → In e es → isKey sh (keyIn e) ≡ true) where
+  key-place : place (has-key q) (map (ansOf sh) es) ≡ keyPlace x es
   unfolding keyPlace has-key hasKeyOf ansOf
-  key-place = place-map (ansOf sh) _ _ es (λ e i. same-key sh e x (h e i) g)
+  key-place = place-map (ansOf sh) _ _ es (λ e i. asks-same sh x q a g e (h e i))
 
-  map-room : map (ansOf sh) (roomFor x es) ≡ room (keyOf sh x) (map (ansOf sh) es)
+  map-room : map (ansOf sh) (roomFor x es) ≡ room q (map (ansOf sh) es)
   unfolding roomFor room cut
   map-room =
       rw (key-place, length-map es (ansOf sh)) (
@@ -133,9 +120,9 @@ module _ (sh : Shape) (x : Entry) (es : List Entry) (g : isKey sh (keyIn x) ≡ 
       (λ t. rw t (map-without (ansOf sh) (keyPlace x es) es))
       (λ t. rw t (byTest (ltb (length es) maxAnswers) (λ u. rw u) (λ u. rw u (map-without (ansOf sh) 0 es)))))
 
-  pub map-filed : map (ansOf sh) (filed x es) ≡ filed-in (keyOf sh x) (revisionsIn (looksOf sh x) x) (valueIn sh x) (map (ansOf sh) es)
+  pub map-filed : map (ansOf sh) (filed x es) ≡ filed-in q (notedOf q x) (valueIn narrow sh x) (map (ansOf sh) es)
   unfolding filed-in ansOf
-  map-filed = rw (filed-room x es, map-snoc (ansOf sh) (roomFor x es) x, map-room)
+  map-filed = rw (filed-room x es, map-snoc (ansOf sh) (roomFor x es) x, map-room, a)
 
 in-room : (x : Entry) (es : List Entry) (e : Entry) → In e (roomFor x es) → In e es
 unfolding roomFor

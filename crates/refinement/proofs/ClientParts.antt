@@ -7,23 +7,21 @@ use Prim.Native.Nat.{ℕ, suc, _+_, _-_, _*_, _≤_, _<_}
 use native.Mathlib.Omega.{arith}
 use lib.Dec.{eqb, ltb}
 use lib.ListN.{length, getD, take, drop, set, replicate, length-drop, length-set, List·getD-eq-default}
-use lib.Seq.{take-at, drop-append-le, length-take-le, getD-drop, getD-set-same, getD-set-other, take-set-le, drop-set-lt, drop-set-add, take-suc-set, drop-drop}
+use lib.Seq.{take-at, drop-append-le, length-take-le, getD-drop, getD-set-same, getD-set-other, take-set-le, drop-set-lt, drop-set-add, take-suc-set}
+use lib.Seq.{drop-drop}
 use borrow.Author.Tests.{lt-ltb, le-ltb, eqb-true, eqb-false}
+use Rattle.lists.specs.Lists.{padded, written}
 use Rattle.laws.proofs.TestLaws.{byTest}
-use Rattle.lists.specs.Lists.{padded, flat, written}
 use Rattle.laws.proofs.ListLaws.{length-padded, getD-padded}
 use Rattle.laws.proofs.WrittenLaws.{drop-take, take-written, drop-of-written, getD-before, length-written}
-use Rattle.laws.proofs.RowLaws.{Wide, length-flat}
-use Rattle.query.specs.Query.{Query, Record}
-use Rattle.query.specs.Encoding.{keyWords}
-use Rattle.query.proofs.EncodingLaws.{key-words-length}
-use Rattle.rules.specs.Answers.{Entry, keyIn, lengthIn, listIn}
-use Rattle.rules.specs.Client.{Client, kind, steps, sawPending, didChange, foundFull, entryOf, begun, stepped, flag, noted, holding, wrote}
 use Rattle.query.specs.Encoding.{labelWidth, keyWidth}
 use Rattle.query.specs.Shape.{Shape, maxColumns, narrow}
+use Rattle.rules.specs.Work.{Value, Work, kindOf, keyOf}
+use Rattle.rules.specs.Answers.{Entry, keyIn, lengthIn, listIn, valueIn}
+use Rattle.rules.specs.Client.{Client, kind, steps, sawPending, didChange, foundFull, entryOf, begun, stepped, flag, noted, holding, wrote}
 use Rattle.rules.specs.Layout.{maxList, lookRoom, listOffset, listRoom, entryWidth, clientWidth, notedOffset, heldListOffset}
 use Rattle.rules.proofs.ClientLaws.{list-room}
-use Rattle.refinement.proofs.Abstraction.{valueIn, revisionsIn}
+use Rattle.refinement.proofs.Abstraction.{revisionsIn, Whole}
 
 -- ---- Lists
 drop-written-add : (n i : ℕ) (s v : List ℕ) → n + i ≤ length s → drop n (written s (n + i) v) ≡ written (drop n s) i v
@@ -108,7 +106,7 @@ module _ (c : Client) (w : length c ≡ clientWidth narrow) where
     looked-at : notedOffset narrow j ≡ labelWidth + (8 + j)
     looked-at = omega arith
 
-    pub noted-entry : entryOf (noted narrow j r p c) ≡ set (entryOf c) (8 + j) r
+    noted-entry : entryOf (noted narrow j r p c) ≡ set (entryOf c) (8 + j) r
     unfolding noted entryOf stepped
     noted-entry =
         drop-set-lt 5 (set (set c 1 (steps c + 1)) (notedOffset narrow j) r) 2 (cond (eqb p 0) (getD c 2 0) 1) (omega arith)
@@ -182,51 +180,56 @@ padded-front : (n x : ℕ) (a r : List ℕ) → length a ≡ x → take x (padde
 unfolding padded
 padded-front n x a r h = rw append-assoc (take-at a (replicate (n - length a) 0 ++ r) x h)
 
--- ---- A list taken, of records of k numbers
+-- ---- A list taken
 -- the entry with the list's length
 counted : Client → ℕ → Entry
 counted c n = set (entryOf c) 7 n
 
-module _ (c : Client) (w : length c ≡ clientWidth narrow) (sh : Shape) (l : List Record) (wl : Wide (sh .columns) l) (few : sh .columns ≤ maxColumns) (short : length l ≤ maxList) where
-  length-list : length (padded listRoom (flat l)) ≡ listRoom
-  length-list = let a = length-flat (sh .columns) l wl in let b = list-room (length l) (sh .columns) short few in length-padded listRoom (flat l) (omega arith)
+module _ (c : Client) (w : length c ≡ clientWidth narrow) (sh : Shape) (v : Value) (whole : Whole sh v) (few : sh .columns ≤ maxColumns) (short : v .count ≤ maxList) where
+  -- what is written of the list
+  numbers : List ℕ
+  numbers = padded listRoom (v .numbers)
 
-  length-counted : length (counted c (length l)) ≡ entryWidth narrow
+  length-numbers : length numbers ≡ listRoom
+  unfolding numbers
+  length-numbers = let b = list-room (v .count) (sh .columns) short few in length-padded listRoom (v .numbers) (omega arith)
+
+  length-counted : length (counted c (v .count)) ≡ entryWidth narrow
   unfolding counted
-  length-counted = length-set (entryOf c) 7 (length l) ∙ length-entry c w
+  length-counted = length-set (entryOf c) 7 (v .count) ∙ length-entry c w
 
-  holding-entry : entryOf (holding narrow sh l c) ≡ written (counted c (length l)) (listOffset narrow sh) (padded listRoom (flat l))
-  unfolding holding entryOf stepped counted
+  holding-entry : entryOf (holding narrow sh v c) ≡ written (counted c (v .count)) (listOffset narrow sh) numbers
+  unfolding holding entryOf stepped counted numbers
   holding-entry =
-      drop-written-add 5 (listOffset narrow sh) (set (set c 1 (steps c + 1)) 12 (length l)) (padded listRoom (flat l)) (rw (length-set, length-set, w) (omega arith))
-      ∙ ap (λ (e : Entry). written e (listOffset narrow sh) (padded listRoom (flat l)))
-      (drop-set-add 5 (set c 1 (steps c + 1)) 7 (length l) ∙ ap (λ (e : Entry). set e 7 (length l)) (drop-set-lt 5 c 1 (steps c + 1) (omega arith)))
+      drop-written-add 5 (listOffset narrow sh) (set (set c 1 (steps c + 1)) 12 (v .count)) (padded listRoom (v .numbers)) (rw (length-set, length-set, w) (omega arith))
+      ∙ ap (λ (e : Entry). written e (listOffset narrow sh) (padded listRoom (v .numbers)))
+      (drop-set-add 5 (set c 1 (steps c + 1)) 7 (v .count) ∙ ap (λ (e : Entry). set e 7 (v .count)) (drop-set-lt 5 c 1 (steps c + 1) (omega arith)))
 
-  holding-front : (i : ℕ) → i < 5 → getD (holding narrow sh l c) i 0 ≡ getD (stepped c) i 0
+  holding-front : (i : ℕ) → i < 5 → getD (holding narrow sh v c) i 0 ≡ getD (stepped c) i 0
   unfolding holding
   holding-front i h =
-      getD-before (set (stepped c) 12 (length l)) (heldListOffset narrow sh) (padded listRoom (flat l)) (rw (length-set, stepped-next c w .wide) (omega arith)) i 0 (omega arith)
-      ∙ getD-set-other (stepped c) 12 i (length l) 0 (λ e. omega arith)
+      getD-before (set (stepped c) 12 (v .count)) (heldListOffset narrow sh) (padded listRoom (v .numbers)) (rw (length-set, stepped-next c w .wide) (omega arith)) i 0 (omega arith)
+      ∙ getD-set-other (stepped c) 12 i (v .count) 0 (λ e. omega arith)
 
-  long-counted : listOffset narrow sh ≤ length (counted c (length l))
+  long-counted : listOffset narrow sh ≤ length (counted c (v .count))
   long-counted = let a = length-counted in omega arith
 
-  holding-key : keyIn (entryOf (holding narrow sh l c)) ≡ keyIn (entryOf c)
+  holding-key : keyIn (entryOf (holding narrow sh v c)) ≡ keyIn (entryOf c)
   unfolding keyIn counted
   holding-key =
       ap (take keyWidth) holding-entry
-      ∙ take-written (counted c (length l)) (listOffset narrow sh) (padded listRoom (flat l)) long-counted 7 (omega arith)
-      ∙ take-set-le 7 (entryOf c) 7 (length l) (omega arith)
+      ∙ take-written (counted c (v .count)) (listOffset narrow sh) numbers long-counted 7 (omega arith)
+      ∙ take-set-le 7 (entryOf c) 7 (v .count) (omega arith)
 
-  holding-wide : length (holding narrow sh l c) ≡ clientWidth narrow
-  unfolding holding
+  holding-wide : length (holding narrow sh v c) ≡ clientWidth narrow
+  unfolding holding numbers
   holding-wide =
       let a = stepped-next c w .wide in
-      let b = length-set (stepped c) 12 (length l) in
-      let d = length-list in
-      length-written (set (stepped c) 12 (length l)) (heldListOffset narrow sh) (padded listRoom (flat l)) (omega arith) ∙ b ∙ a
+      let b = length-set (stepped c) 12 (v .count) in
+      let d = length-numbers in
+      length-written (set (stepped c) 12 (v .count)) (heldListOffset narrow sh) (padded listRoom (v .numbers)) (omega arith) ∙ b ∙ a
 
-  pub holding-next : Next c (holding narrow sh l c)
+  pub holding-next : Next c (holding narrow sh v c)
   unfolding kind steps
   holding-next = record {
     kinds = holding-front 0 (omega arith) ∙ stepped-next c w .kinds;
@@ -235,66 +238,63 @@ module _ (c : Client) (w : length c ≡ clientWidth narrow) (sh : Shape) (l : Li
     wide = holding-wide;
   }
 
-  pub holding-revisions : (n : ℕ) → n ≤ lookRoom → revisionsIn n (entryOf (holding narrow sh l c)) ≡ revisionsIn n (entryOf c)
+  pub holding-revisions : (n : ℕ) → n ≤ lookRoom → revisionsIn n (entryOf (holding narrow sh v c)) ≡ revisionsIn n (entryOf c)
   unfolding revisionsIn counted
   holding-revisions n h =
       let e : 8 + n - 8 ≡ n = omega arith in
-      let v : List ℕ = padded listRoom (flat l) in
-      let a : take n (drop 8 (written (counted c (length l)) (listOffset narrow sh) v)) ≡ drop 8 (take (8 + n) (written (counted c (length l)) (listOffset narrow sh) v)) =
-      rw (drop-take 8 (8 + n) (written (counted c (length l)) (listOffset narrow sh) v), e) in
-      let b : drop 8 (take (8 + n) (counted c (length l))) ≡ take n (drop 8 (counted c (length l))) = rw (drop-take 8 (8 + n) (counted c (length l)), e) in
-      ap (λ (x : Entry). take n (drop 8 x)) holding-entry
-      ∙ a
-      ∙ ap (drop 8) (take-written (counted c (length l)) (listOffset narrow sh) v long-counted (8 + n) (omega arith))
-      ∙ b
-      ∙ ap (take n) (drop-set-lt 8 (entryOf c) 7 (length l) (omega arith))
+      let a : (l : Entry) → take n (drop 8 l) ≡ drop 8 (take (8 + n) l) = λ l. rw (drop-take 8 (8 + n) l, e) in
+      ap (λ (l : Entry). take n (drop 8 l)) holding-entry
+      ∙ a (written (counted c (v .count)) (listOffset narrow sh) numbers)
+      ∙ ap (drop 8) (take-written (counted c (v .count)) (listOffset narrow sh) numbers long-counted (8 + n) (omega arith))
+      ∙ sym (a (counted c (v .count)))
+      ∙ ap (take n) (drop-set-lt 8 (entryOf c) 7 (v .count) (omega arith))
 
-  pub holding-length : lengthIn (entryOf (holding narrow sh l c)) ≡ length l
+  pub holding-length : lengthIn (entryOf (holding narrow sh v c)) ≡ v .count
   unfolding lengthIn counted
   holding-length =
       ap (λ (x : Entry). getD x 7 0) holding-entry
-      ∙ getD-before (counted c (length l)) (listOffset narrow sh) (padded listRoom (flat l)) long-counted 7 0 (omega arith)
-      ∙ getD-set-same (entryOf c) 7 (length l) 0 (let z = length-entry c w in omega arith)
+      ∙ getD-before (counted c (v .count)) (listOffset narrow sh) numbers long-counted 7 0 (omega arith)
+      ∙ getD-set-same (entryOf c) 7 (v .count) 0 (let z = length-entry c w in omega arith)
 
-  holding-list : listIn narrow sh (entryOf (holding narrow sh l c)) ≡ flat l
-  unfolding listIn
+  holding-list : listIn narrow sh (entryOf (holding narrow sh v c)) ≡ v .numbers
+  unfolding listIn numbers
   holding-list =
       rw holding-length (
-      ap (λ (x : Entry). take (length l * sh .columns) (drop (listOffset narrow sh) x)) holding-entry
-      ∙ ap (take (length l * sh .columns)) (drop-of-written (counted c (length l)) (listOffset narrow sh) (padded listRoom (flat l)) long-counted)
-      ∙ padded-front listRoom (length l * sh .columns) (flat l) (drop (listOffset narrow sh + length (padded listRoom (flat l))) (counted c (length l))) (length-flat (sh .columns) l wl))
+      ap (λ (x : Entry). take (v .count * sh .columns) (drop (listOffset narrow sh) x)) holding-entry
+      ∙ ap (take (v .count * sh .columns)) (drop-of-written (counted c (v .count)) (listOffset narrow sh) (padded listRoom (v .numbers)) long-counted)
+      ∙ padded-front listRoom (v .count * sh .columns) (v .numbers) (drop (listOffset narrow sh + length (padded listRoom (v .numbers))) (counted c (v .count))) whole)
 
-  pub holding-value : valueIn sh (entryOf (holding narrow sh l c)) ≡ record { count = length l; numbers = flat l }
+  pub holding-value : valueIn narrow sh (entryOf (holding narrow sh v c)) ≡ v
   unfolding valueIn
   holding-value = λ i. record { count = holding-length i; numbers = holding-list i }
 
--- ---- As a begin leaves it
-module _ (x : ℕ) (q : Query) (h : length q ≤ maxColumns) where
-  begun-word : (j : ℕ) → getD (begun narrow x q) j 0 ≡ getD (x ∷ 0 ∷ 0 ∷ 0 ∷ 0 ∷ keyWords q) j 0
+-- ---- As a begin of work x leaves it
+module _ (x : Work) where
+  begun-word : (j : ℕ) → getD (begun narrow x) j 0 ≡ getD (kindOf x ∷ 0 ∷ 0 ∷ 0 ∷ 0 ∷ keyOf x) j 0
   unfolding begun
-  begun-word j = getD-padded (clientWidth narrow) (x ∷ 0 ∷ 0 ∷ 0 ∷ 0 ∷ keyWords q) j
+  begun-word j = getD-padded (clientWidth narrow) (kindOf x ∷ 0 ∷ 0 ∷ 0 ∷ 0 ∷ keyOf x) j
 
-  pub begun-kind : kind (begun narrow x q) ≡ x
+  pub begun-kind : kind (begun narrow x) ≡ kindOf x
   unfolding kind
   begun-kind = begun-word 0
 
-  pub begun-steps : steps (begun narrow x q) ≡ 0
+  pub begun-steps : steps (begun narrow x) ≡ 0
   unfolding steps
   begun-steps = begun-word 1
 
-  pub begun-saw : sawPending (begun narrow x q) ≡ false
+  pub begun-saw : sawPending (begun narrow x) ≡ false
   unfolding sawPending
   begun-saw = rw (begun-word 2)
 
-  pub begun-wide : length (begun narrow x q) ≡ clientWidth narrow
-  unfolding begun
-  begun-wide = let a = key-words-length q (omega arith) in length-padded (clientWidth narrow) (x ∷ 0 ∷ 0 ∷ 0 ∷ 0 ∷ keyWords q) (omega arith)
+  module _ (h : length (keyOf x) ≡ keyWidth) where
+    pub begun-wide : length (begun narrow x) ≡ clientWidth narrow
+    unfolding begun
+    begun-wide = length-padded (clientWidth narrow) (kindOf x ∷ 0 ∷ 0 ∷ 0 ∷ 0 ∷ keyOf x) (omega arith)
 
-  pub begun-key : keyIn (entryOf (begun narrow x q)) ≡ keyWords q
-  unfolding keyIn entryOf begun padded
-  begun-key = take-at (keyWords q) _ 7 (key-words-length q (omega arith))
+    pub begun-key : keyIn (entryOf (begun narrow x)) ≡ keyOf x
+    unfolding keyIn entryOf begun padded
+    begun-key = take-at (keyOf x) _ 7 h
 
-  pub begun-length : lengthIn (entryOf (begun narrow x q)) ≡ 0
-  unfolding lengthIn entryOf
-  begun-length =
-      getD-drop 5 (begun narrow x q) 7 0 ∙ begun-word 12 ∙ List·getD-eq-default (keyWords q) 0 {n = 7} (let a = key-words-length q (omega arith) in omega arith)
+    pub begun-length : lengthIn (entryOf (begun narrow x)) ≡ 0
+    unfolding lengthIn entryOf
+    begun-length = getD-drop 5 (begun narrow x) 7 0 ∙ begun-word 12 ∙ List·getD-eq-default (keyOf x) 0 {n = 7} (omega arith)

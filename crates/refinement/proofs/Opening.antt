@@ -1,28 +1,29 @@
 -- Memories that an accepted opening leaves fit, and stand for the machine's opened state. Leans on Abstraction and ClientPhases. Assumes nothing.
 use mathlib.Core.Path.{_≡_, _∙_, fun-ext}
 use mathlib.Core.List.{List, [], _++_, map, append-assoc}
-use Prim.Native.Nat.{ℕ, _+_, _-_, _*_, _≤_, _<_}
+use Prim.Native.Nat.{ℕ, _+_, _-_, _≤_, _<_}
 use native.Mathlib.Omega.{arith}
 use lib.Dec.{ltb}
-use borrow.Author.Tests.{ltb-true}
-use lib.ListN.{length, getD, take, drop, replicate, length-append, length-drop, length-set, length-replicate, getD-replicate, List·getD-append, replicate-append-replicate}
+use lib.ListN.{length, getD, take, drop, replicate, length-append, length-drop, length-set, length-replicate, getD-replicate, List·getD-append}
+use lib.ListN.{replicate-append-replicate}
 use lib.Seq.{take-at, drop-at, getD-set-same, getD-set-other, drop-set-lt}
-use Rattle.laws.proofs.TestLaws.{byTest}
+use borrow.Author.Tests.{ltb-true}
 use Rattle.lists.specs.Lists.{rows, entriesIn}
+use Rattle.laws.proofs.TestLaws.{byTest}
+use Rattle.laws.proofs.Members.{in-none}
 use Rattle.query.specs.Shape.{Shape, shapeOf, maxColumns, narrow}
-use Rattle.rules.specs.Layout.{maxClients, tableLeast, nodesLeast, answersLeast, clientsLeast, recordCountOffset, floorOffset}
-use Rattle.rules.specs.Layout.{nodeCountOffset, answerCountOffset, entryWidth, clientWidth, clientOffset}
+use Rattle.rules.specs.Layout.{maxClients, tableLeast, nodesLeast, answersLeast, clientsLeast, recordCountOffset, floorOffset, nodeCountOffset}
+use Rattle.rules.specs.Layout.{answerCountOffset, entryWidth, clientWidth, clientOffset}
 use Rattle.rules.specs.Nodes.{store}
-use Rattle.rules.specs.Client as rules
 use Rattle.rules.specs.Memory.{Mem, recordsIn, storeIn, answersIn, clientIn, cleared, opened}
 use Rattle.rules.specs.Refusals.{shape, columns, client, openCode}
+use Rattle.rules.specs.Client as rules
 use Rattle.rules.proofs.ClientLaws.{idle-sound}
 use Rattle.rules.proofs.PassedChecks.{Long, open-passed}
-use Rattle.machine.proofs.Sums.{in-none}
-use Rattle.machine.proofs.Machine.{idle}
-use Rattle.machine.proofs.Machine as machine
+use Rattle.machine.specs.Machine.{idle}
+use Rattle.machine.specs.Machine as machine
 use Rattle.refinement.proofs.Abstraction.{ansOf, phasesOf, filedOf, stateOf, Fits}
-use Rattle.refinement.proofs.ClientPhases.{idle-is, idle-phase}
+use Rattle.refinement.proofs.ClientPhases.{idle-is, idle-at}
 
 -- ---- A cleared memory
 module _ (n : ℕ) (s : List ℕ) where
@@ -119,7 +120,7 @@ module _ (m : Mem) (sh : Shape) (l : Long m) where
   clients-opened : (d : ℕ) → phasesOf (opened narrow sh m) d ≡ idle
   unfolding phasesOf
   clients-opened d =
-      byTest (ltb d maxClients) (λ t. rw (t, opened-client d (ltb-true d maxClients t)) (idle-phase (shape (opened narrow sh m)))) (λ t. rw t)
+      byTest (ltb d maxClients) (λ t. rw (t, opened-client d (ltb-true d maxClients t)) (idle-at (shape (opened narrow sh m)) (rules.idle narrow) idle-is)) (λ t. rw t)
 
   state-opened : stateOf (opened narrow sh m) ≡ machine.opened sh
   unfolding stateOf filedOf machine.opened recordsIn storeIn

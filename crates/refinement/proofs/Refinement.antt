@@ -6,51 +6,45 @@ use Prim.Native.Nat.{ℕ}
 use lib.Dec.{eqb}
 use borrow.Author.Tests.{eqb-true, eqb-false}
 use Rattle.laws.proofs.TestLaws.{byTest}
+use Rattle.query.specs.Shape.{Shape, narrow}
 use Rattle.rules.specs.declared.Outcome.{Outcome}
 use Rattle.rules.specs.declared.Outcome.the-variants.{Refused, Accepted, Answered, Long, Ended, Full}
-use Rattle.rules.specs.Client.{kind}
-use Rattle.query.specs.Shape.{Shape}
-use Rattle.rules.specs.Layout.{reads}
+use Rattle.rules.specs.Work.{Work, asking, writing}
 use Rattle.rules.specs.Memory.{Mem, storeIn}
 use Rattle.rules.specs.Outcome.{StepResult, number}
-use Rattle.rules.specs.Refusals.{shape, columns, client, stepCode}
-use Rattle.rules.proofs.PassedChecks.{step-passed}
-use Rattle.rules.specs.Steps.{progress}
+use Rattle.rules.specs.Refusals.{shape, stepCode}
+use Rattle.rules.specs.Steps.{progressOf, progress}
 use Rattle.rules.specs.Calls.{stepResult}
-use Rattle.query.specs.Shape.{narrow}
-use Rattle.rules.specs.History.{Call, beginRead, beginInsert, beginDelete, step, abandon, evictAnswer, evictNode, renew, callResult}
-use Rattle.revisions.proofs.EffectiveRevision.{NoDup}
-use Rattle.machine.proofs.Machine as machine
-use Rattle.machine.proofs.Transition.{Transition}
+use Rattle.rules.specs.History.{Call, begin, step, abandon, evictAnswer, evictNode, renew, callResult}
+use Rattle.rules.proofs.PassedChecks.{step-passed}
+use Rattle.revisions.specs.EffectiveRevision.{NoDup}
+use Rattle.machine.specs.Transition.{Transition}
+use Rattle.machine.specs.Machine as machine
 use Rattle.refinement.proofs.Abstraction.{stateOf, callOf, responseIn, responseOf, Fits}
 use Rattle.refinement.proofs.StatesAfter.{Simulated}
 use Rattle.refinement.proofs.RefusedCalls.{refused-simulated, step-low}
-use Rattle.refinement.proofs.StepFrame.{Going, going}
+use Rattle.refinement.proofs.StepFrame.{underWay, Going, going}
 use Rattle.refinement.proofs.ReadRefined.{read-simulated}
 use Rattle.refinement.proofs.WriteRefined.{write-simulated}
-use Rattle.refinement.proofs.OthersRefined.{begin-read-simulated, begin-insert-simulated, begin-delete-simulated, abandon-simulated, evict-answer-simulated, evict-node-simulated, renew-simulated}
+use Rattle.refinement.proofs.OthersRefined.{begin-simulated, abandon-simulated, evict-answer-simulated, evict-node-simulated, renew-simulated}
 
 -- ---- A step
-progress-simulated : (m : Mem) (tray : List ℕ) (d : ℕ) → Going m d → Simulated m (machine.step d) (progress m tray d)
-unfolding progress
-progress-simulated m tray d g =
-    byTest (eqb (kind (client m d)) reads)
-    (λ t. rw t (read-simulated m tray d g (eqb-true (kind (client m d)) reads t)))
-    (λ t. rw t (write-simulated m tray d g (eqb-false (kind (client m d)) reads t)))
+progress-simulated : (m : Mem) (tray : List ℕ) (d : ℕ) → Going m d → (y : Work) → underWay m d ≡ y → Simulated m (machine.step d) (progressOf m tray d y)
+unfolding progressOf
+progress-simulated m tray d g (asking x) r = read-simulated m tray d g x r
+progress-simulated m tray d g (writing w) r = write-simulated m tray d g w r
 
 step-simulated : (m : Mem) (tray : List ℕ) (d : ℕ) → Fits m → NoDup (storeIn narrow (m .nodes) .nodes) → Simulated m (machine.step d) (stepResult m tray d)
-unfolding stepResult
+unfolding stepResult progress
 step-simulated m tray d f once =
     byTest (eqb (stepCode m tray d) 0)
-    (λ t. let s = step-passed m tray d (eqb-true (stepCode m tray d) 0 t) in rw t (progress-simulated m tray d (going m f once d (s .1 .below) (s .1 .busy))))
+    (λ t. let s = step-passed m tray d (eqb-true (stepCode m tray d) 0 t) in rw t (progress-simulated m tray d (going m f once d (s .1 .below) (s .1 .busy)) (underWay m d) refl))
     (λ t. rw t (refused-simulated m (machine.step d) (stepCode m tray d) tray f (step-low m tray d) (eqb-false (stepCode m tray d) 0 t)))
 
 -- ---- Every call
-pub call-simulated : (m : Mem) (c : Call) → Fits m → NoDup (storeIn narrow (m .nodes) .nodes) → Simulated m (callOf c) (callResult m c)
+pub call-simulated : (m : Mem) (c : Call) → Fits m → NoDup (storeIn narrow (m .nodes) .nodes) → Simulated m (callOf (shape m) c) (callResult m c)
 unfolding callResult callOf
-call-simulated m (beginRead d a) f once = begin-read-simulated m f d a
-call-simulated m (beginInsert d a) f once = begin-insert-simulated m f d a
-call-simulated m (beginDelete d a) f once = begin-delete-simulated m f d a
+call-simulated m (begin d r) f once = begin-simulated m d r f
 call-simulated m (step d tray) f once = step-simulated m tray d f once
 call-simulated m (abandon d) f once = abandon-simulated m d f once
 call-simulated m (evictAnswer i) f once = evict-answer-simulated m i f
@@ -58,7 +52,7 @@ call-simulated m (evictNode i) f once = evict-node-simulated m i f once
 call-simulated m renew f once = renew-simulated m f
 
 pub refines : (m : Mem) (c : Call) → Fits m → NoDup (storeIn narrow (m .nodes) .nodes)
-    → Transition (stateOf m) (callOf c) (responseOf (shape m) (callResult m c)) (stateOf (callResult m c .mem)) × Fits (callResult m c .mem)
+    → Transition (stateOf m) (callOf (shape m) c) (responseOf (shape m) (callResult m c)) (stateOf (callResult m c .mem)) × Fits (callResult m c .mem)
 refines m c f once = let l = call-simulated m c f once in (l .transition, l .fits)
 
 -- the shape stays

@@ -6,22 +6,24 @@ use mathlib.Core.List.{List, []}
 use Prim.Native.Nat.{ℕ, _≤_}
 use native.Mathlib.Omega.{arith}
 use lib.Dec.{eqb, ltb, leb}
-use borrow.Author.Tests.{eqb-true, eqb-false, ne-eqb}
 use lib.ListN.{length, getD}
+use borrow.Author.Tests.{eqb-true, eqb-false, ne-eqb}
 use Rattle.laws.proofs.TestLaws.{byTest}
-use Rattle.query.specs.Shape.{narrow}
-use Rattle.rules.specs.Layout.{trayLeast, nodeCountOffset, answerCountOffset, reads}
+use Rattle.query.specs.Encoding.{isQuery, namesAll, queryOf}
+use Rattle.query.specs.Shape.{narrow, Shape}
+use Rattle.rules.specs.Layout.{trayLeast, nodeCountOffset, answerCountOffset}
 use Rattle.rules.specs.declared.Outcome.the-variants.{Refused}
 use Rattle.rules.specs.Nodes.{isWorn, pending}
 use Rattle.rules.specs.Client.{isIdle, isBad}
 use Rattle.rules.specs.Memory.{Mem, storeIn}
 use Rattle.rules.specs.Outcome.{Result, result, resultWith}
-use Rattle.rules.specs.Refusals.{columns, client, isShort, badQuery, isUnsound, noClient, isCommitted, allIdle, atClient, beginCode, stepCode, abandonCode, evictAnswerCode, evictNodeCode, renewCode}
+use Rattle.rules.specs.Refusals.{client, isShort, isUnsound, noClient, isCommitted, allIdle, atClient, beginCode, stepCode, abandonCode}
+use Rattle.rules.specs.Refusals.{evictAnswerCode, evictNodeCode, renewCode, shape}
 use Rattle.rules.specs.Calls.{unless}
-use Rattle.rules.specs.Refusals.{shape}
 use Rattle.rules.specs.History.{isAccepted, untrayed}
-use Rattle.machine.proofs.Machine.{Call}
-use Rattle.machine.proofs.Transition.{nothing}
+use Rattle.rules.specs.Work.{deleteOf, insertOf, readOf, Request, faultOf, isWrite}
+use Rattle.machine.specs.Machine.{Call}
+use Rattle.machine.specs.Transition.{nothing}
 use Rattle.refinement.proofs.Abstraction.{responseIn, Fits}
 use Rattle.refinement.proofs.StatesAfter.{Simulated, simulated, as-it-was}
 
@@ -50,12 +52,19 @@ low : (b : Bool) (n rest : ℕ) → n ≤ 11 → rest ≤ 11 → cond b n rest �
 low true n rest h k = h
 low false n rest h k = k
 
-pub begin-low : (m : Mem) (x d : ℕ) (a : List ℕ) → beginCode m x d a ≤ 11
+fault-low : (sh : Shape) (r : Request) → faultOf sh r ≤ 11
+unfolding faultOf
+fault-low sh (readOf a) = low (isQuery sh a) 0 2 (omega arith) (omega arith)
+fault-low sh (insertOf a) = low (isQuery sh a && namesAll (queryOf a)) 0 2 (omega arith) (omega arith)
+fault-low sh (deleteOf a) = low (isQuery sh a) 0 2 (omega arith) (omega arith)
+
+pub begin-low : (m : Mem) (d : ℕ) (r : Request) → beginCode m d r ≤ 11
 unfolding beginCode
-begin-low m x d a =
-    low (isShort narrow (shape m) m) 1 _ (omega arith) (low (badQuery (shape m) x a) 2 _ (omega arith) (low (isUnsound m) 3 _ (omega arith) (low (noClient d) 4 _ (omega arith)
+begin-low m d r =
+    low (isShort narrow (shape m) m) 1 _ (omega arith) (low (not (eqb (faultOf (shape m) r) 0)) (faultOf (shape m) r) _ (fault-low (shape m) r)
+    (low (isUnsound m) 3 _ (omega arith) (low (noClient d) 4 _ (omega arith)
     (low (isBad narrow (shape m) (client m d)) 3 _ (omega arith) (low (not (isIdle narrow (client m d))) 5 _ (omega arith)
-    (low (not (eqb x reads) && isWorn narrow (shape m) (storeIn narrow (m .nodes))) 10 0 (omega arith) (omega arith)))))))
+    (low (isWrite r && isWorn narrow (shape m) (storeIn narrow (m .nodes))) 10 0 (omega arith) (omega arith)))))))
 
 -- ---- Steps and abandonings
 atClient-low : (m : Mem) (d : ℕ) → atClient m d ≤ 11

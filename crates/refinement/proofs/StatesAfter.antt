@@ -3,11 +3,12 @@
 use mathlib.Core.Path.{_≡_, refl, sym, ap, _∙_, fun-ext}
 use mathlib.Core.Bool.{false}
 use mathlib.Core.List.{List, map}
-use Prim.Native.Nat.{ℕ, _+_, _*_, _≤_, _<_}
+use Prim.Native.Nat.{ℕ, _+_, _≤_, _<_}
 use native.Mathlib.Omega.{arith}
 use lib.Dec.{eqb}
-use borrow.Author.Tests.{eqb-true, eqb-false, lt-ltb}
 use lib.ListN.{length}
+use borrow.Author.Tests.{eqb-true, eqb-false, lt-ltb}
+use Rattle.lists.specs.Lists.{In}
 use Rattle.laws.proofs.TestLaws.{byTest}
 use Rattle.laws.proofs.RowLaws.{Wide}
 use Rattle.query.specs.Shape.{Shape, shapeOf, narrow}
@@ -17,20 +18,20 @@ use Rattle.rules.specs.Table.{Table}
 use Rattle.rules.specs.Nodes.{Store}
 use Rattle.rules.specs.Answers.{Entry}
 use Rattle.rules.specs.Client.{Client, isBad}
-use Rattle.rules.specs.Memory.{Mem, withTable, withFiled, recordsIn, withRecords, answersIn, withAnswers}
+use Rattle.rules.specs.Client as rules
+use Rattle.rules.specs.Memory.{Mem, withTable, withFiled, recordsIn, withRecords, answersIn, withAnswers, storeIn}
 use Rattle.rules.specs.Outcome.{StepResult, resultWith}
-use Rattle.rules.specs.Refusals.{columns, client}
-use Rattle.rules.proofs.ClientLaws.{client-same, client-other, columns-with, length-with}
-use Rattle.rules.specs.Refusals.{shape}
+use Rattle.rules.specs.Refusals.{columns, client, shape}
 use Rattle.rules.specs.Steps.{nowAt, storeBack}
+use Rattle.rules.proofs.ClientLaws.{client-same, client-other, columns-with, length-with}
 use Rattle.revisions.proofs.NodeRows.{AllRows}
-use Rattle.machine.proofs.Sums.{In, upd, upd-same, upd-other}
-use Rattle.machine.proofs.Machine.{Phase, State, Call, at-client, with-store, with-filed, with-tab}
-use Rattle.machine.proofs.Transition.{Transition}
+use Rattle.machine.specs.Machine.{upd, Phase, idle, State, Call, at-client, with-store, with-filed, with-tab}
+use Rattle.machine.specs.Transition.{Transition}
+use Rattle.machine.proofs.Sums.{upd-same, upd-other}
 use Rattle.refinement.proofs.Abstraction.{answers-room, ansOf, phasesOf, filedOf, stateOf, responseIn, responseOf, Kept, Fits}
-use Rattle.refinement.proofs.ClientPhases.{Left}
-use Rattle.refinement.proofs.MemoryReads.{records-with, length-with-records, count-records}
-use Rattle.refinement.proofs.MemoryReads.{store-with, length-with-store, count-nodes, answers-with, length-with-answers, count-answers}
+use Rattle.refinement.proofs.ClientPhases.{Left, idle-left}
+use Rattle.refinement.proofs.MemoryReads.{records-with, length-with-records, count-records, store-with, length-with-store, count-nodes}
+use Rattle.refinement.proofs.MemoryReads.{answers-with, length-with-answers, count-answers, length-nodes}
 
 -- the memories n stand for s; they fit, and have the shape of m
 pub record After (m n : Mem) (s : State) : Type 0 where
@@ -104,7 +105,7 @@ module _ (m : Mem) (f : Fits m) (d : ℕ) (h : d < maxClients) (c : Client) (x :
     sound = now-sound;
   }
 
-  pub at-now : After m (nowAt m d c) (at-client (stateOf m) d x)
+  at-now : After m (nowAt m d c) (at-client (stateOf m) d x)
   unfolding stateOf at-client filedOf nowAt
   at-now = record {
     state = state-eq now-shape (ap (λ (k : ℕ). recordsIn k (m .table)) now-columns) refl (ap (λ (sh : Shape). map (ansOf sh) (answersIn narrow (m .answers))) now-shape) (fun-ext now-client);
@@ -113,7 +114,11 @@ module _ (m : Mem) (f : Fits m) (d : ℕ) (h : d < maxClients) (c : Client) (x :
   }
 
 -- ---- The nodes
-module _ (m : Mem) (f : Fits m) (t : Store) (r : AllRows (t .nodes)) (most : length (t .nodes) ≤ maxNodes) where
+-- not too many, where those before are not
+module _ (m : Mem) (f : Fits m) (t : Store) (r : AllRows (t .nodes)) (few : length (storeIn narrow (m .nodes) .nodes) ≤ maxNodes → length (t .nodes) ≤ maxNodes) where
+  most : length (t .nodes) ≤ maxNodes
+  most = few (let n = length-nodes (m .nodes) in let y = f .nodes in omega arith)
+
   pub at-store : After m (storeBack m t) (with-store (stateOf m) t)
   unfolding stateOf with-store filedOf storeBack phasesOf client
   at-store = record {
@@ -126,7 +131,7 @@ module _ (m : Mem) (f : Fits m) (t : Store) (r : AllRows (t .nodes)) (most : len
       some = f .some;
       few = f .few;
       records = f .records;
-      nodes = let z = count-nodes (m .nodes) (f .nodes-long) (f .nodes) t r most in omega arith;
+      nodes = let z = count-nodes (m .nodes) (f .nodes-long) (f .nodes) t r most in let y = most in omega arith;
       answers = f .answers;
       kept = f .kept;
       sound = f .sound;
@@ -182,7 +187,10 @@ module _ (m : Mem) (f : Fits m) (es : List Entry) (w : Wide (entryWidth narrow) 
   }
 
 -- ---- A client after another change
-pub then-now : {m n : Mem} {s : State} → After m n s → (d : ℕ) → d < maxClients → (c : Client) (x : Phase) → Left (shape m) c x → After m (nowAt n d c) (at-client s d x)
-then-now {m} {n} a d h c x l =
+pub then-now : {m n : Mem} {s : State} {c : Client} {x : Phase} → After m n s → (d : ℕ) → d < maxClients → Left (shape m) c x → After m (nowAt n d c) (at-client s d x)
+then-now {m} {n} {s} {c} {x} a d h l =
     let b = at-now n (a .fits) d h c x (rw (a .same) l) in
     record { state = b .state ∙ ap (λ (t : State). at-client t d x) (a .state); fits = b .fits; same = b .same ∙ a .same }
+
+pub then-idle : {m n : Mem} {s : State} → After m n s → (d : ℕ) → d < maxClients → After m (nowAt n d (rules.idle narrow)) (at-client s d idle)
+then-idle {m} a d h = then-now a d h (idle-left (shape m))

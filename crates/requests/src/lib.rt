@@ -6,11 +6,13 @@ ghost use mathlib.Core.Path.{_≡_};
 ghost use Prim.Native.Nat.{_*_, _≤_};
 ghost use lib.ListN.{length};
 ghost use Rattle.query.specs.Encoding.{queryOf, keyWords};
+ghost use Rattle.rules.specs.Work.{readOf, insertOf, deleteOf};
 ghost use Rattle.rules.specs.Memory.{mem};
 ghost use Rattle.rules.specs.Outcome.{result};
 ghost use Rattle.rules.specs.Calls.{beginResult, evictAnswerResult, evictNodeResult, renewResult};
 ghost use Rattle.query.specs.Shape.{maxColumns};
-ghost use Rattle.rules.specs.Layout.{reads, inserts, deletes};
+ghost use Rattle.rules.specs.Layout.{reads, deletes};
+ghost use Rattle.checks.specs.CheckContracts.{requestOf};
 
 // ---- Begins
 // The key of a query as it arrives.
@@ -33,7 +35,8 @@ fn begin(
     client: u32,
     asked: &[u32],
 ) -> Outcome
-    ensures { λ r. ⌜ result r (mem (now (table .exit)) (now (nodes .exit)) (now (answers .exit)) (now (clients .exit))) ≡ beginResult (mem (now (table .entry)) (now (nodes .entry)) (now (answers .entry)) (now (clients .entry))) kind client (now (asked .entry)) ⌝ }
+    requires { ⌜ (reads ≤ kind) × (kind ≤ deletes) ⌝ }
+    ensures { λ r. ⌜ result r (mem (now (table .exit)) (now (nodes .exit)) (now (answers .exit)) (now (clients .exit))) ≡ beginResult (mem (now (table .entry)) (now (nodes .entry)) (now (answers .entry)) (now (clients .entry))) client (requestOf kind (now (asked .entry))) ⌝ }
 {
     let code = checks::begin_code(table, nodes, answers, clients, kind, client, asked);
     if code != 0 {
@@ -52,7 +55,7 @@ pub fn begin_read(
     client: u32,
     asked: &[u32],
 ) -> Outcome
-    ensures { λ r. ⌜ result r (mem (now (table .exit)) (now (nodes .exit)) (now (answers .exit)) (now (clients .exit))) ≡ beginResult (mem (now (table .entry)) (now (nodes .entry)) (now (answers .entry)) (now (clients .entry))) reads client (now (asked .entry)) ⌝ }
+    ensures { λ r. ⌜ result r (mem (now (table .exit)) (now (nodes .exit)) (now (answers .exit)) (now (clients .exit))) ≡ beginResult (mem (now (table .entry)) (now (nodes .entry)) (now (answers .entry)) (now (clients .entry))) client (readOf (now (asked .entry))) ⌝ }
 {
     begin(table, nodes, answers, clients, Hall::READS, client, asked)
 }
@@ -65,7 +68,7 @@ pub fn begin_insert(
     client: u32,
     asked: &[u32],
 ) -> Outcome
-    ensures { λ r. ⌜ result r (mem (now (table .exit)) (now (nodes .exit)) (now (answers .exit)) (now (clients .exit))) ≡ beginResult (mem (now (table .entry)) (now (nodes .entry)) (now (answers .entry)) (now (clients .entry))) inserts client (now (asked .entry)) ⌝ }
+    ensures { λ r. ⌜ result r (mem (now (table .exit)) (now (nodes .exit)) (now (answers .exit)) (now (clients .exit))) ≡ beginResult (mem (now (table .entry)) (now (nodes .entry)) (now (answers .entry)) (now (clients .entry))) client (insertOf (now (asked .entry))) ⌝ }
 {
     begin(table, nodes, answers, clients, Hall::INSERTS, client, asked)
 }
@@ -78,7 +81,7 @@ pub fn begin_delete(
     client: u32,
     asked: &[u32],
 ) -> Outcome
-    ensures { λ r. ⌜ result r (mem (now (table .exit)) (now (nodes .exit)) (now (answers .exit)) (now (clients .exit))) ≡ beginResult (mem (now (table .entry)) (now (nodes .entry)) (now (answers .entry)) (now (clients .entry))) deletes client (now (asked .entry)) ⌝ }
+    ensures { λ r. ⌜ result r (mem (now (table .exit)) (now (nodes .exit)) (now (answers .exit)) (now (clients .exit))) ≡ beginResult (mem (now (table .entry)) (now (nodes .entry)) (now (answers .entry)) (now (clients .entry))) client (deleteOf (now (asked .entry))) ⌝ }
 {
     begin(table, nodes, answers, clients, Hall::DELETES, client, asked)
 }

@@ -1,6 +1,5 @@
-pub mod EffectiveRevision
 pub mod LabelTests
 pub mod NodeRows
 pub mod NodeOperations
 pub mod RevisionBounds
-pub mod Releases
+pub mod Retirements

@@ -1,24 +1,23 @@
 -- The operations on the revision nodes, and what each does, told by EffectiveRevision. Leans on NodeRows, EffectiveRevision and LabelTests. Assumes nothing.
 use mathlib.Core.Path.{_≡_, refl, sym, _∙_}
-use mathlib.Core.Logic.{_⊎_, inl, inr}
 use mathlib.Core.Option.{Option, none, some}
-use mathlib.Core.Bool.{Bool, true, false, cond, _&&_, _||_, or-false}
+use mathlib.Core.Bool.{Bool, true, false, cond, _||_, or-false}
 use mathlib.Core.List.{List, [], _∷_, _++_}
 use Prim.Native.Nat.{ℕ, suc, _+_, _-_, _≤_, _<_}
 use native.Mathlib.Omega.{arith}
 use lib.Dec.{ltb, leb}
 use lib.ListN.{length, getD, length-append, length-set}
 use borrow.Author.Tests.{ltb-true, ltb-false}
-use Rattle.laws.proofs.ListLaws.{same-refl}
+use Rattle.laws.proofs.ListLaws.{same-refl, and-left}
 use Rattle.laws.proofs.TestLaws.{byTest, cond-same}
 use Rattle.lists.specs.Lists.{same}
 use Rattle.query.specs.Encoding.{labelWidth}
 use Rattle.query.specs.Shape.{narrow}
-use Rattle.rules.specs.Layout.{maxNodes, maxPending, maxRevision}
+use Rattle.rules.specs.Layout.{maxNodes, maxPending}
 use Rattle.rules.specs.Nodes.{Words, Node, Store, labelIn, pending, revision, withPending, withRevision, nodePlace, oldestFree}
-use Rattle.rules.specs.Nodes.{isPresent, nodeOf, withNode, evictNode, added, makeRoom, addedIn, ensured, announcedIn, announced, isPending, released, raised, releasedAll}
+use Rattle.rules.specs.Nodes.{isPresent, nodeOf, withNode, evictNode, added, makeRoom, addedIn, ensured, announcedIn, announced, isPending, released, lifted, mayRetire, retired}
 use Rattle.revisions.proofs.LabelTests.{by-same}
-use Rattle.revisions.proofs.EffectiveRevision.{has, effectiveIn, NoDup, effective, pendingOf, one, tally, lifts, Grew, Announced, Raised}
+use Rattle.revisions.specs.EffectiveRevision.{has, effectiveIn, NoDup, effective, pendingOf, one, tally, lifts, Grew, Announced, Retired}
 use Rattle.revisions.proofs.NodeRows.{Each, Wide, AllRows, without-out, out-length, each-at, each-set, each-added, each-out}
 use Rattle.revisions.proofs.NodeRows.{place-has, place-label, place-effective-in, place-pending-in, pending-in-absent, effective-in-absent, has-apart}
 use Rattle.revisions.proofs.NodeRows.{stored-has, stored-nodup, stored-effective-in, stored-pending-in, out-has, out-nodup, out-pending-in, out-effective-in, out-stays}
@@ -285,11 +284,16 @@ pub announced-ok : (p : Words) (s : Store) → length p ≡ labelWidth → NoDup
 unfolding announced
 announced-ok p s five d r = announcedIn-ok p s (ensured narrow p s) (ensured-ok p s five d r)
 
--- what marks taken off leave
-abbrev pub RaisedTo : Bool → List Words → Store → Store → Type 0
-RaisedTo c ps s t = Raised c ps s t × AllRows (t .nodes) × (length (t .nodes) ≡ length (s .nodes))
+-- a node that can be retired has a pending write
+may-pending : (c : Bool) (p : Words) (s : Store) → mayRetire narrow c p s ≡ true → 0 < pendingOf s p
+unfolding mayRetire
+may-pending c p s e = ltb-true 0 (pendingOf s p) (sym (pending-pending-of p s) ∙ and-left (isPending p s) _ e)
 
-pub released-ok : (p : Words) (s : Store) → NoDup (s .nodes) → AllRows (s .nodes) → 0 < pendingOf s p → RaisedTo false (p ∷ []) s (released p s)
+-- what marks taken off leave
+abbrev pub RetiredTo : Bool → List Words → Store → Store → Type 0
+RetiredTo c ps s t = Retired c ps s t × AllRows (t .nodes) × (length (t .nodes) ≡ length (s .nodes))
+
+released-ok : (p : Words) (s : Store) → NoDup (s .nodes) → AllRows (s .nodes) → 0 < pendingOf s p → RetiredTo false (p ∷ []) s (released p s)
 unfolding released tally lifts
 released-ok p s d r l =
     let h = pending-present p s l in
@@ -305,19 +309,17 @@ released-ok p s d r l =
       k .size,
     )
 
--- *raise*; none: the node is missing, or has no pending write, or its revision is at its largest
-abbrev pub RaisedOk : Words → Store → Option Store → Type 0
-RaisedOk p s none = (has (s .nodes) p ≡ false) ⊎ ((pendingOf s p ≡ 0) ⊎ (maxRevision narrow ≤ effective s p))
-RaisedOk p s (some t) = RaisedTo true (p ∷ []) s t
-
-lifted-ok : (p : Words) (s : Store) → NoDup (s .nodes) → AllRows (s .nodes) → has (s .nodes) p ≡ true → 0 < pendingOf s p
-    → RaisedTo true (p ∷ []) s (released p (withNode p (withRevision narrow (nodeOf p s) (effective s p + 1)) s))
-unfolding tally lifts
-lifted-ok p s d r h l =
+-- one mark, with a lift or without
+one-ok : (c : Bool) (p : Words) (s : Store) → NoDup (s .nodes) → AllRows (s .nodes) → 0 < pendingOf s p → RetiredTo c (p ∷ []) s (released p (lifted narrow c p s))
+unfolding lifted tally lifts
+one-ok false p s d r l = released-ok p s d r l
+one-ok true p s d r l =
+    let h = pending-present p s l in
     let u = withNode p (withRevision narrow (nodeOf p s) (effective s p + 1)) s in
     let k = revision-stored p s d r h (effective s p + 1) in
     let m : (q : Words) → pendingOf u q ≡ pendingOf s q = λ q. k .pendings q ∙ at-label (pendingOf s) p q in
-    let g = released-ok p u (k .once) (k .rows) (let z = m p in omega arith) in (
+    let g = released-ok p u (k .once) (k .rows) (let z = m p in omega arith) in
+    rw (node-effective p s h) (
       record {
         up = λ q. let a = g .0 .up q in let b = k .revisions q ∙ more-label (effective s) p q in omega arith;
         less = λ q. g .0 .less q ∙ m q;
@@ -328,32 +330,22 @@ lifted-ok p s d r h l =
       g .2 ∙ k .size,
     )
 
-raised-here : (p : Words) (s : Store) → NoDup (s .nodes) → AllRows (s .nodes) → has (s .nodes) p ≡ true → RaisedOk p s
-    (cond (ltb 0 (pendingOf s p) && ltb (effective s p) (maxRevision narrow)) (some (released p (withNode p (withRevision narrow (nodeOf p s) (effective s p + 1)) s))) none)
-raised-here p s d r h =
-    byTest (ltb 0 (pendingOf s p))
-    (λ a. byTest (ltb (effective s p) (maxRevision narrow))
-    (λ b. rw (a, b) (lifted-ok p s d r h (ltb-true 0 (pendingOf s p) a)))
-    (λ b. rw (a, b) (inr (inr (ltb-false _ _ b)))))
-    (λ a. rw a (inr (inl (let z = ltb-false 0 (pendingOf s p) a in omega arith))))
+-- the one law of a mark's removal: raise, release, and whatever else takes marks off a list of labels
+abbrev pub RetiredOk : Bool → List Words → Store → Option Store → Type 0
+RetiredOk c ps s none = Unit
+RetiredOk c ps s (some t) = RetiredTo c ps s t
 
-pub raised-ok : (p : Words) (s : Store) → NoDup (s .nodes) → AllRows (s .nodes) → RaisedOk p s (raised narrow p s)
-unfolding raised
-raised-ok p s d r =
-    byTest (has (s .nodes) p)
-    (λ h. rw (pending-pending-of p s, node-effective p s h) (raised-here p s d r h))
-    (λ h. rw (pending-pending-of p s, absent-pending-of p s h) (inl h))
+lifts-cons : (c : Bool) (p : Words) (ps : List Words) (q : Words) → lifts c (p ∷ ps) q ≡ lifts c (p ∷ []) q + lifts c ps q
+unfolding lifts tally
+lifts-cons true p ps q = omega arith
+lifts-cons false p ps q = refl
 
-abbrev pub ReleasedAllOk : List Words → Store → Option Store → Type 0
-ReleasedAllOk ps s none = Unit
-ReleasedAllOk ps s (some t) = RaisedTo false ps s t
-
-released-cons : (p : Words) (ps : List Words) (s t : Store) (o : Option Store) → RaisedTo false (p ∷ []) s t → ReleasedAllOk ps t o → ReleasedAllOk (p ∷ ps) s o
-unfolding tally lifts
-released-cons p ps s t none m n = tt
-released-cons p ps s t (some u) m n = (
+retired-cons : (c : Bool) (p : Words) (ps : List Words) (s t : Store) (o : Option Store) → RetiredTo c (p ∷ []) s t → RetiredOk c ps t o → RetiredOk c (p ∷ ps) s o
+unfolding tally
+retired-cons c p ps s t none m n = tt
+retired-cons c p ps s t (some u) m n = (
   record {
-    up = λ q. let a = m .0 .up q in let b = n .0 .up q in omega arith;
+    up = λ q. let a = m .0 .up q in let b = n .0 .up q in let e = lifts-cons c p ps q in omega arith;
     less = λ q. let a = m .0 .less q in let b = n .0 .less q in omega arith;
     held = λ q. n .0 .held q ∙ m .0 .held q;
     once = n .0 .once;
@@ -362,12 +354,17 @@ released-cons p ps s t (some u) m n = (
   n .2 ∙ m .2,
 )
 
-pub releasedAll-ok : (ps : List Words) (s : Store) → NoDup (s .nodes) → AllRows (s .nodes) → ReleasedAllOk ps s (releasedAll ps s)
-unfolding releasedAll tally lifts
-releasedAll-ok [] s d r = (record { up = λ q. omega arith; less = λ q. omega arith; held = λ q. refl; once = d }, r, refl)
-releasedAll-ok (p ∷ ps) s d r =
-    byTest (ltb 0 (pendingOf s p))
-    (λ e. rw (pending-pending-of p s, e) (
-    let k = released-ok p s d r (ltb-true 0 (pendingOf s p) e) in
-    released-cons p ps s (released p s) (releasedAll ps (released p s)) k (releasedAll-ok ps (released p s) (k .0 .once) (k .1))))
-    (λ e. rw (pending-pending-of p s, e) tt)
+lifts-none : (c : Bool) (q : Words) → lifts c [] q ≡ 0
+unfolding lifts tally
+lifts-none true q = refl
+lifts-none false q = refl
+
+pub retired-ok : (c : Bool) (ps : List Words) (s : Store) → NoDup (s .nodes) → AllRows (s .nodes) → RetiredOk c ps s (retired narrow c ps s)
+unfolding retired tally
+retired-ok c [] s d r = (record { up = λ q. let z = lifts-none c q in omega arith; less = λ q. omega arith; held = λ q. refl; once = d }, r, refl)
+retired-ok c (p ∷ ps) s d r = byTest (mayRetire narrow c p s)
+    (λ e. rw e (
+    let k = one-ok c p s d r (may-pending c p s e) in
+    let t = released p (lifted narrow c p s) in
+    retired-cons c p ps s t (retired narrow c ps t) k (retired-ok c ps t (k .0 .once) (k .1))))
+    (λ e. rw e tt)

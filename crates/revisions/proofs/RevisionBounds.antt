@@ -2,7 +2,7 @@
 -- Leans on NodeRows, EffectiveRevision and LabelTests. Assumes nothing.
 use mathlib.Core.Path.{_≡_}
 use mathlib.Core.Option.{Option, none, some}
-use mathlib.Core.Bool.{false, _&&_}
+use mathlib.Core.Bool.{true, false}
 use mathlib.Core.List.{List, [], _∷_}
 use Prim.Native.Nat.{ℕ, zero, suc, _+_, _≤_}
 use native.Mathlib.Omega.{arith}
@@ -13,10 +13,10 @@ use Rattle.laws.proofs.TestLaws.{or-false-l, or-false-r, byTest}
 use Rattle.lists.specs.Lists.{same, without}
 use Rattle.query.specs.Encoding.{labelWidth}
 use Rattle.query.specs.Shape.{Shape, narrow}
-use Rattle.rules.specs.Layout.{maxNodes, maxPending, maxRevision, wornAbove}
+use Rattle.rules.specs.Layout.{maxNodes, maxPending, wornAbove}
 use Rattle.rules.specs.Nodes.{Words, Node, Store, labelIn, pending, revision, withPending, withRevision, nodePlace, oldestFree, isHigh, isWorn}
-use Rattle.rules.specs.Nodes.{isPresent, nodeOf, withNode, evictNode, added, makeRoom, addedIn, ensured, announcedIn, announced, isPending, released, raised, releasedAll}
-use Rattle.revisions.proofs.EffectiveRevision.{effectiveIn, effective}
+use Rattle.rules.specs.Nodes.{isPresent, nodeOf, withNode, evictNode, added, makeRoom, addedIn, ensured, announcedIn, announced, released, lifted, mayRetire, retired}
+use Rattle.revisions.specs.EffectiveRevision.{effectiveIn, effective}
 use Rattle.revisions.proofs.NodeRows.{Each, each-set, each-added, each-map, place-none, fresh-revision, pending-revision}
 
 -- a node's revision is at most b
@@ -118,12 +118,6 @@ pub released-bound : (b : ℕ) (p : Words) (s : Store) → Below b s → Below b
 unfolding released
 released-bound b p s h = repended-below b p _ s h
 
-pub releasedAll-bound : (b : ℕ) (ps : List Words) (s : Store) → Below b s → BelowIn b (releasedAll ps s)
-unfolding releasedAll
-releasedAll-bound b [] s h = h
-releasedAll-bound b (p ∷ ps) s h =
-    byTest (isPending p s) (λ e. rw e (releasedAll-bound b ps (released p s) (released-bound b p s h))) (λ e. rw e tt)
-
 -- a number of a list that may be set
 set-most : (b : ℕ) (l : List ℕ) (i x : ℕ) → x ≤ b → getD l i 0 ≤ b → getD (set l i x) i 0 ≤ b
 set-most b [] i x h k = k
@@ -134,9 +128,22 @@ lifted-low : (b : ℕ) (n : Node) → Low b n → Low (b + 1) (withRevision narr
 unfolding withRevision revision
 lifted-low b n h = set-most (b + 1) n 6 _ (omega arith) (omega arith)
 
-pub raised-bound : (b : ℕ) (p : Words) (s : Store) → Below b s → BelowIn (b + 1) (raised narrow p s)
-unfolding raised
-raised-bound b p s h =
-    byTest (isPending p s && ltb (revision narrow (nodeOf p s)) (maxRevision narrow))
-    (λ e. rw e (released-bound (b + 1) p _ (stored-below (b + 1) p _ s (lifted-low b (nodeOf p s) (node-below b p s h)) (below-more s (omega arith) h))))
+lifted-below : (b : ℕ) (p : Words) (s : Store) → Below b s → Below (b + 1) (lifted narrow true p s)
+unfolding lifted
+lifted-below b p s h = stored-below (b + 1) p _ s (lifted-low b (nodeOf p s) (node-below b p s h)) (below-more s (omega arith) h)
+
+-- each mark that is taken off with a lift raises the bound by one, one without a lift leaves it
+pub raised-bound : (ps : List Words) (b : ℕ) (s : Store) → Below b s → BelowIn (b + length ps) (retired narrow true ps s)
+unfolding retired
+raised-bound [] b s h = let z : b + 0 ≡ b = omega arith in rw z h
+raised-bound (p ∷ ps) b s h =
+    let z : b + suc (length ps) ≡ b + 1 + length ps = omega arith in
+    byTest (mayRetire narrow true p s)
+    (λ e. rw (e, z) (raised-bound ps (b + 1) (released p (lifted narrow true p s)) (released-bound (b + 1) p _ (lifted-below b p s h))))
     (λ e. rw e tt)
+
+pub released-all-bound : (ps : List Words) (b : ℕ) (s : Store) → Below b s → BelowIn b (retired narrow false ps s)
+unfolding retired lifted
+released-all-bound [] b s h = h
+released-all-bound (p ∷ ps) b s h =
+    byTest (mayRetire narrow false p s) (λ e. rw e (released-all-bound ps b (released p s) (released-bound b p s h))) (λ e. rw e tt)

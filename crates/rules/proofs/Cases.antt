@@ -9,20 +9,21 @@ use lib.ListN.{length, getD, take, drop, set, replicate}
 use Rattle.lists.specs.Lists.{same, before, keep, place, without, allBelow, listed, padded, written, rows, flat, entriesIn, withEntries}
 use Rattle.query.specs.Query.{admits, lies, naming, pick, readNode, writeNode, named, readCount, writeCount, readNodes, writeNodes, value, Label}
 use Rattle.query.specs.Sheet.{turned, looks, sheetEntry, wildcardsIn, wildcardsOf}
-use Rattle.query.specs.Encoding.{columnOf, queryOf, wellMarked, isQuery, namesAll, recordOf, termValue, columnValue, tag, tags, labelWords, marks, keyWords, columnsIn, queryIn, isKey}
+use Rattle.query.specs.Encoding.{columnOf, queryOf, wellMarked, isQuery, namesAll, recordOf, termValue, columnValue, tag, tags, labelWords, marks, keyWords, columnsIn, queryIn}
 use Rattle.query.proofs.NodeCases as nodes
 use Rattle.rules.specs.declared.Outcome.{Outcome}
 use Rattle.rules.specs.declared.Outcome.the-variants.{Refused, Accepted, Answered, Long, Ended, Full}
 use Rattle.rules.specs.Table.{listOf, has, putIn, target, isFull, outside, effect, noRoom, changes}
-use Rattle.rules.specs.Nodes.{labelIn, pending, revision, withPending, withRevision, hasLabel, nodePlace, isPresent, nodeOf, withNode, evictNode, added, isFree, oldestFree, makeRoom, addedIn, ensured, announcedIn, announced, isPending, released, raised, releasedAll, isHigh, isWorn}
-use Rattle.rules.specs.Answers.{keyIn, lengthIn, revisionIn, listIn, hasKeyOf, atLeast, serves, fetchPlace, keyPlace, filed, isLong, someLong}
-use Rattle.rules.specs.Client.{kind, steps, sawPending, didChange, foundFull, entryOf, idle, isIdle, begun, queryAt, writeAt, stepsInAll, isBad, stepped, flag, noted, holding, wrote}
+use Rattle.rules.specs.Work.{readOf, insertOf, ofRecords, valueOf, mayAnswer, readLabels, askKey, askIn, writeLabels, changeKind, kindOf, keyOf, changeIn, writeIn, workIn, stepsInAll, isWrite, askOf, workOf, faultOf}
+use Rattle.rules.specs.Nodes.{labelIn, pending, revision, withPending, withRevision, hasLabel, nodePlace, isPresent, nodeOf, withNode, evictNode, added, isFree, oldestFree, makeRoom, addedIn, ensured, announcedIn, announced, isPending, released, lifted, mayRetire, retired, isHigh, isWorn}
+use Rattle.rules.specs.Answers.{keyIn, lengthIn, revisionIn, listIn, valueIn, hasKeyOf, atLeast, serves, fetchPlace, keyPlace, filed, isLong, someLong}
+use Rattle.rules.specs.Client.{kind, steps, sawPending, didChange, foundFull, entryOf, idle, isIdle, begun, workAt, isBad, stepped, flag, noted, holding, wrote}
 use Rattle.rules.specs.Memory.{Mem, mem, withTable, withNodes, recordsIn, withRecords, storeIn, withStore, answersIn, withAnswers, clientIn, withClient, cleared, opened, renewed}
-use Rattle.rules.specs.Refusals.{columns, client, isShort, badColumns, badQuery, isUnsound, noClient, isCommitted, allIdle, openCode, beginCode, atClient, stepCode, abandonCode, evictAnswerCode, evictNodeCode, renewCode}
-use Rattle.rules.specs.Steps.{nowAt, storeBack, answered, lookResult, fetchResult, tableResult, fileResult, readResult, announceResult, writeTableResult, endOf, raiseResult, writeResult, progress}
-use Rattle.rules.specs.Calls.{unless, openResult, beginResult, stepResult, releaseResult, announcedLabels, abandoned, abandonResult, evictAnswerResult, evictNodeResult, renewResult}
+use Rattle.rules.specs.Refusals.{columns, client, isShort, badColumns, isUnsound, noClient, isCommitted, allIdle, openCode, beginCode, atClient, stepCode, abandonCode, evictAnswerCode, evictNodeCode, renewCode}
+use Rattle.rules.specs.Steps.{nowAt, storeBack, answered, lookResult, fetchResult, tableResult, fileResult, readResult, announceResult, writeTableResult, endOf, raiseResult, writeResult, progressOf, progress}
+use Rattle.rules.specs.Calls.{unless, openResult, beginResult, stepResult, releaseResult, abandonedOf, abandoned, abandonResult, evictAnswerResult, evictNodeResult, renewResult}
 use Rattle.query.specs.Shape.{narrow}
-use Rattle.rules.specs.History.{Call, beginRead, beginInsert, step, evictNode as dropNode, untrayed, callResult}
+use Rattle.rules.specs.History.{Call, begin, step, evictNode as dropNode, untrayed, callResult}
 
 -- memories that held other numbers, as an opening with k columns leaves them
 abbrev fresh : ℕ → Mem
@@ -142,10 +143,10 @@ abbrev one : ℕ → List ℕ
 one v = 1 ∷ v ∷ []
 
 abbrev read5 : ℕ → Line
-read5 d = does (beginRead d (one 5)) goesOn
+read5 d = does (begin d (readOf (one 5))) goesOn
 
 abbrev inserts5 : ℕ → Bool → List Line
-inserts5 d changed = does (beginInsert d (one 5)) goesOn ∷ going d 4 ++ (does (step d tray) (ends changed) ∷ [])
+inserts5 d changed = does (begin d (insertOf (one 5))) goesOn ∷ going d 4 ++ (does (step d tray) (ends changed) ∷ [])
 
 abbrev insertsAgain : ℕ → List Line
 insertsAgain zero = []
@@ -167,7 +168,7 @@ case-7 = from (fresh 1)
 -- 8. k 1: insert 5 has marked node 5; a read of 5 answers at its fourth step and files nothing.
 abbrev case-8 : Row
 case-8 = from (fresh 1)
-    ((does (beginInsert 1 (one 5)) goesOn ∷ going 1 1) ++ (read5 0 ∷ going 0 3) ++ (does (step 0 tray) (answers [] false) ∷ filed-count 0 ∷ []))
+    ((does (begin 1 (insertOf (one 5))) goesOn ∷ going 1 1) ++ (read5 0 ∷ going 0 3) ++ (does (step 0 tray) (answers [] false) ∷ filed-count 0 ∷ []))
 
 -- 9. Node 5 leaves at counter 7, floor 1: floor 7, back at 7, and an answer filed under 7 holds.
 abbrev node5 : ℕ → Line
@@ -184,7 +185,7 @@ abbrev numbers : ℕ → List ℕ
 numbers n = listed (λ i. i) 0 n
 
 abbrev readAll : Line
-readAll = does (beginRead 0 (0 ∷ 0 ∷ [])) goesOn
+readAll = does (begin 0 (readOf (0 ∷ 0 ∷ []))) goesOn
 
 abbrev case-10-at : Row
 case-10-at = from (stocked (numbers 32)) ((readAll ∷ going 0 3) ++ (does (step 0 tray) (answers (numbers 32) false) ∷ []))
@@ -195,19 +196,19 @@ case-10-above = from (stocked (numbers 33)) ((readAll ∷ going 0 2) ++ (does (s
 -- 11. Table of 2,048: inserting one already there ends unchanged; a new one gives 13.
 abbrev case-11 : Row
 case-11 = from (stocked (numbers 2048))
-    (inserts5 0 false ++ (does (beginInsert 1 (one 5000)) goesOn ∷ going 1 4) ++ (does (step 1 tray) full ∷ table-count 2048 ∷ does (beginInsert 1 (one 5000)) goesOn ∷ []))
+    (inserts5 0 false ++ (does (begin 1 (insertOf (one 5000))) goesOn ∷ going 1 4) ++ (does (step 1 tray) full ∷ table-count 2048 ∷ does (begin 1 (insertOf (one 5000))) goesOn ∷ []))
 
 -- 12. Highest counter 4,294,967,103: a write begins; 4,294,967,104: 10.
 abbrev case-12-at : Row
-case-12-at = from (raisedTo 4294967103) (does (beginInsert 0 (one 5)) goesOn ∷ [])
+case-12-at = from (raisedTo 4294967103) (does (begin 0 (insertOf (one 5))) goesOn ∷ [])
 
 abbrev case-12-above : Row
-case-12-above = from (raisedTo 4294967104) (does (beginInsert 0 (one 5)) (refuses 10) ∷ does (beginRead 0 (one 5)) goesOn ∷ [])
+case-12-above = from (raisedTo 4294967104) (does (begin 0 (insertOf (one 5))) (refuses 10) ∷ does (begin 0 (readOf (one 5))) goesOn ∷ [])
 
 abbrev case-12-floor : List Row
 case-12-floor =
-    from (floorAt 4294967103) (does (beginInsert 0 (one 5)) goesOn ∷ [])
-    ∷ from (floorAt 4294967104) (does (beginInsert 0 (one 5)) (refuses 10) ∷ []) ∷ []
+    from (floorAt 4294967103) (does (begin 0 (insertOf (one 5))) goesOn ∷ [])
+    ∷ from (floorAt 4294967104) (does (begin 0 (insertOf (one 5))) (refuses 10) ∷ []) ∷ []
 
 abbrev pub cases : List Row
 cases =
@@ -215,5 +216,5 @@ cases =
     ++ (case-6 ∷ case-7 ∷ case-8 ∷ case-9 ∷ case-10-at ∷ case-10-above ∷ case-11 ∷ case-12-at ∷ case-12-above ∷ case-12-floor)
 
 pub cases-1-to-12 : T (all cases)
-unfolding readNodes writeNodes sheetEntry turned looks wildcardsOf wildcardsIn same keep place without allBelow listed padded written rows flat entriesIn withEntries admits lies naming pick readNode writeNode named readCount writeCount columnOf queryOf wellMarked isQuery namesAll recordOf termValue columnValue tag tags labelWords marks keyWords columnsIn queryIn isKey listOf before has putIn target isFull outside effect noRoom changes labelIn pending revision withPending withRevision hasLabel nodePlace isPresent nodeOf withNode evictNode added isFree oldestFree makeRoom addedIn ensured announcedIn announced isPending released raised releasedAll isHigh isWorn keyIn lengthIn revisionIn listIn hasKeyOf atLeast serves fetchPlace keyPlace filed isLong someLong kind steps sawPending didChange foundFull entryOf idle isIdle begun queryAt writeAt stepsInAll isBad stepped flag noted holding wrote recordsIn withRecords storeIn withStore answersIn withAnswers clientIn withClient cleared opened renewed columns client isShort badColumns badQuery isUnsound noClient isCommitted allIdle openCode beginCode atClient stepCode abandonCode evictAnswerCode evictNodeCode renewCode nowAt storeBack answered lookResult fetchResult tableResult fileResult readResult announceResult writeTableResult endOf raiseResult writeResult progress unless openResult beginResult stepResult releaseResult announcedLabels abandoned abandonResult evictAnswerResult evictNodeResult renewResult untrayed callResult
+unfolding readNodes writeNodes sheetEntry turned looks wildcardsOf wildcardsIn same keep place without allBelow listed padded written rows flat entriesIn withEntries admits lies naming pick readNode writeNode named readCount writeCount columnOf queryOf wellMarked isQuery namesAll recordOf termValue columnValue tag tags labelWords marks keyWords columnsIn queryIn listOf before has putIn target isFull outside effect noRoom changes labelIn pending revision withPending withRevision hasLabel nodePlace isPresent nodeOf withNode evictNode added isFree oldestFree makeRoom addedIn ensured announcedIn announced isPending released lifted mayRetire retired isHigh isWorn keyIn lengthIn revisionIn listIn valueIn hasKeyOf atLeast serves fetchPlace keyPlace filed isLong someLong kind steps sawPending didChange foundFull entryOf idle isIdle begun workAt isBad stepped flag noted holding wrote recordsIn withRecords storeIn withStore answersIn withAnswers clientIn withClient cleared opened renewed columns client isShort badColumns isUnsound noClient isCommitted allIdle openCode beginCode atClient stepCode abandonCode evictAnswerCode evictNodeCode renewCode nowAt storeBack answered lookResult fetchResult tableResult fileResult readResult announceResult writeTableResult endOf raiseResult writeResult progressOf progress unless openResult beginResult stepResult releaseResult abandonedOf abandoned abandonResult evictAnswerResult evictNodeResult renewResult untrayed callResult ofRecords valueOf mayAnswer readLabels askKey askIn writeLabels changeKind kindOf keyOf changeIn writeIn workIn stepsInAll isWrite askOf workOf faultOf
 cases-1-to-12 = tt

@@ -6,21 +6,21 @@ use mathlib.Core.List.{List, []}
 use Prim.Native.Nat.{ℕ, _≤_, _<_}
 use native.Mathlib.Omega.{arith}
 use lib.Dec.{eqb, ltb, leb}
-use borrow.Author.Tests.{ltb-false, leb-false, eqb-true, eqb-false, eq-eqb, ne-eqb, not-false}
+use borrow.Author.Tests.{ltb-false, leb-false, eqb-true, eqb-false, ne-eqb, not-false}
 use lib.ListN.{length, getD}
-use Rattle.laws.proofs.ListLaws.{below-at}
+use Rattle.laws.proofs.ListLaws.{below-at, and-left, and-right}
 use Rattle.laws.proofs.TestLaws.{or-false, passed}
-use Rattle.query.specs.Query.{writeCount}
 use Rattle.query.specs.Encoding.{queryOf, isQuery, namesAll}
 use Rattle.rules.specs.Layout.{recordCountOffset, nodeCountOffset, answerCountOffset, maxRecords, maxNodes, maxAnswers, maxClients, tableLeast, nodesLeast, answersLeast, clientsLeast, trayLeast}
 use Rattle.rules.specs.Nodes.{isWorn, pending}
 use Rattle.rules.specs.Answers.{someLong}
-use Rattle.rules.specs.Client.{kind, steps, isIdle, isBad, queryAt}
-use Rattle.rules.specs.Layout.{reads, inserts}
+use Rattle.rules.specs.Client.{kind, steps, isIdle, isBad, writeAt}
+use Rattle.rules.specs.Work.{writeLabels, Request, readOf, insertOf, deleteOf, isWrite, faultOf}
+use Rattle.rules.specs.Layout.{reads, refusedColumns}
 use Rattle.rules.specs.Memory.{Mem, storeIn, answersIn}
 use Rattle.query.specs.Shape.{Shape, narrow, shapeOf, maxColumns}
 use Rattle.rules.specs.Refusals.{shape}
-use Rattle.rules.specs.Refusals.{columns, client, isShort, badColumns, badQuery, isUnsound, noClient, isCommitted, allIdle, openCode, atClient, beginCode, stepCode, abandonCode, evictAnswerCode, evictNodeCode, renewCode}
+use Rattle.rules.specs.Refusals.{columns, client, isShort, badColumns, isUnsound, noClient, isCommitted, allIdle, openCode, atClient, beginCode, stepCode, abandonCode, evictAnswerCode, evictNodeCode, renewCode}
 
 -- ---- Memories that are long
 pub record Long (m : Mem) : Type 0 where
@@ -132,47 +132,55 @@ abandon-passed m d e =
 
 -- a write that is not committed has made no more steps than it has nodes to mark
 pub steps-before : (m : Mem) (d : ℕ) → isCommitted (shape m) (client m d) ≡ false → (kind (client m d) ≡ reads → ⊥)
-    → steps (client m d) ≤ writeCount (queryAt (shape m) (client m d))
+    → steps (client m d) ≤ length (writeLabels (writeAt (shape m) (client m d)))
 unfolding isCommitted
 steps-before m d e ne = ltb-false _ _ (rw (ne-eqb (kind (client m d)) reads ne) at e)
 
 -- ---- Begins
-pub record Begins (m : Mem) (x d : ℕ) (a : List ℕ) : Type 0 where
+pub record Begins (m : Mem) (d : ℕ) (r : Request) : Type 0 where
   pub memories : Sound m
-  pub query : isQuery (shape m) a ≡ true
-  pub names : x ≡ inserts → namesAll (queryOf a) ≡ true
+  pub good : faultOf (shape m) r ≡ 0
   pub below : d < maxClients
   pub rests : isIdle narrow (client m d) ≡ true
-  pub fresh : (x ≡ reads → ⊥) → isWorn narrow (shape m) (storeIn narrow (m .nodes)) ≡ false
+  pub fresh : isWrite r ≡ true → isWorn narrow (shape m) (storeIn narrow (m .nodes)) ≡ false
+
+-- what arrives at such a begin is a query of the hall, and of an insert one that names every column
+query-good : (b : Bool) → cond b 0 refusedColumns ≡ 0 → b ≡ true
+query-good true e = refl
+query-good false e = absurd (omega arith)
+
+pub read-good : (sh : Shape) (a : List ℕ) → faultOf sh (readOf a) ≡ 0 → isQuery sh a ≡ true
+unfolding faultOf
+read-good sh a e = query-good (isQuery sh a) e
+
+pub insert-good : (sh : Shape) (a : List ℕ) → faultOf sh (insertOf a) ≡ 0 → (isQuery sh a ≡ true) × (namesAll (queryOf a) ≡ true)
+unfolding faultOf
+insert-good sh a e = let z = query-good (isQuery sh a && namesAll (queryOf a)) e in (and-left _ _ z, and-right (isQuery sh a) _ z)
+
+pub delete-good : (sh : Shape) (a : List ℕ) → faultOf sh (deleteOf a) ≡ 0 → isQuery sh a ≡ true
+unfolding faultOf
+delete-good sh a e = query-good (isQuery sh a) e
 
 -- of two tests that do not both pass, where the first does
 and-rest : (a b : Bool) → a && b ≡ false → a ≡ true → b ≡ false
 and-rest a b e h = rw h at e
 
-query-passed : (k x : ℕ) (a : List ℕ) → badQuery (shapeOf k) x a ≡ false → (isQuery (shapeOf k) a ≡ true) × (x ≡ inserts → namesAll (queryOf a) ≡ true)
-unfolding badQuery
-query-passed k x a e =
-    let p = or-false _ _ e in
-    (not-false _ (p .0), λ i. not-false _ (and-rest _ _ (p .1) (eq-eqb x inserts i)))
-
-pub begin-passed : (m : Mem) (x d : ℕ) (a : List ℕ) → beginCode m x d a ≡ 0 → Begins m x d a
+pub begin-passed : (m : Mem) (d : ℕ) (r : Request) → beginCode m d r ≡ 0 → Begins m d r
 unfolding beginCode
-begin-passed m x d a e =
+begin-passed m d r e =
     let p1 = passed (isShort narrow (shape m) m) 0 _ e in
-    let p2 = passed (badQuery (shape m) x a) 1 _ (p1 .1) in
+    let p2 = code-passed (faultOf (shape m) r) _ (p1 .1) in
     let p3 = passed (isUnsound m) 2 _ (p2 .1) in
     let p4 = passed (noClient d) 3 _ (p3 .1) in
     let p5 = passed (isBad narrow (shape m) (client m d)) 2 _ (p4 .1) in
     let p6 = passed (not (isIdle narrow (client m d))) 4 _ (p5 .1) in
-    let p7 = passed (not (eqb x reads) && isWorn narrow (shape m) (storeIn narrow (m .nodes))) 9 0 (p6 .1) in
-    let q = query-passed (columns m) x a (p2 .0) in
+    let p7 = passed (isWrite r && isWorn narrow (shape m) (storeIn narrow (m .nodes))) 9 0 (p6 .1) in
     record {
       memories = sound m (p1 .0) (p3 .0);
-      query = q .0;
-      names = q .1;
+      good = p2 .0;
       below = client-passed d (p4 .0);
       rests = not-false _ (p6 .0);
-      fresh = λ ne. rw (ne-eqb x reads ne) at (p7 .0);
+      fresh = λ w. and-rest _ _ (p7 .0) w;
     }
 
 -- ---- Evictions and renewals

@@ -1,5 +1,5 @@
 -- Document 01, "One desk, step by step": the filed answers, fetch and file. A filed answer is a cache entry: it is kept as its
--- numbers (docs/LAYOUT.md). Leans on lists and Layout. Definitions only. Assumes nothing.
+-- numbers (docs/LAYOUT.md). Leans on lists, Layout and Work. Definitions only. Assumes nothing.
 use mathlib.Core.Bool.{Bool, cond, _&&_}
 use mathlib.Core.List.{List, [], _∷_, _++_}
 use Prim.Native.Nat.{ℕ, _+_, _*_}
@@ -8,6 +8,7 @@ use lib.ListN.{length, getD, take, drop}
 use Rattle.lists.specs.Lists.{same, place, without, allBelow}
 use Rattle.query.specs.Shape.{Form, Shape}
 use Rattle.query.specs.Encoding.{keyWidth}
+use Rattle.rules.specs.Work.{Value}
 use Rattle.rules.specs.Layout.{maxAnswers, maxList, lengthOffset, revisionsOffset, listOffset}
 
 -- "query, revisions, list": the query as its key, the list's length, the revisions noted, and up to 32 records
@@ -27,6 +28,10 @@ revisionIn f e j = getD e (revisionsOffset + j) 0
 -- the numbers of the list, as many for each record as there are columns
 unfoldable pub listIn : Form → Shape → Entry → List ℕ
 listIn f sh e = take (lengthIn e * sh .columns) (drop (listOffset f sh) e)
+
+-- both: what the read that filed it got
+unfoldable pub valueIn : Form → Shape → Entry → Value
+valueIn f sh e = record { count = lengthIn e; numbers = listIn f sh e }
 
 -- "an answer is filed for this query whose revision at every node is at least the one noted"; x: the reading client's own entry
 unfoldable pub hasKeyOf : Entry → Entry → Bool

@@ -1,18 +1,18 @@
 -- Document 01, "One desk, step by step": the state of one desk. The paper's desk is a client of the cache: it is kept as its
--- numbers (docs/LAYOUT.md). Leans on Layout, Query and Answers. Definitions only. Assumes nothing.
+-- numbers (docs/LAYOUT.md). Leans on Layout, Work and Answers. Definitions only. Assumes nothing.
 use mathlib.Core.Bool.{Bool, cond, not, _&&_, _||_}
 use mathlib.Core.List.{List, _∷_}
 use Prim.Native.Nat.{ℕ, _+_}
 use lib.Dec.{eqb, ltb, leb}
-use lib.ListN.{length, getD, drop, set, replicate}
-use Rattle.lists.specs.Lists.{same, padded, flat, written}
+use lib.ListN.{getD, drop, set, replicate}
+use Rattle.lists.specs.Lists.{same, padded, written}
 use Rattle.query.specs.Shape.{Form, Shape}
-use Rattle.rules.specs.Layout.{maxList, kindOffset, stepsOffset, sawOffset, changedOffset, fullOffset, entryOffset, clientWidth, listWidth}
-use Rattle.rules.specs.Layout.{heldLengthOffset, notedOffset, heldListOffset, reads, inserts, deletes}
-use Rattle.query.specs.Query.{Query, Record, readCount, writeCount}
-use Rattle.query.specs.Encoding.{namesAll, recordOf, queryIn, isKey, keyWords}
-use Rattle.rules.specs.Table.{Write, insert, delete}
-use Rattle.rules.specs.Answers.{Entry, keyIn, lengthIn}
+use Rattle.rules.specs.Layout.{kindOffset, stepsOffset, sawOffset, changedOffset, fullOffset, entryOffset, clientWidth, listWidth}
+use Rattle.rules.specs.Layout.{heldLengthOffset, notedOffset, heldListOffset, deletes}
+use Rattle.query.specs.Query.{Query}
+use Rattle.query.specs.Encoding.{queryIn}
+use Rattle.rules.specs.Work.{Ask, Value, Write, Work, askIn, writeIn, workIn, kindOf, keyOf, stepsInAll}
+use Rattle.rules.specs.Answers.{Entry, keyIn, isLong}
 
 -- kind, step, whether a look saw a mark, whether the table changed, whether it was full; then an entry as in the answers memory
 abbrev pub Client : Type 0
@@ -44,30 +44,32 @@ idle f = replicate (clientWidth f) 0
 unfoldable pub isIdle : Form → Client → Bool
 isIdle f c = same c (idle f)
 
--- as a begin leaves it: no step made, all the rest 0
-unfoldable pub begun : Form → ℕ → Query → Client
-begun f x q = padded (clientWidth f) (x ∷ 0 ∷ 0 ∷ 0 ∷ 0 ∷ keyWords q)
+-- as a begin of this work leaves it: no step made, all the rest 0
+unfoldable pub begun : Form → Work → Client
+begun f x = padded (clientWidth f) (kindOf x ∷ 0 ∷ 0 ∷ 0 ∷ 0 ∷ keyOf x)
 
+-- the query that its key has
 unfoldable pub queryAt : Shape → Client → Query
 queryAt sh c = queryIn sh (keyIn (entryOf c))
 
--- the write of a client that is no reader
+-- what a reader asks, what a writer writes, and either of them
+unfoldable pub askAt : Shape → Client → Ask
+askAt sh c = askIn sh (keyIn (entryOf c))
+
 unfoldable pub writeAt : Shape → Client → Write
-writeAt sh c = cond (eqb (kind c) inserts) (insert (recordOf (queryAt sh c))) (delete (queryAt sh c))
+writeAt sh c = writeIn sh (kind c) (keyIn (entryOf c))
 
--- how many steps it makes at the most: looks, fetch, table, file; or marks, table, raises
-unfoldable pub stepsInAll : ℕ → Query → ℕ
-stepsInAll x q = cond (eqb x reads) (readCount q + 3) (writeCount q + 1 + writeCount q)
+unfoldable pub workAt : Shape → Client → Work
+workAt sh c = workIn sh (kind c) (keyIn (entryOf c))
 
--- "the called desk is not idle and its kind, query, step or list length is out of range" (3)
+-- "the called desk is not idle and its kind, query, step or list length is out of range" (3): a query is in range if its numbers are
+-- those that the work read from them would be kept as
 unfoldable pub isBad : Form → Shape → Client → Bool
 isBad f sh c =
     not (isIdle f c)
     && ((eqb (kind c) 0 || ltb deletes (kind c))
-    || (not (isKey sh (keyIn (entryOf c)))
-    || ((eqb (kind c) inserts && not (namesAll (queryAt sh c)))
-    || (leb (stepsInAll (kind c) (queryAt sh c)) (steps c)
-    || ltb maxList (lengthIn (entryOf c))))))
+    || (not (same (keyIn (entryOf c)) (keyOf (workAt sh c)))
+    || (leb (stepsInAll (workAt sh c)) (steps c) || isLong (entryOf c))))
 
 -- one step more
 unfoldable pub stepped : Client → Client
@@ -80,9 +82,9 @@ flag b = cond b 1 0
 unfoldable pub noted : Form → ℕ → ℕ → ℕ → Client → Client
 noted f j revision pending c = set (set (stepped c) (notedOffset f j) revision) sawOffset (cond (eqb pending 0) (getD c sawOffset 0) 1)
 
--- the list taken at the table step: its length, and its records in the entry's last numbers
-unfoldable pub holding : Form → Shape → List Record → Client → Client
-holding f sh l c = written (set (stepped c) heldLengthOffset (length l)) (heldListOffset f sh) (padded (listWidth sh) (flat l))
+-- what was got at the table step: how many records, and their numbers in the entry's last numbers
+unfoldable pub holding : Form → Shape → Value → Client → Client
+holding f sh v c = written (set (stepped c) heldLengthOffset (v .count)) (heldListOffset f sh) (padded (listWidth sh) (v .numbers))
 
 -- a write past its table step
 unfoldable pub wrote : Bool → Bool → Client → Client

@@ -3,11 +3,11 @@ use mathlib.Core.Bool.{Bool, cond, _||_}
 use mathlib.Core.List.{List, [], _∷_}
 use Prim.Native.Nat.{ℕ, _+_}
 use lib.Dec.{eqb}
+use lib.ListN.{length}
 use Rattle.query.specs.Shape.{Shape}
-use Rattle.query.specs.Query.{Query, writeCount}
-use Rattle.query.specs.Encoding.{queryOf, recordOf}
-use Rattle.rules.specs.Table.{Table, Write, insert, delete, target, effect}
-use Rattle.rules.specs.Layout.{reads, inserts, deletes, endedLong, endedFull}
+use Rattle.rules.specs.Table.{Table, effect}
+use Rattle.rules.specs.Work.{writeLabels, Work, asking, writing, Request, workOf}
+use Rattle.rules.specs.Layout.{endedLong, endedFull}
 use Rattle.rules.specs.Memory.{Mem}
 use Rattle.rules.specs.Outcome.{Result, StepResult, resultWith, number}
 use Rattle.rules.specs.Calls.{beginResult, stepResult, abandonResult, evictAnswerResult, evictNodeResult, renewResult}
@@ -15,9 +15,7 @@ use Rattle.rules.specs.Calls.{beginResult, stepResult, abandonResult, ev
 -- "begins of reads, inserts and deletes, steps, abandonings, both puttings out, renewals, with any arguments.
 -- The tray may be another each time, of any length and contents."
 pub data Call : Type 0 where
-  beginRead : ℕ → List ℕ → Call
-  beginInsert : ℕ → List ℕ → Call
-  beginDelete : ℕ → List ℕ → Call
+  begin : ℕ → Request → Call
   step : ℕ → List ℕ → Call
   abandon : ℕ → Call
   evictAnswer : ℕ → Call
@@ -29,9 +27,7 @@ unfoldable pub untrayed : Result → StepResult
 untrayed x = resultWith (x .out) (x .mem) []
 
 unfoldable pub callResult : Mem → Call → StepResult
-callResult m (beginRead d a) = untrayed (beginResult m reads d a)
-callResult m (beginInsert d a) = untrayed (beginResult m inserts d a)
-callResult m (beginDelete d a) = untrayed (beginResult m deletes d a)
+callResult m (begin d r) = untrayed (beginResult m d r)
 callResult m (step d tray) = stepResult m tray d
 callResult m (abandon d) = untrayed (abandonResult m d)
 callResult m (evictAnswer i) = untrayed (evictAnswerResult m i)
@@ -45,8 +41,7 @@ isAccepted n = eqb n 0 || (eqb n endedLong || eqb n endedFull)
 -- what the plain table notes at a desk: "the kind, the query and 0 steps"
 pub data Note : Type 0 where
   nothing : Note
-  reading : Query → ℕ → Note
-  writing : Write → ℕ → Note
+  doing : Work → ℕ → Note
 
 -- "The plain table is fed the calls' arguments and the number each returned, and nothing from the memories.": the hall's shape is that
 -- which the opening's arguments make
@@ -62,27 +57,20 @@ plainAtOpening sh = record { shape = sh; table = []; notes = λ d. nothing }
 unfoldable pub noteAt : Plain → ℕ → Note → Plain
 noteAt p d x = record { shape = p .shape; table = p .table; notes = λ e. cond (eqb e d) x (p .notes e) }
 
--- how many nodes a write has in a hall of this shape
-abbrev pub nodesOfWrite : Shape → Write → ℕ
-nodesOfWrite sh w = writeCount (target w)
+-- "If a write is noted there and its steps are now one more than it has nodes, it takes effect": step n on the plain table
+unfoldable pub tableAfter : Work → ℕ → Table → Table
+tableAfter (asking x) n t = t
+tableAfter (writing w) n t = cond (eqb n (length (writeLabels w) + 1)) (effect (w .change) t) t
 
--- "An accepted step adds one to its desk's steps. If a write is noted there and its steps are now one more than it has nodes,
--- it takes effect"
+-- "An accepted step adds one to its desk's steps."
 unfoldable pub oneStep : Plain → ℕ → Note → Plain
 oneStep p d nothing = p
-oneStep p d (reading q n) = noteAt p d (reading q (n + 1))
-oneStep p d (writing w n) =
-    noteAt (record {
-      shape = p .shape;
-      table = cond (eqb (n + 1) (nodesOfWrite (p .shape) w + 1)) (effect w (p .table)) (p .table);
-      notes = p .notes;
-    }) d (writing w (n + 1))
+oneStep p d (doing x n) =
+    noteAt (record { shape = p .shape; table = tableAfter x (n + 1) (p .table); notes = p .notes }) d (doing x (n + 1))
 
 -- "An accepted abandoning takes away its desk's note." "Puttings out, renewals and refused calls change nothing."
 unfoldable pub fedAccepted : Plain → Call → Plain
-fedAccepted p (beginRead d a) = noteAt p d (reading (queryOf a) 0)
-fedAccepted p (beginInsert d a) = noteAt p d (writing (insert (recordOf (queryOf a))) 0)
-fedAccepted p (beginDelete d a) = noteAt p d (writing (delete (queryOf a)) 0)
+fedAccepted p (begin d r) = noteAt p d (doing (workOf (p .shape) r) 0)
 fedAccepted p (step d tray) = oneStep p d (p .notes d)
 fedAccepted p (abandon d) = noteAt p d nothing
 fedAccepted p (evictAnswer i) = p

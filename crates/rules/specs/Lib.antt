@@ -1,6 +1,7 @@
 pub mod Layout
 pub mod Table
 pub mod Nodes
+pub mod Work
 pub mod Answers
 pub mod Client
 pub mod Memory

@@ -1,6 +1,6 @@
 -- Document 01, "One desk, step by step": the revision nodes and the floor. A node is kept as its eight numbers (docs/LAYOUT.md).
 -- A label is given by the five numbers that a node keeps of it (query, `labelWords`). Leans on lists. Definitions only. Assumes nothing.
-use mathlib.Core.Bool.{Bool, cond, _&&_, _||_}
+use mathlib.Core.Bool.{Bool, cond, not, _&&_, _||_}
 use mathlib.Core.List.{List, [], _∷_, _++_}
 use mathlib.Core.Option.{Option, none, some}
 use Prim.Native.Nat.{ℕ, _+_, _-_, max}
@@ -101,20 +101,23 @@ announced f p s = announcedIn p (ensured f p s)
 unfoldable pub isPending : Words → Store → Bool
 isPending p s = isPresent p s && ltb 0 (pending (nodeOf p s))
 
--- the taking back of one mark
+-- "marks down by one"
 unfoldable pub released : Words → Store → Store
 released p s = withNode p (withPending (nodeOf p s) (pending (nodeOf p s) - 1)) s
 
--- *raise*: "counter up by one, marks down by one"; none: also "a counter at its largest to raise" (3)
-unfoldable pub raised : Form → Words → Store → Option Store
-raised f p s =
-    cond (isPending p s && ltb (revision f (nodeOf p s)) (maxRevision f))
-    (some (released p (withNode p (withRevision f (nodeOf p s) (revision f (nodeOf p s) + 1)) s))) none
+-- "counter up by one", where a mark is taken off with a lift
+unfoldable pub lifted : Form → Bool → Words → Store → Store
+lifted f lift p s = cond lift (withNode p (withRevision f (nodeOf p s) (revision f (nodeOf p s) + 1)) s) s
 
--- "takes back the marks it has set": all of them, or none where one is not there to be taken back
-unfoldable pub releasedAll : List Words → Store → Option Store
-releasedAll [] s = some s
-releasedAll (p ∷ ps) s = cond (isPending p s) (releasedAll ps (released p s)) none
+-- a mark can be taken off; with a lift not at "a counter at its largest to raise" (3)
+unfoldable pub mayRetire : Form → Bool → Words → Store → Bool
+mayRetire f lift p s = isPending p s && (not lift || ltb (revision f (nodeOf p s)) (maxRevision f))
+
+-- A mark taken off the node of each label, one after another, or none where one cannot be. With a lift it is the *raise*, "counter up by
+-- one, marks down by one", of one label; without, "takes back the marks it has set", of as many as there are.
+unfoldable pub retired : Form → Bool → List Words → Store → Option Store
+retired f lift [] s = some s
+retired f lift (p ∷ ps) s = cond (mayRetire f lift p s) (retired f lift ps (released p (lifted f lift p s))) none
 
 -- "the floor or a counter is above 4,294,967,103" (10)
 unfoldable pub isHigh : Form → Shape → Node → Bool

@@ -9,13 +9,12 @@ use lib.ListN.{length, getD}
 use Rattle.lists.specs.Lists.{allBelow}
 use Rattle.query.specs.Shape.{Form, narrow, Shape, shapeOf, maxColumns}
 use Rattle.rules.specs.Layout.{maxRecords, maxNodes, maxAnswers, maxClients, tableLeast, nodesLeast, answersLeast, clientsLeast, trayLeast}
-use Rattle.rules.specs.Layout.{recordCountOffset, nodeCountOffset, answerCountOffset, reads, inserts, refusedShort, refusedColumns, refusedUnsound, refusedNoClient}
+use Rattle.rules.specs.Layout.{recordCountOffset, nodeCountOffset, answerCountOffset, reads, refusedShort, refusedColumns, refusedUnsound, refusedNoClient}
 use Rattle.rules.specs.Layout.{refusedTaken, refusedIdle, refusedCommitted, refusedNoEntry, refusedPending, refusedWorn, refusedOccupied}
-use Rattle.query.specs.Query.{writeCount}
-use Rattle.query.specs.Encoding.{queryOf, isQuery, namesAll}
+use Rattle.rules.specs.Work.{writeLabels, Request, isWrite, faultOf}
 use Rattle.rules.specs.Nodes.{isWorn, pending}
 use Rattle.rules.specs.Answers.{someLong}
-use Rattle.rules.specs.Client.{Client, kind, steps, isIdle, isBad, queryAt}
+use Rattle.rules.specs.Client.{Client, kind, steps, isIdle, isBad, writeAt}
 use Rattle.rules.specs.Memory.{Mem, formIn, shapeIn, clientIn, storeIn, answersIn}
 
 -- the hall's form and shape as the desks memory tells them, and its k
@@ -42,10 +41,6 @@ isShort f sh m =
 unfoldable pub badColumns : ℕ → Bool
 badColumns k = eqb k 0 || ltb maxColumns k
 
--- 2 columns: "a query whose columns are not as many as the k in memory, a mark above 1, a star with a value, an insert with a star"
-unfoldable pub badQuery : Shape → ℕ → List ℕ → Bool
-badQuery sh x a = not (isQuery sh a) || (eqb x inserts && not (namesAll (queryOf a)))
-
 -- 3 unsound: "k, an entry count or a filed list's length in memory out of range"
 unfoldable pub isUnsound : Mem → Bool
 isUnsound m =
@@ -60,7 +55,7 @@ noClient d = leb maxClients d
 
 -- 7 committed: "abandon of a write after its table step"
 unfoldable pub isCommitted : Shape → Client → Bool
-isCommitted sh c = not (eqb (kind c) reads) && ltb (writeCount (queryAt sh c)) (steps c)
+isCommitted sh c = not (eqb (kind c) reads) && ltb (length (writeLabels (writeAt sh c))) (steps c)
 
 -- 11 occupied: "renew with a busy desk"
 unfoldable pub allIdle : Mem → Bool
@@ -73,16 +68,16 @@ refuse b n rest = cond b n rest
 unfoldable pub openCode : Mem → ℕ → ℕ
 openCode m k = refuse (isShort narrow (shapeOf k) m) refusedShort (refuse (badColumns k) refusedColumns 0)
 
--- x: the kind that begins; a: the query as it arrives. 10 worn: "a write begins while the floor or a counter is above 4,294,967,103"
-unfoldable pub beginCode : Mem → ℕ → ℕ → List ℕ → ℕ
-beginCode m x d a =
+-- what begins is first judged by itself (Work, `faultOf`). 10 worn: "a write begins while the floor or a counter is above 4,294,967,103"
+unfoldable pub beginCode : Mem → ℕ → Request → ℕ
+beginCode m d r =
     refuse (isShort (form m) (shape m) m) refusedShort
-    (refuse (badQuery (shape m) x a) refusedColumns
+    (refuse (not (eqb (faultOf (shape m) r) 0)) (faultOf (shape m) r)
     (refuse (isUnsound m) refusedUnsound
     (refuse (noClient d) refusedNoClient
     (refuse (isBad (form m) (shape m) (client m d)) refusedUnsound
     (refuse (not (isIdle (form m) (client m d))) refusedTaken
-    (refuse (not (eqb x reads) && isWorn (form m) (shape m) (storeIn (form m) (m .nodes))) refusedWorn 0))))))
+    (refuse (isWrite r && isWorn (form m) (shape m) (storeIn (form m) (m .nodes))) refusedWorn 0))))))
 
 -- "6 idle: step or abandon at an idle desk"
 unfoldable pub atClient : Mem → ℕ → ℕ

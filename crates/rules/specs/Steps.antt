@@ -1,21 +1,20 @@
 -- Document 01, "One desk, step by step": one step of client d, after its refusals. Leans on Memory and the entries.
 -- Definitions only. Assumes nothing.
 use mathlib.Core.Bool.{Bool, true, false, cond, not, _&&_}
-use mathlib.Core.List.{List, []}
+use mathlib.Core.List.{List, [], _∷_}
 use mathlib.Core.Option.{Option, none, some}
 use Prim.Native.Nat.{ℕ, _+_, _-_}
 use lib.Dec.{eqb, ltb}
 use lib.ListN.{length, getD}
-use Rattle.lists.specs.Lists.{flat, written}
+use Rattle.lists.specs.Lists.{written}
 use Rattle.rules.specs.declared.Outcome.{Outcome}
 use Rattle.rules.specs.declared.Outcome.the-variants.{Refused, Accepted, Answered, Long, Ended, Full}
-use Rattle.rules.specs.Layout.{maxList, reads, refusedUnsound}
-use Rattle.query.specs.Query.{Query, Record, readNode, writeNode, readCount, writeCount}
-use Rattle.query.specs.Encoding.{labelWords}
-use Rattle.rules.specs.Table.{Write, listOf, effect, changes, noRoom}
-use Rattle.rules.specs.Nodes.{Words, Store, ensured, announced, raised, nodeOf, revision, pending}
-use Rattle.rules.specs.Answers.{Entry, lengthIn, listIn, fetchPlace, filed}
-use Rattle.rules.specs.Client.{Client, kind, steps, sawPending, didChange, foundFull, entryOf, idle, queryAt, writeAt, stepped, noted, holding, wrote}
+use Rattle.rules.specs.Layout.{refusedUnsound}
+use Rattle.rules.specs.Table.{Change, effect, changes, noRoom}
+use Rattle.rules.specs.Work.{Ask, Value, valueOf, mayAnswer, readLabels, Write, writeLabels, Work, asking, writing}
+use Rattle.rules.specs.Nodes.{Words, Store, ensured, announced, retired, nodeOf, revision, pending}
+use Rattle.rules.specs.Answers.{Entry, valueIn, fetchPlace, filed}
+use Rattle.rules.specs.Client.{Client, steps, sawPending, didChange, foundFull, entryOf, idle, workAt, stepped, noted, holding, wrote}
 use Rattle.rules.specs.Memory.{Mem, withTable, withNodes, withFiled, withClients, recordsIn, withRecords, storeIn, withStore, answersIn, withAnswers, withClient}
 use Rattle.rules.specs.Outcome.{StepResult, resultWith}
 use Rattle.rules.specs.Refusals.{form, shape, columns, client}
@@ -29,8 +28,8 @@ storeBack m s = withNodes m (withStore (form m) (m .nodes) s)
 
 -- "An answer writes its records, k numbers each, from the tray's start and reports their count and whether it was filed before;
 -- the rest of the tray keeps its contents."
-unfoldable pub answered : Mem → List ℕ → ℕ → ℕ → List ℕ → Bool → StepResult
-answered m tray d n l cached = resultWith (Answered n cached) (nowAt m d (idle (form m))) (written tray 0 l)
+unfoldable pub answered : Mem → List ℕ → ℕ → Value → Bool → StepResult
+answered m tray d v cached = resultWith (Answered (v .count) cached) (nowAt m d (idle (form m))) (written tray 0 (v .numbers))
 
 -- **Read.** "A look at a node present notes its counter and whether its marks are above 0. A missing node is added last"
 unfoldable pub lookResult : Mem → List ℕ → ℕ → ℕ → Words → Option Store → StepResult
@@ -43,29 +42,31 @@ lookResult m tray d j p (some s) =
 unfoldable pub fetchResult : Mem → List ℕ → ℕ → ℕ → StepResult
 fetchResult m tray d i =
     cond (not (sawPending (client m d)) && ltb i (length (answersIn (form m) (m .answers))))
-    (answered m tray d (lengthIn (getD (answersIn (form m) (m .answers)) i []))
-    (listIn (form m) (shape m) (getD (answersIn (form m) (m .answers)) i [])) true)
+    (answered m tray d (valueIn (form m) (shape m) (getD (answersIn (form m) (m .answers)) i [])) true)
     (resultWith Accepted (nowAt m d (stepped (client m d))) tray)
 
 -- "Otherwise *table*: the matching list is taken. More than 32 records ends the read with 12. If a look saw a mark, the read answers
 -- here and files nothing."
-unfoldable pub tableResult : Mem → List ℕ → ℕ → List Record → StepResult
-tableResult m tray d l =
-    cond (ltb maxList (length l)) (resultWith Long (nowAt m d (idle (form m))) tray)
-    (cond (sawPending (client m d)) (answered m tray d (length l) (flat l) false)
-    (resultWith Accepted (nowAt m d (holding (form m) (shape m) l (client m d))) tray))
+unfoldable pub tableResult : Mem → List ℕ → ℕ → Value → StepResult
+tableResult m tray d v =
+    cond (not (mayAnswer v)) (resultWith Long (nowAt m d (idle (form m))) tray)
+    (cond (sawPending (client m d)) (answered m tray d v false)
+    (resultWith Accepted (nowAt m d (holding (form m) (shape m) v (client m d))) tray))
 
 -- "Otherwise *file*: .. the list goes last with the noted revisions, and the read answers."
 unfoldable pub fileResult : Mem → List ℕ → ℕ → Entry → StepResult
 fileResult m tray d e =
-    answered (withFiled m (withAnswers (form m) (m .answers) (filed e (answersIn (form m) (m .answers))))) tray d (lengthIn e)
-    (listIn (form m) (shape m) e) false
+    answered (withFiled m (withAnswers (form m) (m .answers) (filed e (answersIn (form m) (m .answers))))) tray d
+    (valueIn (form m) (shape m) e) false
 
-unfoldable pub readResult : Mem → List ℕ → ℕ → Query → ℕ → StepResult
-readResult m tray d q i =
-    cond (ltb i (readCount q)) (lookResult m tray d i (labelWords (readNode q i)) (ensured (form m) (labelWords (readNode q i)) (storeIn (form m) (m .nodes))))
-    (cond (eqb i (readCount q)) (fetchResult m tray d (fetchPlace (form m) (readCount q) (entryOf (client m d)) (answersIn (form m) (m .answers))))
-    (cond (eqb i (readCount q + 1)) (tableResult m tray d (listOf q (recordsIn (columns m) (m .table))))
+-- step i of a read: "One look for each node, in order."
+unfoldable pub readResult : Mem → List ℕ → ℕ → Ask → ℕ → StepResult
+readResult m tray d x i =
+    cond (ltb i (length (readLabels x)))
+    (lookResult m tray d i (getD (readLabels x) i []) (ensured (form m) (getD (readLabels x) i []) (storeIn (form m) (m .nodes))))
+    (cond (eqb i (length (readLabels x)))
+    (fetchResult m tray d (fetchPlace (form m) (length (readLabels x)) (entryOf (client m d)) (answersIn (form m) (m .answers))))
+    (cond (eqb i (length (readLabels x) + 1)) (tableResult m tray d (valueOf x (recordsIn (columns m) (m .table))))
     (fileResult m tray d (entryOf (client m d)))))
 
 -- **Write.** "One *mark* for each node"
@@ -74,7 +75,7 @@ announceResult m tray d none = resultWith (Refused refusedUnsound) m tray
 announceResult m tray d (some s) = resultWith Accepted (nowAt (storeBack m s) d (stepped (client m d))) tray
 
 -- "Then *table*: the record is added or the subspace removed."
-unfoldable pub writeTableResult : Mem → List ℕ → ℕ → Write → StepResult
+unfoldable pub writeTableResult : Mem → List ℕ → ℕ → Change → StepResult
 writeTableResult m tray d w =
     resultWith Accepted
     (nowAt (withTable m (withRecords (columns m) (m .table) (effect w (recordsIn (columns m) (m .table))))) d
@@ -91,15 +92,17 @@ raiseResult m tray d isLast (some s) =
     cond isLast (resultWith (endOf (client m d)) (nowAt (storeBack m s) d (idle (form m))) tray)
     (resultWith Accepted (nowAt (storeBack m s) d (stepped (client m d))) tray)
 
-unfoldable pub writeResult : Mem → List ℕ → ℕ → Write → Query → ℕ → StepResult
-writeResult m tray d w q i =
-    cond (ltb i (writeCount q)) (announceResult m tray d (announced (form m) (labelWords (writeNode q i)) (storeIn (form m) (m .nodes))))
-    (cond (eqb i (writeCount q)) (writeTableResult m tray d w)
-    (raiseResult m tray d (eqb i (writeCount q + writeCount q))
-    (raised (form m) (labelWords (writeNode q (i - (writeCount q + 1)))) (storeIn (form m) (m .nodes)))))
+-- step i of a write; it raises its nodes in the order in which it marked them
+unfoldable pub writeResult : Mem → List ℕ → ℕ → Write → ℕ → StepResult
+writeResult m tray d w i =
+    cond (ltb i (length (writeLabels w))) (announceResult m tray d (announced (form m) (getD (writeLabels w) i []) (storeIn (form m) (m .nodes))))
+    (cond (eqb i (length (writeLabels w))) (writeTableResult m tray d (w .change))
+    (raiseResult m tray d (eqb i (length (writeLabels w) + length (writeLabels w)))
+    (retired (form m) true (getD (writeLabels w) (i - (length (writeLabels w) + 1)) [] ∷ []) (storeIn (form m) (m .nodes)))))
+
+unfoldable pub progressOf : Mem → List ℕ → ℕ → Work → StepResult
+progressOf m tray d (asking x) = readResult m tray d x (steps (client m d))
+progressOf m tray d (writing w) = writeResult m tray d w (steps (client m d))
 
 unfoldable pub progress : Mem → List ℕ → ℕ → StepResult
-progress m tray d =
-    cond (eqb (kind (client m d)) reads)
-    (readResult m tray d (queryAt (shape m) (client m d)) (steps (client m d)))
-    (writeResult m tray d (writeAt (shape m) (client m d)) (queryAt (shape m) (client m d)) (steps (client m d)))
+progress m tray d = progressOf m tray d (workAt (shape m) (client m d))

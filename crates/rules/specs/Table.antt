@@ -26,13 +26,13 @@ unfoldable pub putIn : Record → Table → Table
 putIn r [] = r ∷ []
 putIn r (s ∷ t) = cond (before r s) (r ∷ s ∷ t) (s ∷ putIn r t)
 
--- "Write (insert of a record, or delete of a query)."
-pub data Write : Type 0 where
-  insert : Record → Write
-  delete : Query → Write
+-- "Write (insert of a record, or delete of a query).": what it does to a table
+pub data Change : Type 0 where
+  insert : Record → Change
+  delete : Query → Change
 
 -- the query whose subspace a write changes
-unfoldable pub target : Write → Query
+unfoldable pub target : Change → Query
 target (insert r) = naming r
 target (delete q) = q
 
@@ -45,17 +45,17 @@ outside q r = not (lies q r)
 
 -- "an insert puts its record in its ascending place, unless it is there already or 2,048 records are;
 -- a delete takes out every record in its subspace"
-unfoldable pub effect : Write → Table → Table
+unfoldable pub effect : Change → Table → Table
 effect (insert r) t = cond (has r t || leb maxRecords (length t)) t (putIn r t)
 effect (delete q) t = keep (outside q) t
 
 -- 13: the insert found no room
-unfoldable pub noRoom : Write → Table → Bool
+unfoldable pub noRoom : Change → Table → Bool
 noRoom (insert r) t = isFull r t
 noRoom (delete q) t = false
 
 -- "whether the table changed": a write changes the records exactly if it changes their number
-unfoldable pub changes : Write → Table → Bool
+unfoldable pub changes : Change → Table → Bool
 changes w t = not (eqb (length (effect w t)) (length t))
 
 -- ---- "ascending by first column, then second, and so on; no record twice"

@@ -6,14 +6,15 @@ use lib.ListN.{length, getD}
 use borrow.Author.Tests.{eq-eqb, ne-eqb}
 use native.Mathlib.Omega.{arith}
 use Rattle.rules.specs.declared.Outcome.the-variants.{Refused, Accepted}
-use Rattle.rules.specs.Client.{kind, steps, idle, queryAt}
+use Rattle.rules.specs.Client.{kind, steps, idle, askAt, writeAt, workAt}
+use Rattle.rules.specs.Work.{workIn}
 use Rattle.query.specs.Shape.{shapeOf, narrow}
 use Rattle.rules.specs.Layout.{columnsOffset, clientsEnd, reads}
 use Rattle.rules.specs.Memory.{Mem, clientIn, withClients, withClient}
 use Rattle.rules.specs.Outcome.{result, resultWith}
 use Rattle.rules.specs.Refusals.{columns, client, stepCode, abandonCode}
-use Rattle.rules.specs.Steps.{nowAt, readResult, progress}
-use Rattle.rules.specs.Calls.{unless, stepResult, abandoned, abandonResult}
+use Rattle.rules.specs.Steps.{nowAt, readResult, progressOf, progress}
+use Rattle.rules.specs.Calls.{unless, stepResult, abandonedOf, abandoned, abandonResult}
 use Rattle.rules.proofs.PassedChecks.{Busy, step-passed, abandon-passed, steps-before}
 use Rattle.checks.proofs.SoundMemories.{nodes-fit, client-fit}
 use Rattle.clients.specs.ClientContracts as client-contracts
@@ -64,7 +65,7 @@ module _ (m : Mem) (tray : List ℕ) (d n : ℕ) (e : n ≡ stepCode m tray d) w
     unfolding client
     step-reads r = reads-on m tray d (sym e ∙ z) (sym f ∙ r)
 
-    pub step-read : x ≡ 1 → readResult m tray d (queryAt (shapeOf (getD (m .clients) columnsOffset 0)) (clientIn narrow (m .clients) d)) (steps (clientIn narrow (m .clients) d)) ≡ stepResult m tray d
+    pub step-read : x ≡ 1 → readResult m tray d (askAt (shapeOf (getD (m .clients) columnsOffset 0)) (clientIn narrow (m .clients) d)) (steps (clientIn narrow (m .clients) d)) ≡ stepResult m tray d
     unfolding client
     step-read r = sym (read-due m tray d (sym e ∙ z) (sym f ∙ r))
 
@@ -72,7 +73,7 @@ module _ (m : Mem) (tray : List ℕ) (d n : ℕ) (e : n ≡ stepCode m tray d) w
     step-writes r = writer m d (step-busy z) (λ y. r (f ∙ y))
 
     pub step-write : (x ≡ 1 → ⊥) → stepOf (getD (m .clients) columnsOffset 0) m tray d ≡ stepResult m tray d
-    unfolding stepResult progress client
+    unfolding stepResult progress progressOf workAt workIn writeAt client
     step-write r = rw (eq-eqb (stepCode m tray d) 0 (sym e ∙ z), ne-eqb (kind (clientIn narrow (m .clients) d)) 1 (λ y. r (f ∙ y)))
 
 -- ---- The abandoning
@@ -86,7 +87,7 @@ module _ (m : Mem) (d n : ℕ) (e : n ≡ abandonCode m d) where
 
   module _ (z : n ≡ 0) (x : ℕ) (f : x ≡ kind (clientIn narrow (m .clients) d)) where
     pub abandon-read : (s : List ℕ) → x ≡ 1 → s ≡ withClient narrow (m .clients) d (idle narrow) → result Accepted (withClients m s) ≡ abandonResult m d
-    unfolding abandonResult unless abandoned client nowAt
+    unfolding abandonResult unless abandoned abandonedOf workAt workIn client nowAt
     abandon-read s r g = rw (eq-eqb (abandonCode m d) 0 (sym e ∙ z), eq-eqb (kind (clientIn narrow (m .clients) d)) 1 (sym f ∙ r), g)
 
     pub abandon-writes : (x ≡ 1 → ⊥) → Writer (m .clients) d (getD (m .clients) columnsOffset 0)
@@ -97,5 +98,5 @@ module _ (m : Mem) (d n : ℕ) (e : n ≡ abandonCode m d) where
     abandon-before r = steps-before m d (abandon-passed m d (sym e ∙ z) .1) (λ y. r (f ∙ y))
 
     pub abandon-write : (x ≡ 1 → ⊥) → backOf (getD (m .clients) columnsOffset 0) m d ≡ abandonResult m d
-    unfolding abandonResult unless abandoned client
+    unfolding abandonResult unless abandoned abandonedOf workAt workIn writeAt client
     abandon-write r = rw (eq-eqb (abandonCode m d) 0 (sym e ∙ z), ne-eqb (kind (clientIn narrow (m .clients) d)) 1 (λ y. r (f ∙ y)))

@@ -15,7 +15,7 @@ use Rattle.query.specs.Query.{Query, Record, lies}
 use Rattle.query.specs.declared.Column.{Column}
 use Rattle.query.specs.Shape.{maxColumns, narrow}
 use Rattle.rules.specs.Layout.{maxRecords, tableLeast, recordCountOffset}
-use Rattle.rules.specs.Table.{Table, listOf, Write, effect}
+use Rattle.rules.specs.Table.{Table, listOf, Change, effect}
 use Rattle.rules.specs.Memory.{Mem, recordsIn, withRecords}
 use Rattle.rules.specs.Refusals.{shape, columns, isShort, isUnsound}
 use Rattle.rules.proofs.PassedChecks.{sound}
@@ -130,7 +130,7 @@ module _ (k : ℕ) (s : List ℕ) (t : Table) (f : Fit k s) (w : Wide k t) (few 
       record { columns = f .columns; long = omega arith; few = omega arith }
 
 -- a write of k columns
-module _ (k : ℕ) (s : List ℕ) (w : Write) (f : Fit k s) (h : OfWidth k w) where
+module _ (k : ℕ) (s : List ℕ) (w : Change) (f : Fit k s) (h : OfWidth k w) where
   effect-is-wide : Wide k (effect w (recordsIn k s))
   effect-is-wide = effect-wide k w (recordsIn k s) h (wide-records k s f)
 

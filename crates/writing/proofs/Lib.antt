@@ -1,2 +1,2 @@
 pub mod WriteSteps
-pub mod Releasing
+pub mod Retiring

@@ -6,21 +6,23 @@ use mathlib.Core.List.{List, [], _∷_}
 use mathlib.Core.Option.{Option, none, some}
 use Prim.Native.Nat.{ℕ, _≤_, _<_}
 use lib.Dec.{eqb}
-use lib.ListN.{length, getD}
-use Rattle.query.specs.Query.{Query, writeCount}
-use Rattle.query.specs.Encoding.{recordOf}
+use lib.ListN.{length, take}
+use Rattle.lists.specs.Lists.{listed}
+use Rattle.query.specs.Query.{Query, writeNode}
+use Rattle.query.specs.Encoding.{recordOf, labelWords}
 use Rattle.rules.specs.declared.Outcome.{Outcome}
 use Rattle.rules.specs.declared.Outcome.the-variants.{Accepted}
-use Rattle.rules.specs.Table.{Table, Write, insert, delete, changes, noRoom}
-use Rattle.rules.specs.Nodes.{Words, Store, pending, nodePlace, releasedAll}
-use Rattle.rules.specs.Client.{Client, kind, steps, idle, isIdle, isBad, queryAt, writeAt, stepped}
+use Rattle.rules.specs.Table.{Table, Change, insert, delete, changes, noRoom}
+use Rattle.rules.specs.Nodes.{Words, Store, pending, revision, nodePlace, retired}
+use Rattle.rules.specs.Work.{writeLabels}
+use Rattle.rules.specs.Client.{Client, kind, steps, idle, isIdle, isBad, writeAt, stepped}
 use Rattle.query.specs.Shape.{shapeOf, maxColumns, narrow}
-use Rattle.rules.specs.Layout.{maxClients, clientsEnd, reads, inserts}
+use Rattle.rules.specs.Layout.{maxClients, maxRevision, clientsEnd, reads, inserts}
 use Rattle.rules.specs.Memory.{shapeIn, Mem, clientIn, storeIn}
 use Rattle.rules.specs.Outcome.{Result, StepResult}
 use Rattle.rules.specs.Steps.{writeResult, endOf}
-use Rattle.rules.specs.Calls.{announcedLabels, releaseResult}
-use Rattle.nodes.specs.NodeContracts.{releasedAt}
+use Rattle.rules.specs.Calls.{releaseResult}
+use Rattle.nodes.specs.NodeContracts.{nodeAt, retiredAt}
 use Rattle.writing.specs.declared.Report.{Report}
 
 -- what a passed check tells of the desks memory s and its client d, whose kind is that of a write
@@ -34,30 +36,34 @@ pub record Writer (s : List ℕ) (d k : ℕ) : Type 0 where
   pub busy : isIdle narrow (clientIn narrow s d) ≡ false
   pub writes : kind (clientIn narrow s d) ≡ reads → ⊥
 
--- how many steps the write has made, and how many nodes it has
+-- how many steps the write has made; the labels of its nodes, and how many there are
 abbrev pub stepAt : List ℕ → ℕ → ℕ
 stepAt s d = steps (clientIn narrow s d)
 
+abbrev pub labelsAt : ℕ → List ℕ → ℕ → List Words
+labelsAt k s d = writeLabels (writeAt (shapeOf k) (clientIn narrow s d))
+
 abbrev pub countAt : ℕ → List ℕ → ℕ → ℕ
-countAt k s d = writeCount (queryAt (shapeOf k) (clientIn narrow s d))
+countAt k s d = length (labelsAt k s d)
 
 -- what the next step of client d's write leaves
 abbrev pub stepOf : ℕ → Mem → List ℕ → ℕ → StepResult
-stepOf k m tray d = writeResult m tray d (writeAt (shapeOf k) (clientIn narrow (m .clients) d)) (queryAt (shapeOf k) (clientIn narrow (m .clients) d)) (steps (clientIn narrow (m .clients) d))
+stepOf k m tray d = writeResult m tray d (writeAt (shapeOf k) (clientIn narrow (m .clients) d)) (stepAt (m .clients) d)
 
 -- what the taking back of its marks leaves
 abbrev pub backOf : ℕ → Mem → ℕ → Result
-backOf k m d = releaseResult m d (releasedAll (announcedLabels (queryAt (shapeOf k) (clientIn narrow (m .clients) d)) (steps (clientIn narrow (m .clients) d))) (storeIn narrow (m .nodes)))
+backOf k m d =
+    releaseResult m d (retired narrow false (take (stepAt (m .clients) d) (labelsAt k (m .clients) d)) (storeIn narrow (m .nodes)))
 
--- the write of a kind and a query
-unfoldable pub writeOf : ℕ → Query → Write
-writeOf x q = cond (eqb x inserts) (insert (recordOf q)) (delete q)
+-- what a write of this kind to this query does to the table
+unfoldable pub changeOf : ℕ → Query → Change
+changeOf x q = cond (eqb x inserts) (insert (recordOf q)) (delete q)
 
 -- what a write's table step says of the table
 abbrev pub report : Bool → Bool → Report
 report b f = record { changed = b; full = f }
 
-unfoldable pub reported : Write → Table → Report
+unfoldable pub reported : Change → Table → Report
 reported w t = report (changes w t) (noRoom w t)
 
 -- after a raise: the last one ends the write
@@ -67,23 +73,36 @@ raiseEnd isLast c = cond isLast (endOf c) Accepted
 unfoldable pub raiseLeft : Bool → Client → Client
 raiseLeft isLast c = cond isLast (idle narrow) (stepped c)
 
+-- ---- marks taken off, by the labels of the nodes and by their places
+-- the label of the write's node i, in five numbers; and the labels of n nodes, from number i on
+abbrev pub labelAt : Query → ℕ → Words
+labelAt q i = labelWords (writeNode q i)
+
+unfoldable pub labelsFrom : Query → ℕ → ℕ → List Words
+labelsFrom q i n = listed (labelAt q) i n
+
 -- a store was found
 unfoldable pub isFound : Option Store → Bool
 isFound none = false
 isFound (some s) = true
 
--- ---- the taking back of marks, by the places of the nodes
 -- where the labels' nodes stand
 unfoldable pub placesOf : List Words → Store → List ℕ
 placesOf [] s = []
 placesOf (p ∷ ps) s = nodePlace p (s .nodes) ∷ placesOf ps s
 
 -- one taken off the node at each place, one after another
-unfoldable pub takenOff : List ℕ → Store → Store
-takenOff [] s = s
-takenOff (i ∷ l) s = takenOff l (releasedAt i s)
+unfoldable pub takenOff : Bool → List ℕ → Store → Store
+takenOff lift [] s = s
+takenOff lift (i ∷ l) s = takenOff lift l (retiredAt lift i s)
 
--- each is there, and has a pending write when its turn comes
-unfoldable pub CanTakeOff : List ℕ → Store → Type 0
-CanTakeOff [] s = Unit
-CanTakeOff (i ∷ l) s = ((i < length (s .nodes)) × (0 < pending (getD (s .nodes) i []))) × CanTakeOff l (releasedAt i s)
+-- node i is there and has a pending write, and its revision can go up if it is to be lifted
+pub record CanRetire (lift : Bool) (i : ℕ) (s : Store) : Type 0 where
+  pub below : i < length (s .nodes)
+  pub marked : 0 < pending (nodeAt i s)
+  pub room : lift ≡ true → revision narrow (nodeAt i s) < maxRevision narrow
+
+-- each is so when its turn comes
+unfoldable pub CanTakeOff : Bool → List ℕ → Store → Type 0
+CanTakeOff lift [] s = Unit
+CanTakeOff lift (i ∷ l) s = CanRetire lift i s × CanTakeOff lift l (retiredAt lift i s)

@@ -1,30 +1,29 @@
 // The steps of a write at its client: a mark for each of its nodes, the table, a raise for each; and the taking back of its marks.
+// A raise and a taking back are the same removal of marks, with a lift and without: both call `retire`.
 // The rules stand in rules (Steps, Calls), what a function takes for granted in specs/WriteContracts.antt.
 use hall::Hall;
 ghost use mathlib.Core.Path.{_≡_};
 ghost use mathlib.Core.Bool.{true};
 ghost use mathlib.Core.List.{List};
 ghost use Prim.Native.Nat.{ℕ, _≤_, _<_};
-ghost use lib.ListN.{length, take};
-ghost use Rattle.query.specs.Query.{writeCount};
+ghost use lib.ListN.{take};
 ghost use Rattle.query.specs.Encoding.{namesAll, recordOf};
 ghost use Rattle.rules.specs.Table.{insert, effect};
-ghost use Rattle.rules.specs.Nodes.{releasedAll};
 ghost use Rattle.rules.specs.Client.{idle};
-ghost use Rattle.query.specs.Shape.{maxColumns, narrow};
+ghost use Rattle.query.specs.Shape.{narrow};
 ghost use Rattle.rules.specs.Layout.{maxWord, inserts};
-ghost use Rattle.rules.specs.Memory.{mem, recordsIn, withRecords, storeIn, withStore, clientIn, withClient};
+ghost use Rattle.rules.specs.Memory.{mem, recordsIn, withRecords, clientIn, withClient};
 ghost use Rattle.rules.specs.Outcome.{result, resultWith};
 ghost use Rattle.rules.specs.Steps.{endOf};
-ghost use Rattle.rules.specs.Calls.{announcedLabels};
 ghost use Rattle.nodes.specs.NodeContracts;
 ghost use Rattle.clients.specs.ClientContracts;
 ghost use Rattle.table.specs.TableContracts;
-ghost use Rattle.writing.specs.WriteContracts.{Writer, stepAt, countAt, stepOf, backOf, writeOf, reported, raiseEnd, raiseLeft, isFound, placesOf, takenOff, CanTakeOff};
-use nodes::Spot;
+ghost use Rattle.writing.specs.WriteContracts.{Writer, stepAt, countAt, stepOf, backOf, changeOf, reported, raiseEnd, raiseLeft};
 use query::Column;
 use rules::Outcome;
 use table::Inserted;
+
+mod retire; // retire.rt: marks taken off some of a write's nodes
 
 // What a write's table step says of the table.
 struct Report {
@@ -80,7 +79,7 @@ fn insert_record(table: &mut [u32], cols: [Column; Hall::COLUMN_SLOTS], k: usize
 fn change(table: &mut [u32], kind: u32, cols: [Column; Hall::COLUMN_SLOTS], k: usize) -> Report
     requires { ⌜ TableContracts.Fit k (now table) ⌝ }
     requires { ⌜ (kind ≡ inserts → namesAll (take k cols) ≡ true) ⌝ }
-    ensures { λ r. ⌜ (r ≡ reported (writeOf kind (take k cols)) (recordsIn k (now (table .entry)))) × (now (table .exit) ≡ withRecords k (now (table .entry)) (effect (writeOf kind (take k cols)) (recordsIn k (now (table .entry))))) ⌝ }
+    ensures { λ r. ⌜ (r ≡ reported (changeOf kind (take k cols)) (recordsIn k (now (table .entry)))) × (now (table .exit) ≡ withRecords k (now (table .entry)) (effect (changeOf kind (take k cols)) (recordsIn k (now (table .entry))))) ⌝ }
 {
     if kind == Hall::INSERTS {
         return insert_record(table, cols, k);
@@ -144,8 +143,7 @@ fn raise_step(nodes: &mut [u32], clients: &mut [u32], d: usize, k: usize) -> Out
     let made = clients::steps_of(clients, d);
     let count = columns::keys::power(k);
     let number = made - (count + 1);
-    let label = columns::labels::write_label(cols, k, number as usize);
-    if !nodes::raise(nodes, &label) {
+    if !retire::retire(nodes, cols, k, number as usize, 1, true) {
         return Outcome::Refused(Hall::REFUSED_UNSOUND);
     }
     after_raise(clients, d, made == count + count)
@@ -177,45 +175,7 @@ pub fn write_step(
 }
 
 // ---- The taking back of marks
-// Whether each of the write's first n nodes has a pending write; where all have, `places` begins with their places.
-fn can_release(
-    nodes: &[u32],
-    cols: [Column; Hall::COLUMN_SLOTS],
-    k: usize,
-    n: usize,
-    places: &mut [usize],
-) -> bool
-    requires { ⌜ NodeContracts.Fit (now nodes) × ((k ≤ maxColumns) × (n ≤ writeCount (take k cols))) ⌝ }
-    requires { ⌜ n ≤ length (now places) ⌝ }
-    ensures { λ r. ⌜ (r ≡ isFound (releasedAll (announcedLabels (take k cols) n) (storeIn narrow (now (nodes .entry))))) × (r ≡ true → take n (now (places .exit)) ≡ placesOf (announcedLabels (take k cols) n) (storeIn narrow (now (nodes .entry)))) ⌝ }
-{
-    let mut j = 0;
-    while j < n {
-        let label = columns::labels::write_label(cols, k, j);
-        let spot = nodes::find_pending(nodes, &label);
-        let Spot::At(i) = spot else {
-            return false;
-        };
-        places[j] = i;
-        j += 1;
-    }
-    true
-}
-
-// Takes one off the node at each place. The places are kept from the test, so no label is searched for twice.
-fn take_off(nodes: &mut [u32], places: &[usize])
-    requires { ⌜ NodeContracts.Fit (now nodes) ⌝ }
-    requires { ⌜ CanTakeOff (now places) (storeIn narrow (now nodes)) ⌝ }
-    ensures { λ _. ⌜ now (nodes .exit) ≡ withStore narrow (now (nodes .entry)) (takenOff (now (places .entry)) (storeIn narrow (now (nodes .entry)))) ⌝ }
-{
-    let mut done = 0;
-    while done < places.len() {
-        nodes::release(nodes, places[done]);
-        done += 1;
-    }
-}
-
-// Takes back the marks of a write before its table step; the client is idle then. Tests all before it alters one.
+// Takes back the marks of a write before its table step; the client is idle then. Refused where one of them is not there.
 pub fn release_all(nodes: &mut [u32], clients: &mut [u32], d: usize, k: usize) -> Outcome
     requires { ⌜ Writer (now clients) d k ⌝ }
     requires { ⌜ NodeContracts.Fit (now nodes) ⌝ }
@@ -223,12 +183,10 @@ pub fn release_all(nodes: &mut [u32], clients: &mut [u32], d: usize, k: usize) -
     ensures { λ r. ⌜ ((t a : List ℕ) → result r (mem t (now (nodes .exit)) a (now (clients .exit))) ≡ backOf k (mem t (now (nodes .entry)) a (now (clients .entry))) d) ⌝ }
 {
     let cols = clients::columns_at(clients, d, k);
-    let made = clients::steps_of(clients, d) as usize;
-    let mut places = [0; 16];
-    if !can_release(nodes, cols, k, made, &mut places) {
+    let made = clients::steps_of(clients, d);
+    if !retire::retire(nodes, cols, k, 0, made as usize, false) {
         return Outcome::Refused(Hall::REFUSED_UNSOUND);
     }
-    take_off(nodes, &places[..made]);
     clients::set_idle(clients, d);
     Outcome::Accepted
 }

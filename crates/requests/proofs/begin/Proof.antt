@@ -8,6 +8,10 @@ use borrow.Author.Needs.{needs}
 use Rattle.requests.proofs.begin.Statement.{statement}
 use Rattle.requests.proofs.begin.Tie as tie
 
+-- the call's own arguments, from behind the check
+abbrev start : tie.After-begin-code → tie.Start
+start c = c .before .before .before .before .before .before .before .before .before .before
+
 begin-code-requires : tie.Need-begin-code-requires
 begin-code-requires c κs = search needs
 
@@ -28,13 +32,18 @@ unfolding beginResult
 returns c = refused _ _ _ (c .before .begin-code .ensures) _ (c .if1 .taken)
 
 key-of-requires : tie.Need-key-of-requires
-key-of-requires c κs = asked-short _ _ _ _ (begin-passed _ _ _ _ (sym (c .before .begin-code .ensures) ∙ c .if1 .left))
+key-of-requires c κs =
+    let s = start (c .before) in
+    asked-short _ (s .args .kind) _ (s .args .asked .now) (begin-passed _ _ _ (sym (c .before .begin-code .ensures) ∙ c .if1 .left))
 
 slice-aggregate-begin : tie.Need-slice-aggregate-begin
 slice-aggregate-begin c = search needs
 
 begin-requires : tie.Need-begin-requires
-begin-requires c κs = let t = begin-passed _ _ _ _ (sym (c .before .before .before .before .begin-code .ensures) ∙ c .before .before .before .if1 .left) in (client-fit _ (t .memories) _ (t .below), search needs)
+begin-requires c κs =
+    let i = c .before .before .before in
+    let t = begin-passed _ _ _ (sym (i .before .begin-code .ensures) ∙ i .if1 .left) in
+    (client-fit _ (t .memories) _ (t .below), search needs)
 
 same-length-5 : tie.Need-same-length-5
 same-length-5 c = search needs
@@ -49,7 +58,11 @@ same-length-8 : tie.Need-same-length-8
 same-length-8 c = search needs
 
 returns-2 : tie.Need-returns-2
-returns-2 c = begins _ _ _ _ _ _ _ (c .before .before .before .before .before .before .before .begin-code .ensures) (c .before .before .before .before .before .before .if1 .left) (c .before .before .begin .ensures) (c .before .before .before .before .before .key-of .ensures)
+returns-2 c =
+    let k = c .before .before .before .before .before in
+    let i = k .before in
+    let s = start (i .before) in
+    begins _ _ _ _ _ _ _ (s .pre .0) (s .pre .1) (i .before .begin-code .ensures) (i .if1 .left) (c .before .before .begin .ensures) (k .key-of .ensures)
 
 pub begin-spec : {M : Type 1} → statement M
 begin-spec =

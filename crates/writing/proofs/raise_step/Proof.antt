@@ -1,7 +1,7 @@
 -- `writing::raise_step` meets its contract. Assumes nothing.
 use native.Mathlib.Omega.{arith}
 use borrow.Author.Tests.{not-true, not-false}
-use Rattle.writing.proofs.WriteSteps.{step-small, count-small, power-count, label-is, number-is, last-is, raise-refused, raise-done}
+use Rattle.writing.proofs.WriteSteps.{Raise, raise-read, raise-refused, raise-done}
 use borrow.Author.Needs.{needs}
 use Rattle.writing.proofs.raise_step.Statement.{statement}
 use Rattle.writing.proofs.raise_step.Tie as tie
@@ -15,27 +15,28 @@ steps-of-requires c κs = search needs
 power-requires : tie.Need-power-requires
 power-requires c κs = search needs
 
+-- what was read of the client
+abbrev start : tie.After-power → tie.Start
+start c = c .before .before .before .before .before .before .before
+
+read : (c : tie.After-power)
+    → let cols = c .before .before .before .columns-at .result in
+    Raise (start c .args .clients .now) (start c .args .d) (start c .args .k) cols (c .before .steps-of .result) (c .power .result)
+read c =
+    let cols = c .before .before .before .columns-at .ensures in
+    raise-read _ _ _ (start c .pre .0) _ cols _ (c .before .steps-of .ensures) _ (c .power .ensures) (start c .pre .1 .1)
+
 add-number : tie.Need-add-number
-add-number c =
-    let p = c .before .before .before .before .before .before .before .pre .0 in
-    omega (arith, power-count _ _ _ p _ (c .power .ensures), count-small _ _ _ p)
+add-number c = let r = read c in omega arith
 
 sub-number : tie.Need-sub-number
-sub-number c =
-    let p = c .before .before .before .before .before .before .before .pre in
-    omega (arith, power-count _ _ _ (p .0) _ (c .power .ensures), c .before .steps-of .ensures, p .1 .1)
+sub-number c = let r = read c in omega arith
 
-cast-write-label : tie.Need-cast-write-label
-cast-write-label c = search needs
+cast-retire : tie.Need-cast-retire
+cast-retire c = search needs
 
-write-label-requires : tie.Need-write-label-requires
-write-label-requires c κs = search needs
-
-slice-aggregate-raise : tie.Need-slice-aggregate-raise
-slice-aggregate-raise c = search needs
-
-raise-requires : tie.Need-raise-requires
-raise-requires c κs = search needs
+retire-requires : tie.Need-retire-requires
+retire-requires c κs = let r = read (c .before) in (search needs, (search needs, r .fits))
 
 same-length : tie.Need-same-length
 same-length c = search needs
@@ -46,19 +47,20 @@ same-length-2 c = search needs
 returns : tie.Need-returns
 returns c =
     let made = c .before .before .before in
-    let p = made .before .before .before .before .before .before .before .before .before .before .before .pre in
-    let i = made .before .before .before .before .before .steps-of .ensures in
-    let n = power-count _ _ _ (p .0) _ (made .before .before .before .before .power .ensures) in
-    let l = label-is _ _ _ _ _ _ (made .before .before .before .write-label .ensures) (made .before .before .before .before .before .before .before .columns-at .ensures) (number-is _ _ _ _ i n) in
-    λ t a y. raise-refused t _ a _ y _ _ _ _ _ _ _ l (made .raise .ensures) (p .1 .1) (not-true _ (c .if1 .taken))
+    let r = read (made .before .before) in
+    λ t a y. raise-refused t _ a _ y _ _ _ _ _ _ (r .label) (made .retire .ensures) (r .past) (not-true _ (c .if1 .taken))
 
 add-after-raise : tie.Need-add-after-raise
 add-after-raise c =
-    let p = c .before .before .before .before .before .before .before .before .before .before .before .before .before .before .before .pre .0 in
-    omega (arith, power-count _ _ _ p _ (c .before .before .before .before .before .before .before .before .power .ensures), count-small _ _ _ p)
+    let made = c .before .before .before .before in
+    let r = read (made .before .before) in
+    omega arith
 
 after-raise-requires : tie.Need-after-raise-requires
-after-raise-requires c κs = (search needs, omega (arith, step-small _ _ _ (c .before .before .before .before .before .before .before .before .before .before .before .before .before .before .before .pre .0)))
+after-raise-requires c κs =
+    let made = c .before .before .before .before in
+    let r = read (made .before .before) in
+    (search needs, omega arith)
 
 same-length-3 : tie.Need-same-length-3
 same-length-3 c = search needs
@@ -68,12 +70,12 @@ same-length-4 c = search needs
 
 returns-2 : tie.Need-returns-2
 returns-2 c =
-    let made = c .before .before .before .before .before .before .before in
-    let p = made .before .before .before .before .before .before .before .before .before .before .before .pre in
-    let i = made .before .before .before .before .before .steps-of .ensures in
-    let n = power-count _ _ _ (p .0) _ (made .before .before .before .before .power .ensures) in
-    let l = label-is _ _ _ _ _ _ (made .before .before .before .write-label .ensures) (made .before .before .before .before .before .before .before .columns-at .ensures) (number-is _ _ _ _ i n) in
-    λ t a y. raise-done t _ a _ y _ _ _ _ _ _ _ l (made .raise .ensures) (p .1 .1) (not-false _ (c .before .before .before .before .if1 .left)) _ _ _ (last-is _ _ _ _ i n) (c .before .before .after-raise .ensures)
+    let passed = c .before .before .before .before in
+    let made = passed .before .before .before in
+    let r = read (made .before .before) in
+    let went = not-false _ (passed .if1 .left) in
+    let left = c .before .before .after-raise .ensures in
+    λ t a y. raise-done t _ a _ y _ _ _ _ _ _ (r .label) (made .retire .ensures) (r .past) went _ _ _ (r .last) left
 
 pub raise-step-spec : {M : Type 1} → statement M
 raise-step-spec =
@@ -84,10 +86,8 @@ raise-step-spec =
     power-requires
     add-number
     sub-number
-    cast-write-label
-    write-label-requires
-    slice-aggregate-raise
-    raise-requires
+    cast-retire
+    retire-requires
     same-length
     same-length-2
     returns

@@ -60,8 +60,8 @@ pub record Announced (p : Words) (s t : Store) : Type 0 where
   pub once : NoDup (t .nodes)
   pub stay : (q : Words) → has (s .nodes) q ≡ true → has (t .nodes) q ≡ true → effective t q ≡ effective s q
 
--- marks taken off a list of labels, with a raise (c) or without
-pub record Raised (c : Bool) (ps : List Words) (s t : Store) : Type 0 where
+-- a mark taken off each of a list of labels, with a lift of the revision (c) or without
+pub record Retired (c : Bool) (ps : List Words) (s t : Store) : Type 0 where
   pub up : (q : Words) → effective t q ≡ effective s q + lifts c ps q
   pub less : (q : Words) → pendingOf t q + tally q ps ≡ pendingOf s q
   pub held : (q : Words) → has (t .nodes) q ≡ has (s .nodes) q
