@@ -6,7 +6,7 @@ use lib.ListN.{getD}
 use native.Mathlib.Omega.{arith}
 use Rattle.laws.proofs.TestLaws.{passed}
 use Rattle.rules.specs.Memory.{Mem}
-use Rattle.rules.specs.Refusals.{columns, isShort, isUnsound}
+use Rattle.rules.specs.Refusals.{isShort, isUnsound}
 use Rattle.rules.specs.Refusals.{shape}
 use Rattle.rules.proofs.PassedChecks.{Sound, sound}
 use Rattle.nodes.specs.NodeContracts as nodes

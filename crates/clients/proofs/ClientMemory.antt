@@ -2,7 +2,7 @@
 -- Leans on rules, on its laws of a client in memory and on the laws of lists. Assumes nothing.
 use mathlib.Core.Path.{_≡_, sym, ap, _∙_}
 use mathlib.Core.List.{List, _++_, append-assoc, append-nil}
-use Prim.Native.Nat.{ℕ, _+_, _-_, _*_, _≤_, _<_}
+use Prim.Native.Nat.{ℕ, _+_, _-_, _≤_, _<_}
 use native.Mathlib.Omega.{arith}
 use lib.ListN.{length, getD, take, drop, set, replicate, length-drop, length-replicate, drop-of-length-le}
 use lib.Seq.{length-take-le, getD-take, getD-drop, drop-drop, take-take, drop-append-add, drop-append-le, take-append-add, take-append-le}

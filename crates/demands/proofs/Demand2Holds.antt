@@ -6,10 +6,10 @@ use mathlib.Core.List.{List, []}
 use Prim.Native.Nat.{ℕ, suc, _<_}
 use native.Mathlib.Omega.{arith}
 use lib.ListN.{length, getD}
-use Rattle.lists.specs.Lists.{written, In}
+use Rattle.lists.specs.Lists.{In}
 use Rattle.query.specs.Encoding.{queryIn}
 use Rattle.query.proofs.EncodingLaws.{query-in-key}
-use Rattle.rules.specs.Answers.{Entry, keyIn, listIn, fetchPlace}
+use Rattle.rules.specs.Answers.{Entry, keyIn, fetchPlace}
 use Rattle.rules.specs.Client.{entryOf}
 use Rattle.rules.specs.Memory.{Mem, answersIn}
 use Rattle.rules.specs.Outcome.{StepResult}
@@ -21,8 +21,8 @@ use Rattle.rules.specs.History.{callResult}
 use Rattle.laws.proofs.Members.{in-at}
 use Rattle.machine.specs.Transition.{Transition}
 use Rattle.machine.specs.Machine.{isRefused}
-use Rattle.machine.proofs.Quiescence.{keyAt}
 use Rattle.machine.proofs.Gets.{gets}
+use Rattle.machine.proofs.Frames.{phaseWork}
 use Rattle.refinement.proofs.Abstraction.{stateOf, responseOf, ansOf, filedOf}
 use Rattle.refinement.proofs.AnswersRefined.{map-in}
 use Rattle.rules.specs.Answers.{valueIn}
@@ -32,8 +32,8 @@ use Rattle.demands.specs.WholeHistory.{History, memAt, callAt, resultAt,
 use Rattle.demands.specs.Demand2.{Reads, GetsIt}
 use Rattle.demands.proofs.HistoryRuns.{responseAt, sound, transition-at}
 use Rattle.demands.proofs.Moments.{fetching}
-use Rattle.demands.proofs.Taken.{fetch-step, fetch-accepted, fetch-gave}
-use Rattle.demands.proofs.Flags.{flagsAt, quiescent-at, since-key, on-client}
+use Rattle.demands.proofs.Taken.{fetch-step, fetch-accepted, fetch-gave, Gave}
+use Rattle.demands.proofs.Flags.{flagsAt, quiescent-at, since-phase, on-client}
 use Rattle.demands.proofs.Filings.{step-reply, step-call, no-label-twice, on-file}
 use Rattle.rules.specs.Work.{Ask, readLabels, askIn, askKey}
 use Rattle.rules.specs.History as rules
@@ -62,14 +62,14 @@ fetched h n d tray e = ap (callResult (memAt h n)) e
 
 -- ---- The fetch
 pub demand-2-gets : (h : History) → GetsIt h
-unfolding keyAt
+unfolding phaseWork
 demand-2-gets h q b n e x b′ f y last c lb lf either k =
     let d = x .client in
     let m = memAt h n in
     let w = x .within in
     let s = sound h n (omega arith) in
     let z = fetching m d q (s .fits) (no-label-twice h n (omega arith)) (x .fetches) in
-    let since = since-key h q d b n (x .asked) (omega arith) (x .runs) (ap keyAt (z .phase)) in
+    let since = since-phase h q d b n (x .request) (omega arith) (x .runs) (ap phaseWork (z .phase)) in
     let step = fetch-step m (x .tray) d q (x .takes) (x .fetches) in
     let i = fetchPlace narrow (length (readLabels q)) (entryOf (client m d)) (answersIn narrow (m .answers)) in
     let r = step-reply h n d (x .tray) (x .calls) ∙ ap (responseOf (shape m)) step in
@@ -80,6 +80,7 @@ demand-2-gets h q b n e x b′ f y last c lb lf either k =
     (its-key m d q (length (readLabels q)) e (x .fetches) (x .key))
     (on-client h q d b n c since lb k n (x .runs .earlier) (omega arith))
     (on-file h q b′ f n c (omega arith) y last lf k n (last .0) (omega arith)) in
-    let g = fetch-gave m (x .tray) d i e (s .fits) (sym r ∙ a ∙ ap (λ v. machine.answered v true) (its-list (shape m) e)) in
+    let g : Gave (shapeAt h) (x .tray) e (fetchResult m (x .tray) d i) = subst (λ sh. Gave sh (x .tray) e (fetchResult m (x .tray) d i)) (s .shape)
+    (fetch-gave m (x .tray) d i e (s .fits) (sym r ∙ a ∙ ap (λ v. machine.answered v true) (its-list (shape m) e))) in
     let reply : resultAt h n ≡ fetchResult m (x .tray) d i = fetched h n d (x .tray) (x .calls) ∙ step in
-    (ap (λ (t : StepResult). t .out) reply ∙ g .out, ap (λ (t : StepResult). t .tray) reply ∙ g .tray ∙ ap (λ (sh : Shape). written (x .tray) 0 (listIn narrow sh e)) (s .shape))
+    (ap (λ (t : StepResult). t .out) reply ∙ g .out, ap (λ (t : StepResult). t .tray) reply ∙ g .tray)

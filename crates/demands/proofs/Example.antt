@@ -216,7 +216,7 @@ was-filed =
     let r = is-ready (memAt example 5) (length (readLabels q) + 2) (at 5 (omega arith) .files) in
     record {
       client = 0;
-      asked = asked;
+      request = readOf asked;
       tray = tray;
       calls = file-call;
       takes = r .0;
@@ -251,7 +251,7 @@ fetched =
     let r = is-ready (memAt example 9) (length (readLabels q)) (and-left (ready (memAt example 9) (length (readLabels q))) _ (at 9 (omega arith) .fetches)) in
     record {
       client = 0;
-      asked = asked;
+      request = readOf asked;
       tray = tray;
       within = omega arith;
       calls = fetch-call;
@@ -286,6 +286,7 @@ was-quiescent = record {
 
 -- ---- What the theorem gives
 pub case-6 : resultAt example 9 .out ≡ Answered 0 true
+unfolding valueIn
 case-6 =
     demand-2-gets example q 6 9 e fetched 0 5 was-filed last-filed 0 (omega arith) (omega arith) (inr refl) was-quiescent .0
     ∙ ap (λ n. Answered n true) (filed-there .none)

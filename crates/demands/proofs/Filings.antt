@@ -16,14 +16,15 @@ use Rattle.rules.specs.Refusals.{shape, client}
 use Rattle.rules.specs.Calls.{stepResult}
 use Rattle.rules.specs.History.{evictAnswer, evictNode, callResult}
 use Rattle.revisions.specs.EffectiveRevision.{NoDup}
-use Rattle.rules.specs.Work.{Ask, Value, asking}
+use Rattle.rules.specs.Work.{Ask, Value, asking, readOf}
 use Rattle.machine.proofs.Asks.{sameAsk-eq, sameAsk-refl}
 use Rattle.machine.specs.Machine.{State, Phase, idle, looking, tabling, filing, announcing, raising, Response, isRefused}
 use Rattle.machine.proofs.StateInv.{StateInv}
 use Rattle.machine.proofs.TraceSteps.{job-at}
 use Rattle.machine.proofs.Claims.{fresh}
 use Rattle.machine.proofs.Log.{after, JobFrom, linked}
-use Rattle.machine.proofs.Quiescence.{quiescent, keyAt, filesAt, files, clientOf, quiescent-next}
+use Rattle.machine.proofs.Quiescence.{quiescent, filesAt, files, clientOf, quiescent-next}
+use Rattle.machine.proofs.Frames.{phaseWork}
 use Rattle.refinement.proofs.Abstraction.{stateOf, callOf, responseOf}
 use Rattle.demands.specs.WholeHistory.{shapeAt, History, memAt, callAt, resultAt}
 use Rattle.demands.specs.Demand2.{Quiescent, Filed, LastFiled}
@@ -32,7 +33,7 @@ use Rattle.demands.proofs.LogPlaces.{read-places}
 use Rattle.demands.proofs.Moments.{filing-there, files-there}
 use Rattle.demands.proofs.Taken.{step-taken, file-step, file-accepted}
 use Rattle.demands.proofs.Works.{Since}
-use Rattle.demands.proofs.Flags.{flagsAt, quiescent-then, quiescent-less, since-key, on-client}
+use Rattle.demands.proofs.Flags.{flagsAt, quiescent-then, quiescent-less, since-phase, on-client}
 use Rattle.query.specs.Shape.{narrow, Shape}
 use Rattle.rules.specs.Layout.{maxClients}
 use Rattle.rules.specs.History as rules
@@ -112,7 +113,7 @@ filed-there h q n w e =
       _,
       record {
         client = d;
-        asked = u .asked;
+        request = readOf (u .asked);
         tray = f .tray;
         calls = f .calls;
         takes = step-taken (shape (memAt h n)) (memAt h n) (f .tray) d (ap isRefused (sym (step-reply h n d (f .tray) (f .calls))) ∙ f .taken);
@@ -140,11 +141,11 @@ kept-flag s t k c a q f o m = rw (f, o) m
 
 -- a file step's read
 pub since-filed : (h : History) (q : Ask) (b f : ℕ) → f < length (h .calls) → (x : Filed h q b f) → Since h (asking q) (x .client) b f
-unfolding keyAt
+unfolding phaseWork
 since-filed h q b f l x =
     let s = sound h f (omega arith) in
     let z = filing-there (memAt h f) (x .client) q (s .fits) (no-label-twice h f (omega arith)) (x .files) in
-    since-key h q (x .client) b f (x .asked) (omega arith) (x .runs) (ap keyAt (z .2))
+    since-phase h q (x .client) b f (x .request) (omega arith) (x .runs) (ap phaseWork (z .2))
 
 filed-now : (h : History) (q : Ask) (b f n c : ℕ) → n ≤ length (h .calls) → f < n → Filed h q b f → c ≤ b → Quiescent h q c n
     → flagsAt h (suc f) .onFile q ≡ true

@@ -10,7 +10,7 @@ use lib.Dec.{eqb}
 use borrow.Author.Tests.{eqb-true, eqb-false, eq-eqb}
 use lib.ListN.{length}
 use Rattle.laws.proofs.TestLaws.{byTest}
-use Rattle.rules.specs.Work.{Ask, asking, writing, askOf, readOf, workOf}
+use Rattle.rules.specs.Work.{Ask, asking, writing, askOf, readOf, workOf, Request, Work}
 use Rattle.machine.specs.Machine.{State, Phase, idle, looking, tabling, filing, announcing, raising, Response, isRefused}
 use Rattle.machine.proofs.Quiescence.{quiescent, quiet, kept, keyAt, begins, quiescent-next, quiescent-start, QuiescenceInv, opened-quiescent}
 use Rattle.machine.proofs.Gets.{transition-quiescent}
@@ -116,9 +116,12 @@ on-client h q d b n c s le k (suc i) l m =
     (on-client h q d b n c s le k i (omega arith) (omega arith)) (quiescent-then h q c n i k (omega arith) (omega arith)))
 
 -- what it asks, from what stands at its desk
-pub since-key : (h : History) (q : Ask) (d b n : ℕ) (a : List ℕ) → n ≤ length (h .calls) → UnderWay h (readOf a) d b n
-    → keyAt (stateOf (memAt h n) .clients d) ≡ q → Since h (asking q) d b n
-since-key h q d b n a w u e =
-    let s = since-read h d b n a w u in
-    let r = key-since h (askOf (shapeAt h) a) d b n s n (u .earlier) (omega arith) in
-    subst (λ x. Since h (asking x) d b n) (sym r ∙ e) s
+same-work : {x y : Work} → some x ≡ some y → x ≡ y
+same-work e = cc
+
+pub since-phase : (h : History) (q : Ask) (d b n : ℕ) (r : Request) → n ≤ length (h .calls) → UnderWay h r d b n
+    → phaseWork (stateOf (memAt h n) .clients d) ≡ some (asking q) → Since h (asking q) d b n
+since-phase h q d b n r w u e =
+    let s : Since h (workOf (shapeAt h) r) d b n = record { request = r; is = refl; within = w; runs = u } in
+    let z = work-since h (workOf (shapeAt h) r) d b n s n (u .earlier) (omega arith) in
+    record { request = r; is = same-work (sym z ∙ e); within = w; runs = u }

@@ -73,9 +73,9 @@ Short long = Unit
 Short (ended c) = Unit
 Short full = Unit
 
-few : (v : Value) → mayAnswer v ≡ true → v .count ≤ maxList
+few : (q : Ask) (v : Value) → mayAnswer q v ≡ true → v .count ≤ maxList
 unfolding mayAnswer
-few v e = leb-true (v .count) maxList e
+few q v e = leb-true (v .count) maxList e
 
 end-short : (c f : Bool) → Short (write-end c f)
 unfolding write-end
@@ -85,9 +85,9 @@ end-short c false = tt
 short-from : (s : State) (B : Trace) {c : Call} {a : Response} → TraceInv s B → ResponseFrom s c a → Short a
 short-from s B u (by-refusal e) = tt
 short-from s B u by-going-on = tt
-short-from s B u (from-file b e i) = few (b .list) (u .was (b .query) (b .revs) (b .list) _ (TraceInv.on-file i refl) .few)
-short-from s B u (from-table e k) = few _ k
-short-from s B u (from-hand {d} {q} {ns} {v} e) = few v (u .was q ns v _ (TraceInv.at-hand d e refl) .few)
+short-from s B u (from-file b e i) = few (b .query) (b .list) (u .was (b .query) (b .revs) (b .list) _ (TraceInv.on-file i refl) .few)
+short-from s B u (from-table {q = q} e k) = few q _ k
+short-from s B u (from-hand {d} {q} {ns} {v} e) = few q v (u .was q ns v _ (TraceInv.at-hand d e refl) .few)
 short-from s B u by-length = tt
 short-from s B u (by-last-raise c f) = end-short c f
 

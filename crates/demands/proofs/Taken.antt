@@ -13,7 +13,7 @@ use Rattle.laws.proofs.ListLaws.{and-right}
 use Rattle.laws.proofs.TestLaws.{byTest}
 use Rattle.laws.proofs.WrittenLaws.{written-read}
 use Rattle.rules.specs.declared.Outcome.the-variants.{Answered}
-use Rattle.rules.specs.Answers.{Entry, lengthIn, listIn, fetchPlace}
+use Rattle.rules.specs.Answers.{Entry, fetchPlace}
 use Rattle.rules.specs.Client.{entryOf, sawPending}
 use Rattle.query.specs.Shape.{Shape, narrow}
 use Rattle.rules.specs.Layout.{entryWidth}
@@ -80,8 +80,8 @@ not-went e = absurd (let z : _≡_ {A = ℕ} 0 1 = cc in omega arith)
 
 -- with the value that the machine answers, all of the reply
 pub record Gave (sh : Shape) (lent : List ℕ) (e : Entry) (x : StepResult) : Type 0 where
-  pub out : x .out ≡ Answered (lengthIn e) true
-  pub tray : x .tray ≡ written lent 0 (listIn narrow sh e)
+  pub out : x .out ≡ Answered (valueIn narrow sh e .count) true
+  pub tray : x .tray ≡ written lent 0 (valueIn narrow sh e .numbers)
 
 value-given : (sh : Shape) (tray : List ℕ) (v u : Value) → Whole sh v
     → machine.answered (record { count = v .count; numbers = take (v .count * sh .columns) (written tray 0 (v .numbers)) }) true ≡ machine.answered u true
@@ -92,7 +92,7 @@ value-given sh tray v u l a =
 
 pub fetch-gave : (m : Mem) (tray : List ℕ) (d i : ℕ) (e : Entry) → Fits m
     → responseOf (shape m) (fetchResult m tray d i) ≡ machine.answered (valueIn narrow (shape m) e) true → Gave (shape m) tray e (fetchResult m tray d i)
-unfolding fetchResult answered responseOf responseIn valueIn
+unfolding fetchResult answered responseOf responseIn
 fetch-gave m tray d i e f a = byTest (not (sawPending (client m d)) && ltb i (length (answersIn narrow (m .answers))))
     (λ t. let es = answersIn narrow (m .answers) in
     let x = getD es i [] in

@@ -33,11 +33,11 @@ pub record Answers (h : History) (d : ℕ) (a : List ℕ) (b n count : ℕ) (cac
 
 -- that answer is the query's list on the plain table after the first j calls
 abbrev pub ListAt : History → List ℕ → ℕ → ℕ → ℕ → Type 0
-ListAt h a n count j = IsList (h .k) (listOf (queryOf a) (plainAt h j .table)) count (resultAt h n .tray)
+ListAt h a n count j = IsList (shapeAt h .columns) (listOf (queryOf a) (plainAt h j .table)) count (resultAt h n .tray)
 
 -- what the table memory holds after the first n calls
 abbrev pub tableAt : History → ℕ → Table
-tableAt h n = recordsIn (h .k) (memAt h n .table)
+tableAt h n = recordsIn (shapeAt h .columns) (memAt h n .table)
 
 -- Whatever call answers, it is a step of a read that was begun and is under way.
 abbrev pub EveryAnswer : History → Type 0
@@ -68,17 +68,17 @@ NeverBack h = (d d′ : ℕ) (a a′ : List ℕ) (b n b′ n′ count count′ :
 abbrev pub QuietIsNow : History → Type 0
 QuietIsNow h = (d : ℕ) (a : List ℕ) (b n count : ℕ) (cached : Bool) → Answers h d a b n count cached
     → ((i : ℕ) → b < i → i ≤ n → isQuiet (askOf (shapeAt h) a) (memAt h i) ≡ true)
-    → IsList (h .k) (listOf (queryOf a) (tableAt h (suc n))) count (resultAt h n .tray)
+    → IsList (shapeAt h .columns) (listOf (queryOf a) (tableAt h (suc n))) count (resultAt h n .tray)
 
 -- What is under way has made fewer accepted steps than it makes in all, which is by the number of its nodes: a read 2^m + 3, a write
--- 2^(k+1) + 1. Demand 3's nineteen and thirty-three are the most that these can be.
+-- 2^(k+1) + 1 (rules/proofs, `length-readLabels` and `length-writeLabels`). Demand 3's nineteen and thirty-three are the most of these.
 abbrev pub StepsByNodes : History → Type 0
 StepsByNodes h = (d : ℕ) (r : Request) (b n : ℕ) → n ≤ length (h .calls) → UnderWay h r d b n → stepsIn h d b n < stepsInAll (workOf (shapeAt h) r)
 
 -- An answer's records ascend, and are at most 32.
 abbrev pub AnswersAscend : History → Type 0
 AnswersAscend h = (d : ℕ) (a : List ℕ) (b n count : ℕ) (cached : Bool) → Answers h d a b n count cached
-    → (l : List Record) × IsList (h .k) l count (resultAt h n .tray) × Ascending l × (count ≤ maxList)
+    → (l : List Record) × IsList (shapeAt h .columns) l count (resultAt h n .tray) × Ascending l × (count ≤ maxList)
 
 -- The table never holds a record twice, and never more than 2,048.
 abbrev pub NoneTwice : History → Type 0
@@ -138,13 +138,13 @@ Unopposed h v r b n = (i : ℕ) → b < i → i ≤ n → isUnopposed v r (memAt
 abbrev pub InsertsSeen : History → Type 0
 InsertsSeen h = (d : ℕ) (r : Record) (b e : ℕ) (changed : Bool) → Ends h d (insert r) b e (Ended changed)
     → (d′ : ℕ) (a : List ℕ) (b′ n count : ℕ) (cached : Bool) → Answers h d′ a b′ n count cached → e < b′ → lies (queryOf a) r ≡ true
-    → Unopposed h true r b n → (l : List Record) × IsList (h .k) l count (resultAt h n .tray) × (has r l ≡ true)
+    → Unopposed h true r b n → (l : List Record) × IsList (shapeAt h .columns) l count (resultAt h n .tray) × (has r l ≡ true)
 
 -- A record that a delete has taken out is in no answer of a read that begins later, unless an insert of it was open since the delete's begin.
 abbrev pub DeletesSeen : History → Type 0
 DeletesSeen h = (d : ℕ) (q : Query) (b e : ℕ) (o : Outcome) → Ends h d (delete q) b e o
     → (d′ : ℕ) (a : List ℕ) (b′ n count : ℕ) (cached : Bool) → Answers h d′ a b′ n count cached → e < b′ → (r : Record) → lies q r ≡ true
-    → Unopposed h false r b n → (l : List Record) × IsList (h .k) l count (resultAt h n .tray) × (has r l ≡ false)
+    → Unopposed h false r b n → (l : List Record) × IsList (shapeAt h .columns) l count (resultAt h n .tray) × (has r l ≡ false)
 
 pub record Corollaries (h : History) : Type 0 where
   pub every-answer : EveryAnswer h

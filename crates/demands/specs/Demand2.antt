@@ -8,11 +8,11 @@ use lib.Dec.{eqb}
 use lib.ListN.{length, getD}
 use Rattle.lists.specs.Lists.{allBelow, written}
 use Rattle.query.specs.Graph.{meets}
-use Rattle.rules.specs.Work.{Ask, readLabels, askKey, asking, readOf}
+use Rattle.rules.specs.Work.{Ask, readLabels, askKey, asking, Value, Request}
 use Rattle.rules.specs.declared.Outcome.the-variants.{Answered}
 use Rattle.rules.specs.Table.{target}
 use Rattle.rules.specs.Nodes.{isPresent}
-use Rattle.rules.specs.Answers.{Entry, keyIn, lengthIn, listIn}
+use Rattle.rules.specs.Answers.{Entry, keyIn, valueIn}
 use Rattle.rules.specs.Client.{Client, kind, steps, isIdle, writeAt, workAt}
 use Rattle.query.specs.Shape.{Form, Shape}
 use Rattle.rules.specs.Layout.{maxClients, reads}
@@ -43,7 +43,7 @@ pub record Quiescent (h : History) (x : Ask) (b n : ℕ) : Type 0 where
   pub quiet : (i : ℕ) → b < i → i ≤ n → isQuiet x (memAt h i) ≡ true
   pub kept : (i : ℕ) → b < i → i < n → keepsNodes x (memAt h i) (memAt h (suc i)) ≡ true
 
--- the client at desk d is a reader that asks x and has made so many steps
+-- the client at desk d is a reader that asks x and has made so many steps; x is of the hall, whose shape no call changes
 pub record Reads (m : Mem) (d : ℕ) (x : Ask) (n : ℕ) : Type 0 where
   pub below : d < maxClients
   pub busy : isIdle (form m) (client m d) ≡ false
@@ -53,23 +53,23 @@ pub record Reads (m : Mem) (d : ℕ) (x : Ask) (n : ℕ) : Type 0 where
 -- call f is the file step of a read of x that call b began
 pub record Filed (h : History) (x : Ask) (b f : ℕ) : Type 0 where
   pub client : ℕ
-  pub asked : List ℕ
+  pub request : Request
   pub tray : List ℕ
   pub calls : callAt h f ≡ step client tray
   pub takes : stepCode (memAt h f) tray client ≡ 0
   pub files : Reads (memAt h f) client x (length (readLabels x) + 2)
-  pub runs : UnderWay h (readOf asked) client b f
+  pub runs : UnderWay h request client b f
 
 -- "A read whose fetch finds a filed answer to its query": call n is the fetch of a read of x that call b began, and e is a filed answer to it
 pub record Fetches (h : History) (x : Ask) (b n : ℕ) (e : Entry) : Type 0 where
   pub client : ℕ
-  pub asked : List ℕ
+  pub request : Request
   pub tray : List ℕ
   pub within : n < length (h .calls)
   pub calls : callAt h n ≡ step client tray
   pub takes : stepCode (memAt h n) tray client ≡ 0
   pub fetches : Reads (memAt h n) client x (length (readLabels x))
-  pub runs : UnderWay h (readOf asked) client b n
+  pub runs : UnderWay h request client b n
   pub place : ℕ
   pub there : place < length (answersIn (form (memAt h n)) (memAt h n .answers))
   pub is : getD (answersIn (form (memAt h n)) (memAt h n .answers)) place [] ≡ e
@@ -79,9 +79,13 @@ pub record Fetches (h : History) (x : Ask) (b n : ℕ) (e : Entry) : Type 0 wher
 abbrev pub LastFiled : History → Ask → ℕ → ℕ → Type 0
 LastFiled h x f n = (f < n) × ((g b : ℕ) → f < g → g < n → Filed h x b g → ⊥)
 
+-- what an entry keeps at call n
+abbrev pub valueAt : History → ℕ → Entry → Value
+valueAt h n e = valueIn (form (memAt h n)) (shapeAt h) e
+
 -- "gets it, if from the earlier of its own begin and the filing read's to that fetch no write meeting the query was open and none of its
 -- nodes was put out"
 abbrev pub GetsIt : History → Type 0
 GetsIt h = (x : Ask) (b n : ℕ) (e : Entry) (y : Fetches h x b n e) (b′ f : ℕ) → Filed h x b′ f → LastFiled h x f n
     → (c : ℕ) → c ≤ b → c ≤ b′ → (c ≡ b) ⊎ (c ≡ b′) → Quiescent h x c n
-    → (resultAt h n .out ≡ Answered (lengthIn e) true) × (resultAt h n .tray ≡ written (y .tray) 0 (listIn (form (memAt h n)) (shapeAt h) e))
+    → (resultAt h n .out ≡ Answered (valueAt h n e .count) true) × (resultAt h n .tray ≡ written (y .tray) 0 (valueAt h n e .numbers))

@@ -12,7 +12,7 @@ use Rattle.rules.specs.Table.{listOf}
 use Rattle.rules.specs.Memory.{recordsIn}
 use Rattle.rules.specs.Work.{readOf, insertOf, deleteOf}
 use Rattle.rules.specs.History.{step}
-use Rattle.demands.specs.WholeHistory.{History, memAt, plainAt, callAt, resultAt, UnderWay, stepsIn}
+use Rattle.demands.specs.WholeHistory.{History, shapeAt, memAt, plainAt, callAt, resultAt, UnderWay, stepsIn}
 
 -- "An answer is exactly such a list if its count is the list's length and the tray holds the list's records, in that order, from its start."
 pub record IsList (k : ℕ) (l : List Record) (count : ℕ) (tray : List ℕ) : Type 0 where
@@ -28,11 +28,11 @@ pub record WasTrue (h : History) (d n count : ℕ) : Type 0 where
   pub j : ℕ
   pub after : b < j
   pub upto : j ≤ suc n
-  pub was : IsList (h .k) (listOf (queryOf asked) (plainAt h j .table)) count (resultAt h n .tray)
+  pub was : IsList (shapeAt h .columns) (listOf (queryOf asked) (plainAt h j .table)) count (resultAt h n .tray)
 
 pub record Demand3 (h : History) : Type 0 where
   -- "after each call the table memory holds the plain table that document 01 works out from the calls"
-  pub tables : (n : ℕ) → n ≤ length (h .calls) → recordsIn (h .k) (memAt h n .table) ≡ plainAt h n .table
+  pub tables : (n : ℕ) → n ≤ length (h .calls) → recordsIn (shapeAt h .columns) (memAt h n .table) ≡ plainAt h n .table
   pub answers : (n d : ℕ) (tray : List ℕ) (count : ℕ) (cached : Bool) → n < length (h .calls) → callAt h n ≡ step d tray
       → resultAt h n .out ≡ Answered count cached → WasTrue h d n count
   -- "a read has ended with its nineteenth accepted step at the latest, a write with its thirty-third"

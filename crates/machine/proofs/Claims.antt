@@ -85,7 +85,7 @@ pub record Claims (h g : Hist) (c : Call) (a : Response) (t : State) : Type 0 wh
 -- ---- Answers
 alone-was : (q : Ask) (l : Value) (T : Table) → answered l false ≡ alone (asking q) T → l ≡ valueOf q T
 unfolding alone
-alone-was q l T e = byTest (mayAnswer (valueOf q T))
+alone-was q l T e = byTest (mayAnswer q (valueOf q T))
     (λ y. let e′ : answered l false ≡ answered (valueOf q T) false = rw y at e in cc)
     (λ y. let e′ : answered l false ≡ long = rw y at e in absurd (let z : _≡_ {A = ℕ} 0 1 = cc in omega arith))
 

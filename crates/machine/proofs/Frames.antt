@@ -42,12 +42,12 @@ phaseWork (announcing w i) = some (writing w)
 phaseWork (raising w j c f) = some (writing w)
 
 -- no desk changes; or one begins to work at x, goes on with its work, or ends it. No other desk changes
-pub data DesksLeft (s : State) : Call → Response → State → Type 0 where
-  same-desks : {c : Call} {a : Response} {t : State} → ((d : ℕ) → starts d c a ≡ false) → t .clients ≡ s .clients → DesksLeft s c a t
-  begun : {d : ℕ} {x : Work} {t : State} (y : Phase) → t .clients ≡ upd (s .clients) d y → s .clients d ≡ idle → phaseWork y ≡ some x → DesksLeft s (begin d x) went t
-  gone-on : {d : ℕ} {t : State} (y : Phase) → t .clients ≡ upd (s .clients) d y → phaseWork y ≡ phaseWork (s .clients d) → DesksLeft s (step d) went t
+pub data ClientsLeft (s : State) : Call → Response → State → Type 0 where
+  same-clients : {c : Call} {a : Response} {t : State} → ((d : ℕ) → starts d c a ≡ false) → t .clients ≡ s .clients → ClientsLeft s c a t
+  begun : {d : ℕ} {x : Work} {t : State} (y : Phase) → t .clients ≡ upd (s .clients) d y → s .clients d ≡ idle → phaseWork y ≡ some x → ClientsLeft s (begin d x) went t
+  gone-on : {d : ℕ} {t : State} (y : Phase) → t .clients ≡ upd (s .clients) d y → phaseWork y ≡ phaseWork (s .clients d) → ClientsLeft s (step d) went t
   ended-at : {c : Call} {a : Response} {t : State} (d : ℕ) → ends d c a ≡ true → ((e : ℕ) → starts e c a ≡ false) → t .clients ≡ upd (s .clients) d idle
-      → DesksLeft s c a t
+      → ClientsLeft s c a t
 
 refused-starts : (d : ℕ) (c : Call) (n : ℕ) → starts d c (refused n) ≡ false
 unfolding starts isRefused
@@ -93,7 +93,7 @@ pub data ResponseFrom (s : State) : Call → Response → Type 0 where
   by-refusal : {c : Call} {n : ℕ} → isAccepted n ≡ false → ResponseFrom s c (refused n)
   by-going-on : {c : Call} → ResponseFrom s c went
   from-file : {d : ℕ} {q : Ask} {ns : List ℕ} {saw : Bool} (b : Ans) → s .clients d ≡ looking q ns saw → In b (s .filed) → ResponseFrom s (step d) (answered (b .list) true)
-  from-table : {d : ℕ} {q : Ask} {ns : List ℕ} → s .clients d ≡ tabling q ns true → mayAnswer (valueOf q (s .tab)) ≡ true
+  from-table : {d : ℕ} {q : Ask} {ns : List ℕ} → s .clients d ≡ tabling q ns true → mayAnswer q (valueOf q (s .tab)) ≡ true
       → ResponseFrom s (step d) (answered (valueOf q (s .tab)) false)
   from-hand : {d : ℕ} {q : Ask} {ns : List ℕ} {v : Value} → s .clients d ≡ filing q ns v → ResponseFrom s (step d) (answered v false)
   by-length : {d : ℕ} → ResponseFrom s (step d) long
@@ -103,7 +103,7 @@ pub data ResponseFrom (s : State) : Call → Response → Type 0 where
 pub record Frame (s : State) (c : Call) (a : Response) (t : State) : Type 0 where
   pub shape : t .shape ≡ s .shape
   pub table : TableLeft s t
-  pub desks : DesksLeft s c a t
+  pub clients : ClientsLeft s c a t
   pub store : StoreLeft s t
   pub file : FileLeft s t
   pub response : ResponseFrom s c a
@@ -114,7 +114,7 @@ unfolding at-client
 alone s d y e = record {
   shape = refl;
   table = same-table refl;
-  desks = gone-on y refl e;
+  clients = gone-on y refl e;
   store = same-store refl;
   file = same-file refl;
   response = by-going-on;
@@ -126,7 +126,7 @@ unfolding at-client starts
 read-ends s d a e r = record {
   shape = refl;
   table = same-table refl;
-  desks = ended-at d (ends-step d a e) (λ n. refl) refl;
+  clients = ended-at d (ends-step d a e) (λ n. refl) refl;
   store = same-store refl;
   file = same-file refl;
   response = r;
@@ -136,13 +136,13 @@ read-ends s d a e r = record {
 on-nodes : (s : State) (d : ℕ) (y : Phase) (u : Store) → phaseWork y ≡ phaseWork (s .clients d) → StoreLeft s (at-client (with-store s u) d y)
     → Frame s (step d) went (at-client (with-store s u) d y)
 unfolding at-client with-store
-on-nodes s d y u e o = record { shape = refl; table = same-table refl; desks = gone-on y refl e; store = o; file = same-file refl; response = by-going-on }
+on-nodes s d y u e o = record { shape = refl; table = same-table refl; clients = gone-on y refl e; store = o; file = same-file refl; response = by-going-on }
 
 -- a call at desk d that ends its work and changes its own desk and the nodes
 ends-on-nodes : (s : State) (d : ℕ) (u : Store) (c : Call) (a : Response) → ends d c a ≡ true → ((e : ℕ) → starts e c a ≡ false)
     → StoreLeft s (at-client (with-store s u) d idle) → ResponseFrom s c a → Frame s c a (at-client (with-store s u) d idle)
 unfolding at-client with-store
-ends-on-nodes s d u c a e n o r = record { shape = refl; table = same-table refl; desks = ended-at d e n refl; store = o; file = same-file refl; response = r }
+ends-on-nodes s d u c a e n o r = record { shape = refl; table = same-table refl; clients = ended-at d e n refl; store = o; file = same-file refl; response = r }
 
 -- a begin
 begins : (s : State) (d : ℕ) (x : Work) (y : Phase) → s .clients d ≡ idle → phaseWork y ≡ some x → Frame s (begin d x) went (at-client s d y)
@@ -150,7 +150,7 @@ unfolding at-client
 begins s d x y e w = record {
   shape = refl;
   table = same-table refl;
-  desks = begun y refl e w;
+  clients = begun y refl e w;
   store = same-store refl;
   file = same-file refl;
   response = by-going-on;
@@ -161,7 +161,7 @@ unfolding at-client with-store with-filed with-tab phaseWork isEnd starts
 transition-frame s (Transition.nothing {c} {n} e) = record {
   shape = refl;
   table = same-table refl;
-  desks = same-desks (λ d. refused-starts d c n) refl;
+  clients = same-clients (λ d. refused-starts d c n) refl;
   store = same-store refl;
   file = same-file refl;
   response = by-refusal e;
@@ -178,7 +178,7 @@ transition-frame s (Transition.took {d} {q} {ns} l e k) = alone s d (filing q ns
 transition-frame s (Transition.filed {d} {q} {ns} {l = v} l e) = record {
   shape = refl;
   table = same-table refl;
-  desks = ended-at d (ends-step d (answered v false) refl) (λ n. refl) refl;
+  clients = ended-at d (ends-step d (answered v false) refl) (λ n. refl) refl;
   store = same-store refl;
   file = filed-by d q ns v e refl;
   response = from-hand e;
@@ -187,7 +187,7 @@ transition-frame s (Transition.announced {d} {w} {i} {t} l e k m) = on-nodes s d
 transition-frame s (Transition.wrote {d} {w} {i} l e k) = record {
   shape = refl;
   table = written d w i l e refl;
-  desks = gone-on {d = d} (raising w 0 (changes (w .change) (s .tab)) (noRoom (w .change) (s .tab))) refl (rw e refl);
+  clients = gone-on {d = d} (raising w 0 (changes (w .change) (s .tab)) (noRoom (w .change) (s .tab))) refl (rw e refl);
   store = same-store refl;
   file = same-file refl;
   response = by-going-on;
@@ -201,7 +201,7 @@ transition-frame s (Transition.abandoned-write {d} {w} {i} {t} l e m) =
 transition-frame s (Transition.evicted-answer {i} l) = record {
   shape = refl;
   table = same-table refl;
-  desks = same-desks (λ d. refl) refl;
+  clients = same-clients (λ d. refl) refl;
   store = same-store refl;
   file = one-out i refl;
   response = by-going-on;
@@ -209,7 +209,7 @@ transition-frame s (Transition.evicted-answer {i} l) = record {
 transition-frame s (Transition.evicted-node l m) = record {
   shape = refl;
   table = same-table refl;
-  desks = same-desks (λ d. refl) refl;
+  clients = same-clients (λ d. refl) refl;
   store = grew m;
   file = same-file refl;
   response = by-going-on;
@@ -217,7 +217,7 @@ transition-frame s (Transition.evicted-node l m) = record {
 transition-frame s (Transition.renewed i) = record {
   shape = refl;
   table = same-table refl;
-  desks = same-desks (λ d. refl) refl;
+  clients = same-clients (λ d. refl) refl;
   store = emptied i refl;
   file = none-filed refl;
   response = by-going-on;
@@ -281,26 +281,26 @@ unfolding starts isRefused
 begin-elsewhere s d e x y i r = byTest (eqb e d) (λ j. idle-works s d e x i r (eqb-true e d j)) (λ j. rw j refl)
 
 -- a desk's work goes on over a call that does not end it, and nothing begins there
-desks-work : (s : State) (d : ℕ) (x : Work) {c : Call} {a : Response} {t : State} → DesksLeft s c a t → phaseWork (s .clients d) ≡ some x → ends d c a ≡ false
+clients-work : (s : State) (d : ℕ) (x : Work) {c : Call} {a : Response} {t : State} → ClientsLeft s c a t → phaseWork (s .clients d) ≡ some x → ends d c a ≡ false
     → (phaseWork (t .clients d) ≡ some x) × (starts d c a ≡ false)
 unfolding starts
-desks-work s d x (same-desks k e) r f = (ap (λ g. phaseWork (g d)) e ∙ r, k d)
-desks-work s d x (begun {d = e} {x = z} {t} y k i w) r f = (moved s t d e y x k r (λ j. idle-works s d e x i r j), begin-elsewhere s d e x z i r)
-desks-work s d x (gone-on {d = e} {t} y k w) r f = (moved s t d e y x k r (λ j. w ∙ ap (λ (n : ℕ). phaseWork (s .clients n)) j ∙ r), refl)
-desks-work s d x (ended-at {c} {a} {t} e w k i) r f = (moved s t d e idle x i r (λ j. clash (subst (λ n. ends n c a ≡ true) j w) f), k d)
+clients-work s d x (same-clients k e) r f = (ap (λ g. phaseWork (g d)) e ∙ r, k d)
+clients-work s d x (begun {d = e} {x = z} {t} y k i w) r f = (moved s t d e y x k r (λ j. idle-works s d e x i r j), begin-elsewhere s d e x z i r)
+clients-work s d x (gone-on {d = e} {t} y k w) r f = (moved s t d e y x k r (λ j. w ∙ ap (λ (n : ℕ). phaseWork (s .clients n)) j ∙ r), refl)
+clients-work s d x (ended-at {c} {a} {t} e w k i) r f = (moved s t d e idle x i r (λ j. clash (subst (λ n. ends n c a ≡ true) j w) f), k d)
 
 pub work-on : (s : State) (d : ℕ) (x : Work) {c : Call} {a : Response} {t : State} → Transition s c a t → phaseWork (s .clients d) ≡ some x → ends d c a ≡ false
     → (phaseWork (t .clients d) ≡ some x) × (starts d c a ≡ false)
-work-on s d x o r f = desks-work s d x (transition-frame s o .desks) r f
+work-on s d x o r f = clients-work s d x (transition-frame s o .clients) r f
 
 -- nothing begins at a busy desk
-busy-desks : (s : State) (d : ℕ) {c : Call} {a : Response} {t : State} → DesksLeft s c a t → (s .clients d ≡ idle → ⊥) → starts d c a ≡ false
+busy-clients : (s : State) (d : ℕ) {c : Call} {a : Response} {t : State} → ClientsLeft s c a t → (s .clients d ≡ idle → ⊥) → starts d c a ≡ false
 unfolding starts isRefused
-busy-desks s d (same-desks k e) ne = k d
-busy-desks s d (begun {d = e} y k i w) ne =
+busy-clients s d (same-clients k e) ne = k d
+busy-clients s d (begun {d = e} y k i w) ne =
     byTest (eqb e d) (λ j. absurd (ne (subst (λ n. s .clients n ≡ idle) (eqb-true e d j) i))) (λ j. rw j refl)
-busy-desks s d (gone-on y k w) ne = refl
-busy-desks s d (ended-at e w k i) ne = k d
+busy-clients s d (gone-on y k w) ne = refl
+busy-clients s d (ended-at e w k i) ne = k d
 
 pub busy-starts : (s : State) (d : ℕ) {c : Call} {a : Response} {t : State} → Transition s c a t → (s .clients d ≡ idle → ⊥) → starts d c a ≡ false
-busy-starts s d o ne = busy-desks s d (transition-frame s o .desks) ne
+busy-starts s d o ne = busy-clients s d (transition-frame s o .clients) ne

@@ -1,5 +1,6 @@
 -- The bench hall as a transition system: the state, the calls and what they answer. A desk is a client of the cache. Of queries it
--- knows what rules' Work says of an ask and of a write. Leans on rules' Work, Table and Nodes. Definitions only. Assumes nothing.
+-- knows what rules' Work says of an ask and of a write, which of them are of a hall, and when two asks are the same.
+-- Leans on rules' Work, Table and Nodes. Definitions only. Assumes nothing.
 use mathlib.Core.Path.{_≡_}
 use mathlib.Core.Bool.{Bool, true, false, not, _&&_, cond}
 use mathlib.Core.List.{List, [], _∷_, _++_}

@@ -13,7 +13,7 @@ use Rattle.query.specs.Shape.{narrow}
 use Rattle.rules.specs.Table.{effect, changes, noRoom}
 use Rattle.rules.specs.Nodes.{Store, store, isWorn}
 use Rattle.rules.specs.Work.{Ask, Value, valueOf, mayAnswer, readLabels, Write, writeLabels, asking, writing}
-use Rattle.rules.specs.Layout.{maxClients}
+use Rattle.rules.specs.Layout.{maxClients, firstFloor}
 use Rattle.rules.specs.History.{isAccepted}
 use Rattle.revisions.specs.EffectiveRevision.{has, effective, pendingOf, Grew, Announced, Retired}
 use Rattle.machine.specs.Machine.{AskFits, WriteFits, Phase, idle, looking, tabling, filing, announcing, raising, Ans, State, node}
@@ -44,11 +44,11 @@ pub data Transition (s : State) : Call → Response → State → Type 0 where
       → (saw ≡ true) ⊎ ((a : Ans) → In a (s .filed) → holds-for q ns a ≡ false) → Transition s (step d) went (at-client s d (tabling q ns saw))
   hit : {d : ℕ} {q : Ask} {ns : List ℕ} {a : Ans} → d < maxClients → s .clients d ≡ looking q ns false → length (readLabels q) ≤ length ns
       → In a (s .filed) → holds-for q ns a ≡ true → Transition s (step d) (answered (a .list) true) (at-client s d idle)
-  too-long : {d : ℕ} {q : Ask} {ns : List ℕ} {saw : Bool} → d < maxClients → s .clients d ≡ tabling q ns saw → mayAnswer (valueOf q (s .tab)) ≡ false
+  too-long : {d : ℕ} {q : Ask} {ns : List ℕ} {saw : Bool} → d < maxClients → s .clients d ≡ tabling q ns saw → mayAnswer q (valueOf q (s .tab)) ≡ false
       → Transition s (step d) long (at-client s d idle)
-  listed : {d : ℕ} {q : Ask} {ns : List ℕ} → d < maxClients → s .clients d ≡ tabling q ns true → mayAnswer (valueOf q (s .tab)) ≡ true
+  listed : {d : ℕ} {q : Ask} {ns : List ℕ} → d < maxClients → s .clients d ≡ tabling q ns true → mayAnswer q (valueOf q (s .tab)) ≡ true
       → Transition s (step d) (answered (valueOf q (s .tab)) false) (at-client s d idle)
-  took : {d : ℕ} {q : Ask} {ns : List ℕ} → d < maxClients → s .clients d ≡ tabling q ns false → mayAnswer (valueOf q (s .tab)) ≡ true
+  took : {d : ℕ} {q : Ask} {ns : List ℕ} → d < maxClients → s .clients d ≡ tabling q ns false → mayAnswer q (valueOf q (s .tab)) ≡ true
       → Transition s (step d) went (at-client s d (filing q ns (valueOf q (s .tab))))
   filed : {d : ℕ} {q : Ask} {ns : List ℕ} {l : Value} → d < maxClients → s .clients d ≡ filing q ns l
       → Transition s (step d) (answered l false) (at-client (with-filed s (filed-in q ns l (s .filed))) d idle)
@@ -68,4 +68,4 @@ pub data Transition (s : State) : Call → Response → State → Type 0 where
   -- puttings out, renewals
   evicted-answer : {i : ℕ} → i < length (s .filed) → Transition s (evict-answer i) went (with-filed s (cut i (s .filed)))
   evicted-node : {i : ℕ} {t : Store} → i < length (s .store .nodes) → Grew (s .store) t → Transition s (evict-node i) went (with-store s t)
-  renewed : ((d : ℕ) → s .clients d ≡ idle) → Transition s renew went (with-filed (with-store s (store 1 [])) [])
+  renewed : ((d : ℕ) → s .clients d ≡ idle) → Transition s renew went (with-filed (with-store s (store firstFloor [])) [])

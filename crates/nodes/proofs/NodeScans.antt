@@ -1,6 +1,6 @@
 -- Laws of the loops over the nodes: a label compared with the five numbers of a node, and the search for the first node that passes a test.
 -- Leans on the rules' definitions and on the laws of lists and searches. Assumes nothing.
-use mathlib.Core.Path.{_≡_, refl, sym, ap, _∙_}
+use mathlib.Core.Path.{_≡_, sym, ap, _∙_}
 use mathlib.Core.Bool.{Bool, true, false, or-true}
 use mathlib.Core.List.{List, []}
 use Prim.Native.Nat.{ℕ, _+_, _*_, _≤_, _<_}

@@ -144,11 +144,11 @@ module _ (s clients : List ℕ) (d k : ℕ) (r : Reads clients d k) (f : table.F
     -- ---- the step's ends
     module _ (h : made clients d ≡ looks clients d k + 1) (tray clients₂ : List ℕ) where
       table-at : (ns a : List ℕ)
-          → readResult (mem s ns a clients) tray d (askAt (shapeOf k) (clientIn narrow clients d)) (made clients d) ≡ tableResult (mem s ns a clients) tray d (ofRecords (listFor s clients d k))
+          → readResult (mem s ns a clients) tray d (askAt (shapeOf k) (clientIn narrow clients d)) (made clients d) ≡ tableResult (mem s ns a clients) tray d (askAt (shapeOf k) (clientIn narrow clients d)) (ofRecords (listFor s clients d k))
       table-at ns a =
           table-is (mem s ns a clients) tray d (askAt (shapeOf k) (clientIn narrow clients d)) (made clients d) h
-          ∙ ap (λ (x : ℕ). tableResult (mem s ns a clients) tray d (valueOf (askAt (shapeOf k) (clientIn narrow clients d)) (recordsIn x s))) (sym (r .columns))
-          ∙ ap (λ (v : Value). tableResult (mem s ns a clients) tray d v) (value-is s clients d k)
+          ∙ ap (λ (x : ℕ). tableResult (mem s ns a clients) tray d (askAt (shapeOf k) (clientIn narrow clients d)) (valueOf (askAt (shapeOf k) (clientIn narrow clients d)) (recordsIn x s))) (sym (r .columns))
+          ∙ ap (λ (v : Value). tableResult (mem s ns a clients) tray d (askAt (shapeOf k) (clientIn narrow clients d)) v) (value-is s clients d k)
 
       pub table-long : maxList < n → clients₂ ≡ withClient narrow clients₁ d (idle narrow) → (ns a : List ℕ)
           → resultWith Long (mem s ns a clients₂) tray ≡ readResult (mem s ns a clients) tray d (askAt (shapeOf k) (clientIn narrow clients d)) (made clients d)

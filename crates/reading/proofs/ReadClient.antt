@@ -68,7 +68,7 @@ module _ (m : Mem) (y : List ℕ) (d : ℕ) (x : Ask) (i : ℕ) where
   unfolding readResult
   fetch-is h = rw (le-ltb i (length (readLabels x)) (omega arith), eq-eqb i (length (readLabels x)) h)
 
-  pub table-is : i ≡ length (readLabels x) + 1 → readResult m y d x i ≡ tableResult m y d (valueOf x (recordsIn (columns m) (m .table)))
+  pub table-is : i ≡ length (readLabels x) + 1 → readResult m y d x i ≡ tableResult m y d x (valueOf x (recordsIn (columns m) (m .table)))
   unfolding readResult
   table-is h = rw (le-ltb i (length (readLabels x)) (omega arith), ne-eqb i (length (readLabels x)) (λ e. omega arith), eq-eqb i (length (readLabels x) + 1) h)
 

@@ -170,14 +170,14 @@ module _ (m : Mem) (tray : List ℕ) (d : ℕ) (g : Going m d) (x : Ask) (r : un
   unfolding valueOf ofRecords listOf stateOf
   whole-listed = length-flat (columns m) _ (wide-keep (columns m) (lies (x .query)) (recordsIn (columns m) (m .table)) (records-held m (g .fits)))
 
-  may-short : mayAnswer listed ≡ true → listed .count ≤ maxList
+  may-short : mayAnswer x listed ≡ true → listed .count ≤ maxList
   unfolding mayAnswer
   may-short e = leb-true _ _ e
 
-  table-simulated : stepsAt m d ≡ looks + 1 → Simulated m (step d) (tableResult m tray d listed)
+  table-simulated : stepsAt m d ≡ looks + 1 → Simulated m (step d) (tableResult m tray d x listed)
   unfolding tableResult responseIn
   table-simulated e =
-      byTest (mayAnswer listed)
+      byTest (mayAnswer x listed)
       (λ t. byTest (sawPending (client m d))
       (λ s. rw (t, s) (answered-simulated tray d listed false (as-it-was m (g .fits)) (g .below) whole-listed (transition.listed (g .below) (table-phase true e s) t)))
       (λ s. rw (t, s) (simulated Accepted tray

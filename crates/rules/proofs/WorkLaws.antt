@@ -19,7 +19,7 @@ use Rattle.query.specs.Query.{Query, Record, naming, named, readNode, writeNode
 use Rattle.query.specs.Encoding.{labelWidth, labelWords, keyWords, queryIn, isKey, namesAll, recordOf}
 use Rattle.query.proofs.NodeLists.{named-most, read-nodes-count, write-nodes-count, read-count-most, write-count-most, write-count-least, read-nodes-at, write-nodes-at, read-node-length, write-node-length, read-nodes-differ, write-nodes-differ}
 use Rattle.query.proofs.EncodingLaws.{label-words-length, label-words-injective, query-in-key, query-in-length}
-use Rattle.rules.specs.Layout.{reads, inserts}
+use Rattle.rules.specs.Layout.{maxLooks, reads, inserts}
 use Rattle.rules.specs.Table.{insert, delete, target}
 use Rattle.rules.specs.Nodes.{Words}
 use Rattle.rules.specs.Work.{Ask, readLabels, askKey, askIn, Write, writeLabels, Shares, shares, keyOf, changeIn, writeIn, workIn}
@@ -35,7 +35,7 @@ pub length-writeLabels : (w : Write) → length (writeLabels w) ≡ writeCount (
 unfolding writeLabels writeCount
 length-writeLabels w = length-map (writeNodes (target (w .change))) labelWords ∙ write-nodes-count (target (w .change))
 
-pub read-labels-most : (x : Ask) → length (x .query) ≤ maxColumns → length (readLabels x) ≤ 16
+pub read-labels-most : (x : Ask) → length (x .query) ≤ maxColumns → length (readLabels x) ≤ maxLooks (x .shape)
 read-labels-most x h = rw (length-readLabels x) (read-count-most (x .query) h)
 
 pub write-labels-most : (w : Write) → length (target (w .change)) ≤ maxColumns → length (writeLabels w) ≤ 16

@@ -48,14 +48,14 @@ isIdle f c = same c (idle f)
 unfoldable pub begun : Form → Work → Client
 begun f x = padded (clientWidth f) (kindOf x ∷ 0 ∷ 0 ∷ 0 ∷ 0 ∷ keyOf x)
 
--- the query that its key has
+-- the query that its key has, and what a reader asks: for contracts and proofs
 unfoldable pub queryAt : Shape → Client → Query
 queryAt sh c = queryIn sh (keyIn (entryOf c))
 
--- what a reader asks, what a writer writes, and either of them
 unfoldable pub askAt : Shape → Client → Ask
 askAt sh c = askIn sh (keyIn (entryOf c))
 
+-- what a writer writes, and what any client works at
 unfoldable pub writeAt : Shape → Client → Write
 writeAt sh c = writeIn sh (kind c) (keyIn (entryOf c))
 
@@ -63,7 +63,7 @@ unfoldable pub workAt : Shape → Client → Work
 workAt sh c = workIn sh (kind c) (keyIn (entryOf c))
 
 -- "the called desk is not idle and its kind, query, step or list length is out of range" (3): a query is in range if its numbers are
--- those that the work read from them would be kept as
+-- those that the work read from them would be kept as. So an insert's has no star: its record's key has a mark in every column
 unfoldable pub isBad : Form → Shape → Client → Bool
 isBad f sh c =
     not (isIdle f c)

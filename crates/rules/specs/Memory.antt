@@ -1,7 +1,7 @@
 -- Document 01, "The hall's stock": what each memory holds and where (docs/LAYOUT.md has the pictures). Leans on the entries above.
 -- Definitions only. Assumes nothing.
 use mathlib.Core.List.{List, [], _++_}
-use Prim.Native.Nat.{ℕ, _+_, _*_}
+use Prim.Native.Nat.{ℕ, _+_}
 use lib.ListN.{getD, take, drop, set, replicate}
 use Rattle.lists.specs.Lists.{entriesIn, withEntries, written}
 use Rattle.query.specs.Shape.{Form, narrow, Shape}

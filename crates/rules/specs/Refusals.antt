@@ -68,7 +68,7 @@ refuse b n rest = cond b n rest
 unfoldable pub openCode : Mem → ℕ → ℕ
 openCode m k = refuse (isShort narrow (shapeOf k) m) refusedShort (refuse (badColumns k) refusedColumns 0)
 
--- what begins is first judged by itself (Work, `faultOf`). 10 worn: "a write begins while the floor or a counter is above 4,294,967,103"
+-- right after 1 what begins is judged by itself (Work, `faultOf`). 10 worn: "a write begins while the floor or a counter is above 4,294,967,103"
 unfoldable pub beginCode : Mem → ℕ → Request → ℕ
 beginCode m d r =
     refuse (isShort (form m) (shape m) m) refusedShort

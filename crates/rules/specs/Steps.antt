@@ -47,9 +47,9 @@ fetchResult m tray d i =
 
 -- "Otherwise *table*: the matching list is taken. More than 32 records ends the read with 12. If a look saw a mark, the read answers
 -- here and files nothing."
-unfoldable pub tableResult : Mem → List ℕ → ℕ → Value → StepResult
-tableResult m tray d v =
-    cond (not (mayAnswer v)) (resultWith Long (nowAt m d (idle (form m))) tray)
+unfoldable pub tableResult : Mem → List ℕ → ℕ → Ask → Value → StepResult
+tableResult m tray d x v =
+    cond (not (mayAnswer x v)) (resultWith Long (nowAt m d (idle (form m))) tray)
     (cond (sawPending (client m d)) (answered m tray d v false)
     (resultWith Accepted (nowAt m d (holding (form m) (shape m) v (client m d))) tray))
 
@@ -66,7 +66,7 @@ readResult m tray d x i =
     (lookResult m tray d i (getD (readLabels x) i []) (ensured (form m) (getD (readLabels x) i []) (storeIn (form m) (m .nodes))))
     (cond (eqb i (length (readLabels x)))
     (fetchResult m tray d (fetchPlace (form m) (length (readLabels x)) (entryOf (client m d)) (answersIn (form m) (m .answers))))
-    (cond (eqb i (length (readLabels x) + 1)) (tableResult m tray d (valueOf x (recordsIn (columns m) (m .table))))
+    (cond (eqb i (length (readLabels x) + 1)) (tableResult m tray d x (valueOf x (recordsIn (columns m) (m .table))))
     (fileResult m tray d (entryOf (client m d)))))
 
 -- **Write.** "One *mark* for each node"
@@ -92,7 +92,8 @@ raiseResult m tray d isLast (some s) =
     cond isLast (resultWith (endOf (client m d)) (nowAt (storeBack m s) d (idle (form m))) tray)
     (resultWith Accepted (nowAt (storeBack m s) d (stepped (client m d))) tray)
 
--- step i of a write; it raises its nodes in the order in which it marked them
+-- step i of a write; it raises its nodes in the order in which it marked them. "Raises happen even if the table did not change.": each
+-- lifts its counter
 unfoldable pub writeResult : Mem → List ℕ → ℕ → Write → ℕ → StepResult
 writeResult m tray d w i =
     cond (ltb i (length (writeLabels w))) (announceResult m tray d (announced (form m) (getD (writeLabels w) i []) (storeIn (form m) (m .nodes))))

@@ -1,5 +1,5 @@
 -- Document 01, "Queries and nodes" and "One desk, step by step": what a read asks and gets, what a write does, and what begins at a
--- desk. Steps, refusals, histories and the theory behind the demands know of queries what stands here. Another kind of read changes this file.
+-- desk. Steps, refusals and histories know of queries what stands here: another kind of read begins with this file.
 -- Leans on query, Table and Nodes. Definitions only. Assumes nothing.
 use mathlib.Core.Bool.{Bool, true, false, cond, _&&_}
 use mathlib.Core.List.{List, map}
@@ -33,8 +33,8 @@ unfoldable pub valueOf : Ask → Table → Value
 valueOf x t = ofRecords (listOf (x .query) t)
 
 -- it may be answered: "More than 32 records ends the read with 12."
-unfoldable pub mayAnswer : Value → Bool
-mayAnswer v = leb (v .count) maxList
+unfoldable pub mayAnswer : Ask → Value → Bool
+mayAnswer x v = leb (v .count) maxList
 
 -- the labels of its nodes in the order of its looks, each as the five numbers that a node keeps; how many looks it makes is their number
 unfoldable pub readLabels : Ask → List Words

@@ -19,7 +19,7 @@ use Rattle.rules.specs.declared.Outcome.the-variants.{Refused, Accepted, Ended,
 use Rattle.rules.specs.Table.{Change, insert, delete, effect}
 use Rattle.rules.specs.Nodes.{Words, Store, announced, retired}
 use Rattle.rules.specs.Work.{Write, writeLabels, writeIn, changeIn, stepsInAll}
-use Rattle.rules.specs.Client.{Client, kind, steps, didChange, foundFull, idle, queryAt, writeAt, workAt, stepped, wrote}
+use Rattle.rules.specs.Client.{Client, kind, didChange, foundFull, idle, queryAt, writeAt, workAt, stepped, wrote}
 use Rattle.query.specs.Shape.{Shape, shapeOf, maxColumns, narrow}
 use Rattle.rules.specs.Layout.{maxList, lookRoom, inserts}
 use Rattle.rules.specs.Memory.{shapeIn, Mem, mem, recordsIn, withRecords, storeIn, withStore, clientIn, withClient}
