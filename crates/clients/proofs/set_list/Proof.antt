@@ -18,8 +18,13 @@ put-requires : tie.Need-put-requires
 put-requires c κs = search needs
 
 -- the list's numbers
-room : (c : tie.After-slice-known3) → c .before .before .before .before .before .before .before .before .before .args .n * c .before .before .before .before .before .before .before .before .before .args .k ≤ listRoom
-room c = let s = c .before .before .before .before .before .before .before .before .before in list-room _ _ (s .pre .1 .0) (s .pre .1 .1 .1 .0)
+abbrev start : tie.After-slice-known3 → tie.Start
+start c =
+    let s = c .before .before .before .before .before in
+    s .before .before .before .before
+
+room : (c : tie.After-slice-known3) → start c .args .n * start c .args .k ≤ listRoom
+room c = let s = start c in list-room _ _ (s .pre .1 .0) (s .pre .1 .1 .1 .0)
 
 mul-used : tie.Need-mul-used
 mul-used c = omega (arith, room c)

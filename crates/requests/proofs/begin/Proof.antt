@@ -10,7 +10,9 @@ use Rattle.requests.proofs.begin.Tie as tie
 
 -- the call's own arguments, from behind the check
 abbrev start : tie.After-begin-code → tie.Start
-start c = c .before .before .before .before .before .before .before .before .before .before
+start c =
+    let s = c .before .before .before .before .before in
+    s .before .before .before .before .before
 
 begin-code-requires : tie.Need-begin-code-requires
 begin-code-requires c κs = search needs

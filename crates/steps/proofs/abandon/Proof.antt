@@ -34,7 +34,7 @@ kind-of-requires : tie.Need-kind-of-requires
 kind-of-requires c κs = busy-fit _ _ (abandon-busy _ _ _ (c .before .before .before .abandon-code .ensures) (c .before .before .if1 .left))
 
 set-idle-requires : tie.Need-set-idle-requires
-set-idle-requires c κs = busy-fit _ _ (abandon-busy _ _ _ (c .before .before .before .before .before .before .abandon-code .ensures) (c .before .before .before .before .before .if1 .left))
+set-idle-requires c κs = let i = c .before .before .before .before .before in busy-fit _ _ (abandon-busy _ _ _ (i .before .abandon-code .ensures) (i .if1 .left))
 
 same-length-5 : tie.Need-same-length-5
 same-length-5 c = search needs
@@ -49,10 +49,20 @@ same-length-8 : tie.Need-same-length-8
 same-length-8 c = search needs
 
 returns-2 : tie.Need-returns-2
-returns-2 c = abandon-read _ _ _ (c .before .before .before .before .before .before .before .before .before .abandon-code .ensures) (c .before .before .before .before .before .before .before .before .if1 .left) _ (c .before .before .before .before .before .kind-of .ensures) _ (c .before .before .before .before .if2 .taken) (c .before .before .set-idle .ensures)
+returns-2 c =
+    let k = c .before .before .before .before in
+    let i = k .before .before .before .before in
+    abandon-read _ _ _ (i .before .abandon-code .ensures) (i .if1 .left) _ (k .before .kind-of .ensures) _ (k .if2 .taken) (c .before .before .set-idle .ensures)
 
 release-all-requires : tie.Need-release-all-requires
-release-all-requires c κs = let z = c .before .before .before .before .before .before .if1 .left in let e = c .before .before .before .before .before .before .before .abandon-code .ensures in let f = c .before .before .before .kind-of .ensures in let r = c .before .before .if2 .left in (abandon-writes _ _ _ e z _ f r, (store-fit _ _ (abandon-busy _ _ _ e z), abandon-before _ _ _ e z _ f r))
+release-all-requires c κs =
+    let k = c .before .before in
+    let i = k .before .before .before .before in
+    let z = i .if1 .left in
+    let e = i .before .abandon-code .ensures in
+    let f = k .before .kind-of .ensures in
+    let r = k .if2 .left in
+    (abandon-writes _ _ _ e z _ f r, (store-fit _ _ (abandon-busy _ _ _ e z), abandon-before _ _ _ e z _ f r))
 
 same-length-9 : tie.Need-same-length-9
 same-length-9 c = search needs
@@ -67,7 +77,11 @@ same-length-12 : tie.Need-same-length-12
 same-length-12 c = search needs
 
 returns-3 : tie.Need-returns-3
-returns-3 c = c .before .before .before .before .release-all .ensures _ _ ∙ abandon-write _ _ _ (c .before .before .before .before .before .before .before .before .before .before .before .before .abandon-code .ensures) (c .before .before .before .before .before .before .before .before .before .before .before .if1 .left) _ (c .before .before .before .before .before .before .before .before .kind-of .ensures) (c .before .before .before .before .before .before .before .if2 .left)
+returns-3 c =
+    let r = c .before .before .before .before in
+    let k = r .before .before .before in
+    let i = k .before .before .before .before in
+    r .release-all .ensures _ _ ∙ abandon-write _ _ _ (i .before .abandon-code .ensures) (i .if1 .left) _ (k .before .kind-of .ensures) (k .if2 .left)
 
 pub abandon-spec : {M : Type 1} → statement M
 abandon-spec =
