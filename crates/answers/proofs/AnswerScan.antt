@@ -1,9 +1,9 @@
 -- Laws of a scan of the filed answers for the first that passes a test, in the terms of the loops that make it: `at` is where entry i starts.
 -- Leans on the rules' definitions and on laws. Assumes nothing.
-use mathlib.Core.Path.{_≡_, sym, ap, _∙_}
-use mathlib.Core.Bool.{Bool, true, false}
-use mathlib.Core.List.{List, []}
-use Prim.Native.Nat.{ℕ, _+_, _*_, _-_, _≤_, _<_}
+use mathlib.Core.Path.{_≡_, refl, sym, ap, _∙_}
+use mathlib.Core.Bool.{Bool, true, false, cond, and-true}
+use mathlib.Core.List.{List, [], _∷_}
+use Prim.Native.Nat.{ℕ, suc, _+_, _*_, _-_, _≤_, _<_}
 use native.Mathlib.Omega.{arith}
 use lib.Dec.{ltb}
 use lib.ListN.{length, getD, take, drop}
@@ -12,7 +12,7 @@ use borrow.Author.Tests.{le-leb, lt-leb, lt-ltb, le-ltb, ltb-false}
 use Rattle.lists.specs.Lists.{same, place, allBelow}
 use Rattle.laws.proofs.SearchLaws.{place-start, place-found, place-next, place-none, place-before}
 use Rattle.laws.proofs.EntryLaws.{length-entries, entry-at}
-use Rattle.rules.specs.Answers.{Entry, keyIn, lengthIn, revisionIn, hasKeyOf, atLeast, serves, isLong, someLong}
+use Rattle.rules.specs.Answers.{Entry, keyIn, lengthIn, revisionIn, hasKeyOf, atLeast, serves, fetchPlace, keyPlace, isLong, someLong}
 use Rattle.lists.specs.Lists.{header}
 use Rattle.query.specs.Encoding.{keyWidth}
 use Rattle.query.specs.Shape.{narrow}
@@ -42,6 +42,16 @@ serves-not n x e h = rw h
 pub serves-recent : (n : ℕ) (x e : Entry) → hasKeyOf x e ≡ true → serves narrow n x e ≡ allBelow n (atLeast narrow x e)
 unfolding serves
 serves-recent n x e h = rw h
+
+-- where no revision is compared the key alone decides
+serves-key : (x e : Entry) → serves narrow 0 x e ≡ hasKeyOf x e
+unfolding serves allBelow
+serves-key x e = and-true (hasKeyOf x e)
+
+pub fetch-key : (x : Entry) (es : List Entry) → fetchPlace narrow 0 x es ≡ keyPlace x es
+unfolding fetchPlace keyPlace place
+fetch-key x [] = refl
+fetch-key x (e ∷ es) = rw (serves-key x e) (ap (λ (n : ℕ). cond (hasKeyOf x e) 0 (suc n)) (fetch-key x es))
 
 -- ---- where an entry stands
 pub count-is : (s : List ℕ) → length (answersIn narrow s) ≡ getD s answerCountOffset 0

@@ -6,7 +6,7 @@ ghost use mathlib.Core.List.{[], _∷_, _++_};
 ghost use Prim.Native.Nat.{_≤_, _<_};
 ghost use lib.ListN.{length, getD};
 ghost use Rattle.lists.specs.Lists.{without, allBelow};
-ghost use Rattle.rules.specs.Answers.{hasKeyOf, atLeast, serves, fetchPlace, keyPlace, filed, someLong, lengthIn};
+ghost use Rattle.rules.specs.Answers.{hasKeyOf, atLeast, serves, fetchPlace, filed, someLong, lengthIn};
 ghost use Rattle.query.specs.Encoding.{keyWidth};
 ghost use Rattle.query.specs.Shape.{maxColumns, narrow};
 ghost use Rattle.rules.specs.Layout.{maxAnswers, maxList, trayLeast, answerCountOffset, lookRoom, entryWidth};
@@ -51,7 +51,8 @@ fn may_serve(e: &[u32], x: &[u32], n: usize) -> bool
     }
 }
 
-// The place of the first entry that may be answered with, or the count where none may.
+// The place of the first entry that may be answered with, or the count where none may. With n = 0 no revision is compared: it is the search
+// by the key alone, for the answer to the same query.
 pub fn fetch(answers: &[u32], entry: &[u32], n: usize) -> usize
     requires { ⌜ Fit (now answers) × ((length (now entry) ≡ entryWidth narrow) × (n ≤ lookRoom)) ⌝ }
     ensures { λ r. ⌜ r ≡ fetchPlace narrow n (now (entry .entry)) (answersIn narrow (now (answers .entry))) ⌝ }
@@ -62,25 +63,6 @@ pub fn fetch(answers: &[u32], entry: &[u32], n: usize) -> usize
     while i < count {
         let end = at + Hall::ENTRY_WIDTH;
         if may_serve(&answers[at..end], entry, n) {
-            return i;
-        }
-        at = end;
-        i += 1;
-    }
-    count
-}
-
-// The place of the first entry that answers the same query, or the count where none does.
-fn find_key(answers: &[u32], entry: &[u32]) -> usize
-    requires { ⌜ Fit (now answers) × (keyWidth ≤ length (now entry)) ⌝ }
-    ensures { λ r. ⌜ r ≡ keyPlace (now (entry .entry)) (answersIn narrow (now (answers .entry))) ⌝ }
-{
-    let count = answers[Hall::ANSWER_COUNT_OFFSET] as usize;
-    let mut at = Hall::HEADER;
-    let mut i = 0;
-    while i < count {
-        let end = at + Hall::ENTRY_WIDTH;
-        if has_key(&answers[at..end], entry) {
             return i;
         }
         at = end;
@@ -136,7 +118,7 @@ pub fn file(answers: &mut [u32], entry: &[u32])
     ensures { λ _. ⌜ now (answers .exit) ≡ withAnswers narrow (now (answers .entry)) (filed (now (entry .entry)) (answersIn narrow (now (answers .entry)))) ⌝ }
 {
     let count = answers[Hall::ANSWER_COUNT_OFFSET] as usize;
-    let i = find_key(answers, entry);
+    let i = fetch(answers, entry, 0);
     if i < count {
         replace(answers, i, entry);
     } else if count < ANSWERS {
@@ -168,8 +150,9 @@ pub fn empty(answers: &mut [u32])
     answers[Hall::ANSWER_COUNT_OFFSET] = 0;
 }
 
-// Copies an entry's list, k numbers for each record, to the tray's start, and gives the number of its records.
-fn give_list(entry: &[u32], k: usize, tray: &mut [u32]) -> u32
+// Copies an entry's list, k numbers for each record, to the tray's start, and gives the number of its records. The entry is a filed answer
+// or a client's own.
+pub fn give_list(entry: &[u32], k: usize, tray: &mut [u32]) -> u32
     requires { ⌜ (length (now entry) ≡ entryWidth narrow) × ((lengthIn (now entry) ≤ maxList) × ((k ≤ maxColumns) × (trayLeast ≤ length (now tray)))) ⌝ }
     ensures { λ r. ⌜ Gave k (now (entry .entry)) (now (tray .entry)) r (now (tray .exit)) ⌝ }
 {

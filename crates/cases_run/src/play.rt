@@ -83,9 +83,9 @@ fn begin_asked(
     }
     let asked = &words[..n];
     match act {
-        Act::Read => requests::begin_read(table, nodes, answers, clients, client, asked),
-        Act::Insert => requests::begin_insert(table, nodes, answers, clients, client, asked),
-        _ => requests::begin_delete(table, nodes, answers, clients, client, asked),
+        Act::Read => calls::begins::begin_read(table, nodes, answers, clients, client, asked),
+        Act::Insert => calls::begins::begin_insert(table, nodes, answers, clients, client, asked),
+        _ => calls::begins::begin_delete(table, nodes, answers, clients, client, asked),
     }
 }
 
@@ -117,7 +117,7 @@ fn short_step(
     if tray.len() < n {
         return Outcome::Accepted;
     }
-    steps::step(table, nodes, answers, clients, &mut tray[..n], client)
+    calls::desks::step(table, nodes, answers, clients, &mut tray[..n], client)
 }
 
 // The five steps of an insert into a hall of one column; says what the last one said.
@@ -132,7 +132,7 @@ fn five_steps(
     let mut out = Outcome::Accepted;
     let mut i: u32 = 0;
     while i < 5 {
-        out = steps::step(table, nodes, answers, clients, tray, client);
+        out = calls::desks::step(table, nodes, answers, clients, tray, client);
         i += 1;
     }
     out
@@ -149,7 +149,7 @@ fn whole(
     value: u32,
 ) -> Outcome {
     let asked = [1, value];
-    requests::begin_insert(table, nodes, answers, clients, client, &asked);
+    calls::begins::begin_insert(table, nodes, answers, clients, client, &asked);
     five_steps(table, nodes, answers, clients, tray, client)
 }
 
@@ -192,7 +192,7 @@ fn moved(
     let act = line.act;
     let client = line.at;
     match act {
-        Act::Step => seen(steps::step(table, nodes, answers, clients, tray, client)),
+        Act::Step => seen(calls::desks::step(table, nodes, answers, clients, tray, client)),
         Act::ShortStep => seen(short_step(table, nodes, answers, clients, tray, client)),
         Act::Whole => seen(whole(
             table,
@@ -220,7 +220,7 @@ fn short_open(
     if table.len() < n {
         return Outcome::Accepted;
     }
-    hall::Hall::open(&mut table[..n], nodes, answers, clients, k)
+    calls::opening::open(&mut table[..n], nodes, answers, clients, k)
 }
 
 fn opened(
@@ -232,7 +232,7 @@ fn opened(
     k: u32,
 ) -> Outcome {
     match act {
-        Act::Open => hall::Hall::open(table, nodes, answers, clients, k),
+        Act::Open => calls::opening::open(table, nodes, answers, clients, k),
         _ => short_open(table, nodes, answers, clients, k),
     }
 }
@@ -246,10 +246,10 @@ fn taken_out(
     at: u32,
 ) -> Outcome {
     match act {
-        Act::Abandon => steps::abandon(table, nodes, answers, clients, at),
-        Act::EvictAnswer => requests::evict_answer(table, nodes, answers, clients, at),
-        Act::EvictNode => requests::evict_node(table, nodes, answers, clients, at),
-        _ => requests::renew(table, nodes, answers, clients),
+        Act::Abandon => calls::desks::abandon(table, nodes, answers, clients, at),
+        Act::EvictAnswer => calls::upkeep::evict_answer(table, nodes, answers, clients, at),
+        Act::EvictNode => calls::upkeep::evict_node(table, nodes, answers, clients, at),
+        _ => calls::upkeep::renew(table, nodes, answers, clients),
     }
 }
 

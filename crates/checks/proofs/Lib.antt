@@ -1,2 +1,3 @@
 pub mod SoundMemories
 pub mod CheckCodes
+pub mod BeginCodes

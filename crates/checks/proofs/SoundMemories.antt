@@ -8,7 +8,8 @@ use Rattle.laws.proofs.TestLaws.{passed}
 use Rattle.rules.specs.Memory.{Mem}
 use Rattle.rules.specs.Refusals.{isShort, isUnsound}
 use Rattle.rules.specs.Refusals.{shape}
-use Rattle.rules.proofs.PassedChecks.{Sound, sound}
+use Rattle.rules.specs.Sound.{Sound}
+use Rattle.rules.proofs.PassedChecks.{sound}
 use Rattle.nodes.specs.NodeContracts as nodes
 use Rattle.answers.specs.AnswerContracts as answers
 use Rattle.clients.specs.ClientContracts as client-contracts

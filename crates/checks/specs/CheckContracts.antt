@@ -1,25 +1,77 @@
--- Parts of the refusals that several checks share, and what begins by the number of its kind, where crates/rules/specs has no name for them.
--- Leans on rules. Definitions only. Assumes nothing.
-use mathlib.Core.Bool.{cond}
-use mathlib.Core.List.{List}
-use Prim.Native.Nat.{ℕ}
-use lib.Dec.{eqb}
-use Rattle.query.specs.Encoding.{queryOf, namesAll}
-use Rattle.rules.specs.Layout.{reads, inserts}
-use Rattle.rules.specs.Work.{Request, readOf, insertOf, deleteOf}
-use Rattle.rules.specs.Memory.{Mem}
-use Rattle.rules.specs.Refusals.{shape}
-use Rattle.rules.specs.Refusals.{isShort, isUnsound, refuse}
-use Rattle.query.specs.Shape.{narrow}
+-- What the checks give: parts of the refusals that several of them share, what they hand on where they do not refuse, and what begins by the
+-- number of its kind, where crates/rules/specs has no name for it. Leans on rules and clients. Definitions only. Assumes nothing.
+use mathlib.Core.Path.{_≡_}
+use mathlib.Core.Bool.{Bool, cond, not, _&&_}
+use mathlib.Core.List.{List, []}
+use Prim.Native.Nat.{ℕ, _^_, _≤_}
+use lib.Dec.{eqb, ltb, leb}
+use lib.ListN.{getD}
+use Rattle.query.specs.Shape.{Shape, narrow, maxColumns}
+use Rattle.rules.specs.Layout.{answerCountOffset, nodeCountOffset, reads, inserts, refusedShort, refusedUnsound, refusedNoClient, refusedTaken, refusedIdle}
+use Rattle.rules.specs.Layout.{refusedNoEntry, refusedPending, refusedWorn}
+use Rattle.rules.specs.Work.{keyOf, Request, readOf, insertOf, deleteOf, isWrite, workOf, faultOf}
+use Rattle.rules.specs.Nodes.{isWorn, isFree}
+use Rattle.rules.specs.Client.{isIdle, isBad}
+use Rattle.rules.specs.Memory.{Mem, shapeIn, clientIn, storeIn}
+use Rattle.rules.specs.Refusals.{shape, client, isShort, isUnsound, noClient, refuse, beginCode, evictAnswerCode, evictNodeCode}
+use Rattle.clients.specs.declared.Held.{Held}
+use Rattle.clients.specs.ClientContracts.{IsHeld}
+use Rattle.checks.specs.declared.Checked.{Checked}
+use Rattle.checks.specs.declared.Begun.{Begun}
+use Rattle.checks.specs.declared.Kept.{Kept}
+use Rattle.checks.specs.declared.Kept.the-variants.{Answer, Node}
 
 -- 1 short or 3 unsound, by the four memories alone
 unfoldable pub soundCode : Mem → ℕ
-soundCode m = refuse (isShort narrow (shape m) m) 1 (refuse (isUnsound m) 3 0)
+soundCode m = refuse (isShort narrow (shape m) m) refusedShort (refuse (isUnsound m) refusedUnsound 0)
 
--- 2 where an insert has a star
-unfoldable pub recordCode : List ℕ → ℕ
-recordCode a = cond (namesAll (queryOf a)) 0 2
+-- ---- A client's desk
+-- 3 unsound or 6 idle, by the client alone
+unfoldable pub clientCode : List ℕ → ℕ → ℕ
+clientCode s d =
+    refuse (isBad narrow (shapeIn s) (clientIn narrow s d)) refusedUnsound (refuse (isIdle narrow (clientIn narrow s d)) refusedIdle 0)
 
+-- r has the number n; where it is 0, r holds what was read of client d
+pub record Found (r : Checked) (m : Mem) (d n : ℕ) : Type 0 where
+  pub code : r .code ≡ n
+  pub held : n ≡ 0 → IsHeld (r .held) (m .clients) d
+
+-- a write that has made its table step, by what was read of it
+unfoldable pub committed : Held → Bool
+committed h = not (eqb (h .kind) reads) && ltb (2 ^ h .columns) (h .steps)
+
+-- ---- Begins
 -- what begins, by the number of its kind and the numbers that arrive
 abbrev pub requestOf : ℕ → List ℕ → Request
 requestOf kind a = cond (eqb kind reads) (readOf a) (cond (eqb kind inserts) (insertOf a) (deleteOf a))
+
+-- r has what x is turned down with for itself, or 0 and the key of its work, in a hall of no more columns than there may be
+pub record Asked (r : Begun) (sh : Shape) (x : Request) : Type 0 where
+  pub code : r .code ≡ faultOf sh x
+  pub key : faultOf sh x ≡ 0 → sh .columns ≤ maxColumns → r .key ≡ keyOf (workOf sh x)
+
+-- what a begin is refused with that is not short and not turned down for itself
+unfoldable pub deskCode : Mem → ℕ → Request → ℕ
+deskCode m d x =
+    refuse (isUnsound m) refusedUnsound
+    (refuse (noClient d) refusedNoClient
+    (refuse (isBad narrow (shape m) (client m d)) refusedUnsound
+    (refuse (not (isIdle narrow (client m d))) refusedTaken
+    (refuse (isWrite x && isWorn narrow (shape m) (storeIn narrow (m .nodes))) refusedWorn 0))))
+
+-- r has the begin's number; where it is 0, r has the key that the client is to keep
+pub record BeginFound (r : Begun) (m : Mem) (d : ℕ) (x : Request) : Type 0 where
+  pub code : r .code ≡ beginCode m d x
+  pub key : beginCode m d x ≡ 0 → r .key ≡ keyOf (workOf (shape m) x)
+
+-- ---- Evictions
+unfoldable pub answerCode : List ℕ → ℕ → ℕ
+answerCode s i = refuse (leb (getD s answerCountOffset 0) i) refusedNoEntry 0
+
+unfoldable pub nodeCode : List ℕ → ℕ → ℕ
+nodeCode s i =
+    refuse (leb (getD s nodeCountOffset 0) i) refusedNoEntry (refuse (not (isFree (getD (storeIn narrow s .nodes) i []))) refusedPending 0)
+
+unfoldable pub evictCode : Mem → Kept → ℕ → ℕ
+evictCode m Answer i = evictAnswerCode m i
+evictCode m Node i = evictNodeCode m i

@@ -1,17 +1,21 @@
 // The refusals as numbers: for each call the smallest number that applies, or 0. Each reads the four lent memories, in any contents and of any
-// lengths, and tests in the order of the rules. The rules stand in rules (Refusals).
+// lengths, and tests in the order of the rules. What a check has read and a call goes on with, it hands on: a client (`Checked`), the key of
+// what begins (`Begun`). The rules stand in rules (Refusals), what is handed on in specs/CheckContracts.antt.
+use clients::Held;
 use hall::Hall;
-use query::Column;
 ghost use mathlib.Core.Path.{_≡_};
-ghost use mathlib.Core.Bool.{false};
-ghost use Prim.Native.Nat.{_≤_};
-ghost use Rattle.rules.specs.Memory.{mem, clientIn};
+ghost use mathlib.Core.Bool.{true, false};
+ghost use mathlib.Core.List.{List};
+ghost use Prim.Native.Nat.{ℕ, _≤_};
+ghost use lib.ListN.{length};
 ghost use Rattle.query.specs.Shape.{shapeOf, maxColumns, narrow};
-ghost use Rattle.rules.specs.Work.{faultOf};
-ghost use Rattle.rules.specs.Refusals.{shape};
-ghost use Rattle.rules.specs.Refusals.{isShort, isUnsound, isCommitted, atClient, beginCode, stepCode, abandonCode, evictAnswerCode, evictNodeCode, renewCode};
-ghost use Rattle.clients.specs.ClientContracts.{Fit};
-ghost use Rattle.checks.specs.CheckContracts.{soundCode, recordCode, requestOf};
+ghost use Rattle.query.specs.Encoding.{isQuery};
+ghost use Rattle.rules.specs.Work.{insertOf};
+ghost use Rattle.rules.specs.Memory.{mem};
+ghost use Rattle.rules.specs.Refusals.{shape, isShort, isUnsound, atClient, stepCode, abandonCode, renewCode};
+ghost use Rattle.clients.specs.ClientContracts.{Fit, IsHeld};
+ghost use Rattle.nodes.specs.NodeContracts;
+ghost use Rattle.checks.specs.CheckContracts.{soundCode, clientCode, Found, requestOf, Asked, deskCode, BeginFound, committed, answerCode, nodeCode, evictCode};
 
 // ---- The memories
 // Whether k, an entry count or a filed list's length is out of range. Reads each memory once.
@@ -51,84 +55,126 @@ fn sound_code(table: &[u32], nodes: &[u32], answers: &[u32], clients: &[u32]) ->
     0
 }
 
-// What a call finds at client d of long memories: 3 unsound, 4 no such client, 6 idle, 0 busy.
-fn at_client(table: &[u32], nodes: &[u32], answers: &[u32], clients: &[u32], d: u32) -> u32
-    requires { ⌜ isShort narrow (shape (mem (now table) (now nodes) (now answers) (now clients))) (mem (now table) (now nodes) (now answers) (now clients)) ≡ false ⌝ }
-    ensures { λ r. ⌜ r ≡ atClient (mem (now (table .entry)) (now (nodes .entry)) (now (answers .entry)) (now (clients .entry))) d ⌝ }
+// ---- A client's desk
+// What the checks of a step or an abandoning give: the number that it is refused with, or 0; and, if that is 0, what was read of the client.
+pub struct Checked {
+    pub code: u32,
+    pub held: Held,
+}
+
+// A refusal: nothing was read that others may use.
+fn refused(code: u32) -> Checked
+    ensures { λ r. ⌜ r .code ≡ code ⌝ }
 {
-    if is_unsound(table, nodes, answers, clients) {
-        return Hall::REFUSED_UNSOUND;
-    }
-    if Hall::CLIENTS <= d {
-        return Hall::REFUSED_NO_CLIENT;
-    }
-    let k = clients[Hall::COLUMNS_OFFSET] as usize;
-    if clients::is_bad(clients, d as usize, k) {
+    let values = [0u32; Hall::COLUMN_SLOTS];
+    let held = Held {
+        columns: 0,
+        kind: 0,
+        steps: 0,
+        marks: 0,
+        values: values,
+    };
+    Checked { code, held }
+}
+
+// What a client of which h was read is found to be: 3 unsound, 6 idle, 0 busy.
+fn client_code(clients: &[u32], d: usize, h: Held) -> u32
+    requires { ⌜ Fit (now clients) d × (IsHeld h (now clients) d × (h .columns ≤ maxColumns)) ⌝ }
+    ensures { λ r. ⌜ r ≡ clientCode (now (clients .entry)) d ⌝ }
+{
+    if clients::is_bad(clients, d, h) {
         return Hall::REFUSED_UNSOUND;
     }
     // A client that is not bad is idle exactly if its kind is 0: its other numbers need not be read again.
-    if clients::kind_of(clients, d as usize) == 0 {
+    if h.kind == 0 {
         return Hall::REFUSED_IDLE;
     }
     0
 }
 
-// ---- Begins
-// An insert takes each column's value, and is refused at the first wildcard.
-fn record_code(asked: &[u32]) -> u32
-    ensures { λ r. ⌜ r ≡ recordCode (now (asked .entry)) ⌝ }
+// What a call finds at client d of long memories: 3 unsound, 4 no such client, 6 idle, 0 busy. The client is read here, once.
+fn at_client(table: &[u32], nodes: &[u32], answers: &[u32], clients: &[u32], d: u32) -> Checked
+    requires { ⌜ isShort narrow (shape (mem (now table) (now nodes) (now answers) (now clients))) (mem (now table) (now nodes) (now answers) (now clients)) ≡ false ⌝ }
+    ensures { λ r. ⌜ Found r (mem (now (table .entry)) (now (nodes .entry)) (now (answers .entry)) (now (clients .entry))) d (atClient (mem (now (table .entry)) (now (nodes .entry)) (now (answers .entry)) (now (clients .entry))) d) ⌝ }
 {
-    let mut from = 0;
-    while from + 1 < asked.len() {
-        let end = from + 2;
-        let cols = columns::columns_of(&asked[from..end]);
-        let col = cols[0];
-        let Column::Is(_) = col else {
-            return Hall::REFUSED_COLUMNS;
-        };
-        from = end;
+    if is_unsound(table, nodes, answers, clients) {
+        return refused(Hall::REFUSED_UNSOUND);
     }
-    0
+    if Hall::CLIENTS <= d {
+        return refused(Hall::REFUSED_NO_CLIENT);
+    }
+    let held = clients::read(clients, d as usize);
+    let code = client_code(clients, d as usize, held);
+    Checked { code, held }
 }
 
-// What arrives is turned down for itself where it is no query of k columns, or an insert with a wildcard: the number, or 0.
-fn fault_of(k: u32, kind: u32, asked: &[u32]) -> u32
-    ensures { λ r. ⌜ r ≡ faultOf (shapeOf k) (requestOf kind (now (asked .entry))) ⌝ }
+// ---- Begins
+// What the checks of a begin give: the number that it is refused with, or 0; and, if that is 0, the key that the client is to keep.
+pub struct Begun {
+    pub code: u32,
+    pub key: [u32; Hall::KEY_WIDTH],
+}
+
+// A begin without a key: a refusal, or one that is refused for the number of columns by what is tested next.
+fn keyless(code: u32) -> Begun
+    ensures { λ r. ⌜ r .code ≡ code ⌝ }
+{
+    let key = [0u32; Hall::KEY_WIDTH];
+    Begun { code, key }
+}
+
+// An insert: its columns' values are taken, or it is refused for a wildcard.
+fn insert_asked(k: u32, asked: &[u32]) -> Begun
+    requires { ⌜ isQuery (shapeOf k) (now asked) ≡ true ⌝ }
+    ensures { λ r. ⌜ Asked r (shapeOf k) (insertOf (now (asked .entry))) ⌝ }
+{
+    let taken = columns::take_record(asked);
+    let code = taken.code;
+    if Hall::COLUMNS < k {
+        return keyless(code);
+    }
+    let values = taken.values;
+    let key = columns::keys::record_key(k as usize, values);
+    Begun { code, key }
+}
+
+// What arrives is turned down for itself where it is no query of k columns, or an insert with a wildcard; else it has a key. k may be any number:
+// that it is out of range is tested later.
+fn request_of(k: u32, kind: u32, asked: &[u32]) -> Begun
+    ensures { λ r. ⌜ Asked r (shapeOf k) (requestOf kind (now (asked .entry))) ⌝ }
 {
     if !columns::is_query(asked, k) {
-        return Hall::REFUSED_COLUMNS;
+        return keyless(Hall::REFUSED_COLUMNS);
     }
-    if kind != Hall::INSERTS {
-        return 0;
+    if kind == Hall::INSERTS {
+        return insert_asked(k, asked);
     }
-    record_code(asked)
+    if Hall::COLUMNS < k {
+        return keyless(0);
+    }
+    let cols = columns::columns_of(asked);
+    let key = columns::keys::key_words(cols, k as usize);
+    Begun { code: 0, key }
 }
 
-// Kinds: 1 read, 2 insert, 3 delete.
-pub fn begin_code(
+// What a begin finds behind what arrives, in long memories. Kinds: 1 read, 2 insert, 3 delete.
+fn desk_code(
     table: &[u32],
     nodes: &[u32],
     answers: &[u32],
     clients: &[u32],
     kind: u32,
     d: u32,
-    asked: &[u32],
 ) -> u32
-    ensures { λ r. ⌜ r ≡ beginCode (mem (now (table .entry)) (now (nodes .entry)) (now (answers .entry)) (now (clients .entry))) d (requestOf kind (now (asked .entry))) ⌝ }
+    requires { ⌜ isShort narrow (shape (mem (now table) (now nodes) (now answers) (now clients))) (mem (now table) (now nodes) (now answers) (now clients)) ≡ false ⌝ }
+    ensures { λ r. ⌜ ((a : List ℕ) → r ≡ deskCode (mem (now (table .entry)) (now (nodes .entry)) (now (answers .entry)) (now (clients .entry))) d (requestOf kind a)) ⌝ }
 {
-    if Hall::is_short(table, nodes, answers, clients) {
-        return Hall::REFUSED_SHORT;
-    }
-    let fault = fault_of(clients[Hall::COLUMNS_OFFSET], kind, asked);
-    if fault != 0 {
-        return fault;
-    }
     let found = at_client(table, nodes, answers, clients, d);
-    if found == 0 {
+    if found.code == 0 {
         return Hall::REFUSED_TAKEN;
     }
-    if found != Hall::REFUSED_IDLE {
-        return found;
+    if found.code != Hall::REFUSED_IDLE {
+        return found.code;
     }
     if kind == Hall::READS {
         return 0;
@@ -139,96 +185,134 @@ pub fn begin_code(
     0
 }
 
+// The checks of a begin. Kinds: 1 read, 2 insert, 3 delete.
+pub fn begin_check(
+    table: &[u32],
+    nodes: &[u32],
+    answers: &[u32],
+    clients: &[u32],
+    kind: u32,
+    d: u32,
+    asked: &[u32],
+) -> Begun
+    ensures { λ r. ⌜ BeginFound r (mem (now (table .entry)) (now (nodes .entry)) (now (answers .entry)) (now (clients .entry))) d (requestOf kind (now (asked .entry))) ⌝ }
+{
+    if Hall::is_short(table, nodes, answers, clients) {
+        return keyless(Hall::REFUSED_SHORT);
+    }
+    let request = request_of(clients[Hall::COLUMNS_OFFSET], kind, asked);
+    if request.code != 0 {
+        return request;
+    }
+    let code = desk_code(table, nodes, answers, clients, kind, d);
+    let key = request.key;
+    Begun { code, key }
+}
+
 // ---- Steps and abandonings
-pub fn step_code(
+pub fn step_check(
     table: &[u32],
     nodes: &[u32],
     answers: &[u32],
     clients: &[u32],
     tray: &[u32],
     d: u32,
-) -> u32
-    ensures { λ r. ⌜ r ≡ stepCode (mem (now (table .entry)) (now (nodes .entry)) (now (answers .entry)) (now (clients .entry))) (now (tray .entry)) d ⌝ }
+) -> Checked
+    ensures { λ r. ⌜ Found r (mem (now (table .entry)) (now (nodes .entry)) (now (answers .entry)) (now (clients .entry))) d (stepCode (mem (now (table .entry)) (now (nodes .entry)) (now (answers .entry)) (now (clients .entry))) (now (tray .entry)) d) ⌝ }
 {
     if Hall::is_short(table, nodes, answers, clients) {
-        return Hall::REFUSED_SHORT;
+        return refused(Hall::REFUSED_SHORT);
     }
     if tray.len() < Hall::TRAY_LEAST {
-        return Hall::REFUSED_SHORT;
+        return refused(Hall::REFUSED_SHORT);
     }
     at_client(table, nodes, answers, clients, d)
 }
 
 // Whether a write has made its table step: it has made more steps than it has nodes to mark.
-fn is_committed(clients: &[u32], d: usize, k: usize) -> bool
-    requires { ⌜ Fit (now clients) d × (k ≤ maxColumns) ⌝ }
-    ensures { λ r. ⌜ r ≡ isCommitted (shapeOf k) (clientIn narrow (now (clients .entry)) d) ⌝ }
+fn is_committed(h: Held) -> bool
+    requires { ⌜ h .columns ≤ maxColumns ⌝ }
+    ensures { λ r. ⌜ r ≡ committed h ⌝ }
 {
-    if clients::kind_of(clients, d) == Hall::READS {
+    if h.kind == Hall::READS {
         return false;
     }
-    let made = clients::steps_of(clients, d);
-    columns::keys::power(k) < made
+    (columns::keys::power(h.columns) as usize) < h.steps
 }
 
-pub fn abandon_code(table: &[u32], nodes: &[u32], answers: &[u32], clients: &[u32], d: u32) -> u32
-    ensures { λ r. ⌜ r ≡ abandonCode (mem (now (table .entry)) (now (nodes .entry)) (now (answers .entry)) (now (clients .entry))) d ⌝ }
-{
-    if Hall::is_short(table, nodes, answers, clients) {
-        return Hall::REFUSED_SHORT;
-    }
-    let found = at_client(table, nodes, answers, clients, d);
-    if found != 0 {
-        return found;
-    }
-    let k = clients[Hall::COLUMNS_OFFSET] as usize;
-    if is_committed(clients, d as usize, k) {
-        return Hall::REFUSED_COMMITTED;
-    }
-    0
-}
-
-// ---- Evictions and renewals
-pub fn evict_answer_code(
+pub fn abandon_check(
     table: &[u32],
     nodes: &[u32],
     answers: &[u32],
     clients: &[u32],
-    place: u32,
-) -> u32
-    ensures { λ r. ⌜ r ≡ evictAnswerCode (mem (now (table .entry)) (now (nodes .entry)) (now (answers .entry)) (now (clients .entry))) place ⌝ }
+    d: u32,
+) -> Checked
+    ensures { λ r. ⌜ Found r (mem (now (table .entry)) (now (nodes .entry)) (now (answers .entry)) (now (clients .entry))) d (abandonCode (mem (now (table .entry)) (now (nodes .entry)) (now (answers .entry)) (now (clients .entry))) d) ⌝ }
 {
-    let found = sound_code(table, nodes, answers, clients);
-    if found != 0 {
+    if Hall::is_short(table, nodes, answers, clients) {
+        return refused(Hall::REFUSED_SHORT);
+    }
+    let found = at_client(table, nodes, answers, clients, d);
+    if found.code != 0 {
         return found;
     }
+    let held = found.held;
+    if is_committed(held) {
+        return refused(Hall::REFUSED_COMMITTED);
+    }
+    found
+}
+
+// ---- Evictions and renewals
+// What can be put out by its place.
+pub enum Kept {
+    Answer,
+    Node,
+}
+
+// 8 where there is no filed answer at the place.
+fn answer_code(answers: &[u32], place: u32) -> u32
+    requires { ⌜ 1 ≤ length (now answers) ⌝ }
+    ensures { λ r. ⌜ r ≡ answerCode (now (answers .entry)) place ⌝ }
+{
     if answers[Hall::ANSWER_COUNT_OFFSET] <= place {
         return Hall::REFUSED_NO_ENTRY;
     }
     0
 }
 
-pub fn evict_node_code(
+// 8 where there is no node at the place, 9 where it has pending writes.
+fn node_code(nodes: &[u32], place: u32) -> u32
+    requires { ⌜ NodeContracts.Fit (now nodes) ⌝ }
+    ensures { λ r. ⌜ r ≡ nodeCode (now (nodes .entry)) place ⌝ }
+{
+    if nodes[Hall::NODE_COUNT_OFFSET] <= place {
+        return Hall::REFUSED_NO_ENTRY;
+    }
+    if !nodes::is_free(nodes, place as usize) {
+        return Hall::REFUSED_PENDING;
+    }
+    0
+}
+
+pub fn evict_code(
     table: &[u32],
     nodes: &[u32],
     answers: &[u32],
     clients: &[u32],
+    kept: Kept,
     place: u32,
 ) -> u32
-    ensures { λ r. ⌜ r ≡ evictNodeCode (mem (now (table .entry)) (now (nodes .entry)) (now (answers .entry)) (now (clients .entry))) place ⌝ }
+    ensures { λ r. ⌜ r ≡ evictCode (mem (now (table .entry)) (now (nodes .entry)) (now (answers .entry)) (now (clients .entry))) kept place ⌝ }
 {
     let found = sound_code(table, nodes, answers, clients);
     if found != 0 {
         return found;
     }
-    if nodes[Hall::NODE_COUNT_OFFSET] <= place {
-        return Hall::REFUSED_NO_ENTRY;
+    match kept {
+        Kept::Answer => answer_code(answers, place),
+        Kept::Node => node_code(nodes, place),
     }
-    let i = place as usize;
-    if 0 < nodes::pending_at(nodes, i) {
-        return Hall::REFUSED_PENDING;
-    }
-    0
 }
 
 pub fn renew_code(table: &[u32], nodes: &[u32], answers: &[u32], clients: &[u32]) -> u32

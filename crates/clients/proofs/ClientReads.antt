@@ -1,24 +1,22 @@
 -- Laws of what is read of one client: idleness, key, query, list. Leans on rules and on the laws of ClientMemory. Assumes nothing.
 use mathlib.Core.Path.{_≡_, refl, sym, ap, _∙_}
 use mathlib.Core.Bool.{Bool, true, false, not}
-use mathlib.Core.List.{List}
-use Prim.Native.Nat.{ℕ, _+_, _-_, _*_, _≤_, _<_}
+use mathlib.Core.List.{List, [], _∷_}
+use Prim.Native.Nat.{ℕ, suc, _+_, _-_, _≤_, _<_}
+use native.Mathlib.Numerals.{add-one}
 use native.Mathlib.Omega.{arith}
 use lib.ListN.{length-drop, length, getD, take, drop, replicate}
-use lib.Seq.{take-all, getD-take, getD-drop, drop-drop}
+use lib.Seq.{take-all, take-take, getD-take, getD-drop, drop-cons, drop-drop}
 use Rattle.lists.specs.Lists.{same, allBelow}
 use Rattle.laws.proofs.ListLaws.{below-next, below-not}
 use Rattle.laws.proofs.WrittenLaws.{drop-take}
-use Rattle.query.specs.Encoding.{columnsIn, queryIn}
-use Rattle.rules.specs.Answers.{keyIn, lengthIn, listIn}
-use Rattle.rules.specs.Client.{Client, entryOf, isIdle, idle, queryAt}
+use Rattle.rules.specs.Answers.{keyIn, lengthIn}
+use Rattle.rules.specs.Client.{Client, entryOf, isIdle, idle}
 use Rattle.rules.specs.Memory.{Mem, clientIn}
 use Rattle.rules.specs.Refusals.{client, allIdle}
 use Rattle.query.specs.Encoding.{keyWidth}
-use Rattle.query.specs.Shape.{shapeOf, maxColumns, narrow}
-use Rattle.rules.specs.Layout.{maxClients, maxList, listOffset, listRoom, entryWidth, entryOffset, clientWidth, clientOffset}
-use Rattle.rules.specs.Layout.{heldValuesOffset, heldLengthOffset, heldListOffset}
-use Rattle.rules.proofs.ClientLaws.{list-room}
+use Rattle.query.specs.Shape.{maxColumns, narrow}
+use Rattle.rules.specs.Layout.{maxClients, entryWidth, entryOffset, clientWidth, clientOffset, heldValuesOffset, heldLengthOffset}
 use Rattle.clients.specs.ClientContracts.{Fit, idleAt}
 use Rattle.clients.proofs.ClientMemory.{length-client, part-at}
 
@@ -60,38 +58,41 @@ key-read s d =
     let n : clientOffset narrow d + entryOffset + 7 - (clientOffset narrow d + entryOffset) ≡ keyWidth = omega arith in
     rw n (sym (part-at s d 5 7 (omega arith)))
 
-marks-in : (c : Client) → getD (keyIn (entryOf c)) 0 0 ≡ getD c 5 0
+-- its marks and its first four values, from the client's numbers
+pub marks-read : (c : Client) → getD c entryOffset 0 ≡ getD (keyIn (entryOf c)) 0 0
 unfolding keyIn entryOf
-marks-in c = getD-take keyWidth (drop 5 c) 0 0 (omega arith) ∙ getD-drop 5 c 0 0
+marks-read c = sym (getD-take keyWidth (drop entryOffset c) 0 0 (omega arith) ∙ getD-drop entryOffset c 0 0)
 
-values-in : (c : Client) → drop 1 (keyIn (entryOf c)) ≡ take 6 (drop 6 c)
+values-in : (c : Client) → take maxColumns (drop heldValuesOffset c) ≡ take maxColumns (drop 1 (keyIn (entryOf c)))
 unfolding keyIn entryOf
-values-in c = drop-take 1 7 (drop 5 c) ∙ ap (take 6) (drop-drop 1 5 c)
+values-in c =
+    let w : ℕ = keyWidth - 1 in
+    sym (ap (take maxColumns) (drop-take 1 keyWidth (drop entryOffset c) ∙ ap (take w) (drop-drop 1 entryOffset c))
+    ∙ take-take maxColumns w (drop heldValuesOffset c) (omega arith))
 
-pub columns-read : (s : List ℕ) (d k m : ℕ) → m ≡ getD (clientIn narrow s d) 5 0
-    → columnsIn k m (take (clientOffset narrow d + heldValuesOffset + 6 - (clientOffset narrow d + heldValuesOffset)) (drop (clientOffset narrow d + heldValuesOffset) s)) ≡ queryAt (shapeOf k) (clientIn narrow s d)
-unfolding queryAt queryIn
-columns-read s d k m e =
-    let n : clientOffset narrow d + heldValuesOffset + 6 - (clientOffset narrow d + heldValuesOffset) ≡ 6 = omega arith in
-    rw (n, e, ← part-at s d 6 6 (omega arith), ← marks-in (clientIn narrow s d), ← values-in (clientIn narrow s d))
+-- four numbers, one after another
+next-one : (s : List ℕ) (i j n : ℕ) → i < length s → i + 1 ≡ j → getD s i 0 ∷ take n (drop j s) ≡ take (suc n) (drop i s)
+next-one s i j n h e = sym (ap (take (suc n)) (drop-cons s i 0 h) ∙ ap (λ (x : ℕ). getD s i 0 ∷ take n (drop x s)) (sym (add-one i) ∙ e))
+
+four-at : (s : List ℕ) (i : ℕ) → i + 3 < length s
+    → (getD s i 0 ∷ getD s (i + 1) 0 ∷ getD s (i + 2) 0 ∷ getD s (i + 3) 0 ∷ []) ≡ take 4 (drop i s)
+four-at s i h =
+    ap (λ (l : List ℕ). getD s i 0 ∷ getD s (i + 1) 0 ∷ getD s (i + 2) 0 ∷ l) (next-one s (i + 3) (i + 3 + 1) 0 h refl)
+    ∙ ap (λ (l : List ℕ). getD s i 0 ∷ getD s (i + 1) 0 ∷ l) (next-one s (i + 2) (i + 3) 1 (omega arith) (omega arith))
+    ∙ ap (λ (l : List ℕ). getD s i 0 ∷ l) (next-one s (i + 1) (i + 2) 2 (omega arith) (omega arith))
+    ∙ next-one s i (i + 1) 3 (omega arith) refl
+
+pub values-read : (s : List ℕ) (d i : ℕ) → Fit s d → i ≡ clientOffset narrow d + heldValuesOffset
+    → (getD s i 0 ∷ getD s (i + 1) 0 ∷ getD s (i + 2) 0 ∷ getD s (i + 3) 0 ∷ []) ≡ take maxColumns (drop 1 (keyIn (entryOf (clientIn narrow s d))))
+values-read s d i f e =
+    let l = f .long in
+    let b = f .below in
+    four-at s i (omega arith) ∙ rw e (sym (part-at s d heldValuesOffset maxColumns (omega arith)) ∙ values-in (clientIn narrow s d))
 
 -- ---- the list
 pub length-read : (c : Client) → getD c heldLengthOffset 0 ≡ lengthIn (entryOf c)
 unfolding lengthIn entryOf
 length-read c = sym (getD-drop 5 c 7 0)
-
-pub list-fits : (c : Client) (n k : ℕ) → n ≡ getD c heldLengthOffset 0 → lengthIn (entryOf c) ≤ maxList → k ≤ maxColumns → n * k ≤ listRoom
-list-fits c n k e h g = let l = length-read c in list-room n k (omega arith) g
-
-pub list-read : (s : List ℕ) (d k n : ℕ) → n ≡ getD (clientIn narrow s d) heldLengthOffset 0 → n * k ≤ listRoom
-    → take (clientOffset narrow d + heldListOffset narrow (shapeOf k) + n * k - (clientOffset narrow d + heldListOffset narrow (shapeOf k))) (drop (clientOffset narrow d + heldListOffset narrow (shapeOf k)) s) ≡ listIn narrow (shapeOf k) (entryOf (clientIn narrow s d))
-unfolding listIn
-list-read s d k n e h =
-    let m : clientOffset narrow d + heldListOffset narrow (shapeOf k) + n * k - (clientOffset narrow d + heldListOffset narrow (shapeOf k)) ≡ n * k = omega arith in
-    let l : n ≡ lengthIn (entryOf (clientIn narrow s d)) = e ∙ length-read (clientIn narrow s d) in
-    let g : drop (listOffset narrow (shapeOf k)) (entryOf (clientIn narrow s d)) ≡ drop (heldListOffset narrow (shapeOf k)) (clientIn narrow s d) =
-    unfold entryOf in drop-drop (listOffset narrow (shapeOf k)) entryOffset (clientIn narrow s d) in
-    rw (m, ← l, g) (sym (part-at s d (heldListOffset narrow (shapeOf k)) (n * k) (omega arith)))
 
 -- the part that holds a client's entry
 pub entry-part : (s : List ℕ) (d : ℕ) → Fit s d

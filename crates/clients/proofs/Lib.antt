@@ -1,4 +1,5 @@
 pub mod ClientMemory
 pub mod ClientReads
 pub mod ClientChanges
+pub mod HeldLaws
 pub mod ClientSound

@@ -1,21 +1,58 @@
 -- What the functions over one client's numbers take for granted and leave, where crates/rules/specs has no name for it.
 -- Leans on rules and lists. Definitions only. Assumes nothing.
+use mathlib.Core.Path.{_≡_}
 use mathlib.Core.Bool.{Bool, cond}
 use mathlib.Core.List.{List, _∷_}
 use Prim.Native.Nat.{ℕ, _+_, _*_, _≤_, _<_}
 use lib.Dec.{eqb}
-use lib.ListN.{length, take, drop, set}
+use lib.ListN.{length, getD, take, drop, set}
 use Rattle.lists.specs.Lists.{padded, written}
 use Rattle.query.specs.Query.{Query, readCount, writeCount}
-use Rattle.rules.specs.Client.{Client, isIdle, stepped}
-use Rattle.query.specs.Shape.{Shape, narrow}
+use Rattle.query.specs.Encoding.{columnsIn}
+use Rattle.query.specs.Shape.{Shape, narrow, maxColumns}
 use Rattle.rules.specs.Layout.{maxClients, listWidth, clientWidth, clientsEnd, heldLengthOffset, heldListOffset, reads}
-use Rattle.rules.specs.Memory.{clientIn}
+use Rattle.rules.specs.Work.{Ask, Write, Work, asking, writing}
+use Rattle.rules.specs.Answers.{keyIn}
+use Rattle.rules.specs.Client.{Client, kind, steps, entryOf, isIdle, askAt, writeAt, stepped}
+use Rattle.rules.specs.Memory.{shapeIn, clientIn}
+use Rattle.rules.specs.Sound.{Busy}
+use Rattle.clients.specs.declared.Held.{Held}
 
 -- a memory that holds all clients, and one of them
 pub record Fit (s : List ℕ) (d : ℕ) : Type 0 where
   pub long : clientsEnd narrow ≤ length s
   pub below : d < maxClients
+
+-- h is what was read of client d: the hall's columns, and of the client its kind, its steps, the marks and the values of its key
+pub record IsHeld (h : Held) (s : List ℕ) (d : ℕ) : Type 0 where
+  pub columns : h .columns ≡ shapeIn s .columns
+  pub kind : h .kind ≡ kind (clientIn narrow s d)
+  pub steps : h .steps ≡ steps (clientIn narrow s d)
+  pub marks : h .marks ≡ getD (keyIn (entryOf (clientIn narrow s d))) 0 0
+  pub values : h .values ≡ take maxColumns (drop 1 (keyIn (entryOf (clientIn narrow s d))))
+
+-- the query that its marks and values say
+abbrev pub heldQuery : Held → Query
+heldQuery h = columnsIn (h .columns) (h .marks) (h .values)
+
+-- client d, of which h was read, is sound and busy with w (rules, `Busy`)
+pub record At (h : Held) (s : List ℕ) (d : ℕ) (w : Work) : Type 0 where
+  pub held : IsHeld h s d
+  pub fit : Fit s d
+  pub busy : Busy narrow (shapeIn s) (clientIn narrow s d) w
+
+-- as a reader, and as a writer: what it asks or writes is what its numbers tell
+abbrev pub askedAt : List ℕ → ℕ → Ask
+askedAt s d = askAt (shapeIn s) (clientIn narrow s d)
+
+abbrev pub writtenAt : List ℕ → ℕ → Write
+writtenAt s d = writeAt (shapeIn s) (clientIn narrow s d)
+
+abbrev pub Reader : Held → List ℕ → ℕ → Type 0
+Reader h s d = At h s d (asking (askedAt s d))
+
+abbrev pub Writer : Held → List ℕ → ℕ → Type 0
+Writer h s d = At h s d (writing (writtenAt s d))
 
 -- client d is idle
 unfoldable pub idleAt : List ℕ → ℕ → Bool

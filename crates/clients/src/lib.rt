@@ -3,24 +3,31 @@
 use hall::Hall;
 ghost use mathlib.Core.Path.{_≡_};
 ghost use mathlib.Core.Bool.{not, _&&_};
-ghost use Prim.Native.Nat.{_+_, _*_, _<_, _≤_};
-ghost use lib.Dec.{eqb, leb};
-ghost use lib.ListN.{length, getD, take, set};
-ghost use Rattle.lists.specs.Lists.{allBelow, written};
-ghost use Rattle.query.specs.Encoding.{isKey, namesAll};
-ghost use Rattle.columns.specs.ColumnContracts.{four};
-ghost use Rattle.rules.specs.Answers.{keyIn, lengthIn, listIn, isLong};
-ghost use Rattle.rules.specs.Client.{kind, steps, sawPending, didChange, foundFull, entryOf, idle, isIdle, queryAt, isBad, stepped, flag, noted, wrote};
-ghost use Rattle.query.specs.Encoding.{keyWidth};
+ghost use mathlib.Core.List.{List};
+ghost use Prim.Native.Nat.{ℕ, _+_, _*_, _^_, _<_, _≤_};
+ghost use lib.Dec.{eqb};
+ghost use lib.ListN.{length, getD, set};
+ghost use Rattle.lists.specs.Lists.{allBelow};
+ghost use Rattle.query.specs.Encoding.{columnsIn, isKey, keyWidth, namesAll};
 ghost use Rattle.query.specs.Shape.{shapeOf, maxColumns, narrow};
-ghost use Rattle.rules.specs.Layout.{maxClients, maxList, maxWord, trayLeast, lookRoom, clientWidth, clientOffset, clientsEnd, heldListOffset};
-ghost use Rattle.rules.specs.Layout.{inserts};
-ghost use Rattle.rules.specs.Memory.{clientIn, withClient};
-ghost use Rattle.clients.specs.ClientContracts.{Fit, idleAt, begunWith, stepsOfKind, listSet};
-use query::Column;
+ghost use Rattle.rules.specs.Answers.{keyIn, isLong};
+ghost use Rattle.rules.specs.Client.{steps, sawPending, didChange, foundFull, entryOf, idle, isIdle, isBad, stepped, flag, noted, wrote};
+ghost use Rattle.rules.specs.Layout.{maxClients, maxList, maxWord, lookRoom, clientWidth, clientOffset, clientsEnd, heldListOffset, inserts};
+ghost use Rattle.rules.specs.Memory.{shapeIn, clientIn, withClient};
+ghost use Rattle.clients.specs.ClientContracts.{Fit, IsHeld, idleAt, begunWith, stepsOfKind, listSet};
 
 // How many clients there are.
 const CLIENTS: usize = Hall::CLIENTS as usize;
+
+// What a call reads of its client, once: the hall's columns, the client's kind, how many steps it has made, and its query as marks and values.
+// Whoever is called next gets it by value.
+pub struct Held {
+    pub columns: usize,
+    pub kind: u32,
+    pub steps: usize,
+    pub marks: u32,
+    pub values: [u32; Hall::COLUMN_SLOTS],
+}
 
 // ---- Reading
 // Number j of client d.
@@ -31,14 +38,7 @@ fn word(clients: &[u32], d: usize, j: usize) -> u32
     clients[Hall::HEADER + d * Hall::CLIENT_WIDTH + j]
 }
 
-pub fn kind_of(clients: &[u32], d: usize) -> u32
-    requires { ⌜ Fit (now clients) d ⌝ }
-    ensures { λ r. ⌜ r ≡ kind (clientIn narrow (now (clients .entry)) d) ⌝ }
-{
-    word(clients, d, Hall::KIND_OFFSET)
-}
-
-pub fn steps_of(clients: &[u32], d: usize) -> u32
+fn steps_of(clients: &[u32], d: usize) -> u32
     requires { ⌜ Fit (now clients) d ⌝ }
     ensures { λ r. ⌜ r ≡ steps (clientIn narrow (now (clients .entry)) d) ⌝ }
 {
@@ -94,15 +94,26 @@ pub fn all_idle(clients: &[u32]) -> bool
     true
 }
 
-// The columns of a client's query.
-pub fn columns_at(clients: &[u32], d: usize, k: usize) -> [Column; Hall::COLUMN_SLOTS]
-    requires { ⌜ Fit (now clients) d × ((1 ≤ k) × (k ≤ maxColumns)) ⌝ }
-    ensures { λ r. ⌜ r ≡ four (queryAt (shapeOf k) (clientIn narrow (now (clients .entry)) d)) ⌝ }
+// What a call needs to know of client d.
+pub fn read(clients: &[u32], d: usize) -> Held
+    requires { ⌜ Fit (now clients) d ⌝ }
+    ensures { λ r. ⌜ IsHeld r (now (clients .entry)) d ⌝ }
 {
-    let marks = word(clients, d, Hall::ENTRY_OFFSET);
-    let at = Hall::HEADER + d * Hall::CLIENT_WIDTH + Hall::HELD_VALUES_OFFSET;
-    let end = at + Hall::VALUES_WIDTH;
-    columns::keys::columns_in(k, marks, &clients[at..end])
+    let steps = steps_of(clients, d);
+    let from = Hall::HEADER + d * Hall::CLIENT_WIDTH + Hall::HELD_VALUES_OFFSET;
+    let values = [
+        clients[from],
+        clients[from + 1],
+        clients[from + 2],
+        clients[from + 3],
+    ];
+    Held {
+        columns: clients[Hall::COLUMNS_OFFSET] as usize,
+        kind: word(clients, d, Hall::KIND_OFFSET),
+        steps: steps as usize,
+        marks: word(clients, d, Hall::ENTRY_OFFSET),
+        values: values,
+    }
 }
 
 // A client's own entry: its query's key, the list's length, the revisions noted, the list.
@@ -121,18 +132,6 @@ pub fn list_at(d: usize, k: usize) -> usize
     ensures { λ r. ⌜ r ≡ clientOffset narrow d + heldListOffset narrow (shapeOf k) ⌝ }
 {
     Hall::HEADER + d * Hall::CLIENT_WIDTH + Hall::HELD_LIST_OFFSET
-}
-
-// Writes a client's list from the tray's start on, and says how many records it has.
-pub fn give_list(clients: &[u32], d: usize, k: usize, tray: &mut [u32]) -> u32
-    requires { ⌜ Fit (now clients) d × ((lengthIn (entryOf (clientIn narrow (now clients) d)) ≤ maxList) × ((1 ≤ k) × ((k ≤ maxColumns) × (trayLeast ≤ length (now tray))))) ⌝ }
-    ensures { λ r. ⌜ (r ≡ lengthIn (entryOf (clientIn narrow (now (clients .entry)) d))) × (now (tray .exit) ≡ written (now (tray .entry)) 0 (listIn narrow (shapeOf k) (entryOf (clientIn narrow (now (clients .entry)) d)))) ⌝ }
-{
-    let n = word(clients, d, Hall::HELD_LENGTH_OFFSET);
-    let at = Hall::HEADER + d * Hall::CLIENT_WIDTH + Hall::HELD_LIST_OFFSET;
-    let end = at + n as usize * k;
-    words::write(tray, 0, &clients[at..end]);
-    n
 }
 
 // ---- Changes
@@ -219,15 +218,14 @@ pub fn set_list(clients: &mut [u32], d: usize, n: usize, k: usize)
 
 // ---- Soundness
 // How many steps a client of this kind makes at the most.
-fn steps_in_all(kind: u32, cols: [Column; Hall::COLUMN_SLOTS], k: usize) -> u32
-    requires { ⌜ k ≤ maxColumns ⌝ }
-    ensures { λ r. ⌜ r ≡ stepsOfKind kind (take k cols) ⌝ }
+fn steps_in_all(kind: u32, k: usize, marks: u32) -> usize
+    requires { ⌜ (k ≤ maxColumns) × (marks < 2 ^ k) ⌝ }
+    ensures { λ r. ⌜ ((vs : List ℕ) → r ≡ stepsOfKind kind (columnsIn k marks vs)) ⌝ }
 {
     if kind == Hall::READS {
-        let named = columns::keys::named(cols, k);
-        return columns::keys::power(named) + 3;
+        return columns::keys::look_count(k, marks) + 3;
     }
-    let count = columns::keys::power(k);
+    let count = columns::keys::power(k) as usize;
     count + 1 + count
 }
 
@@ -242,29 +240,14 @@ fn bad_key(clients: &[u32], d: usize, k: usize) -> bool
 }
 
 // Whether an insert has a wildcard.
-fn bad_insert(kind: u32, cols: [Column; Hall::COLUMN_SLOTS], k: usize) -> bool
-    requires { ⌜ k ≤ maxColumns ⌝ }
-    ensures { λ r. ⌜ r ≡ (eqb kind inserts && not (namesAll (take k cols))) ⌝ }
+fn bad_insert(kind: u32, k: usize, marks: u32) -> bool
+    requires { ⌜ (k ≤ maxColumns) × (marks < 2 ^ k) ⌝ }
+    ensures { λ r. ⌜ ((vs : List ℕ) → r ≡ (eqb kind inserts && not (namesAll (columnsIn k marks vs)))) ⌝ }
 {
     if kind != Hall::INSERTS {
         return false;
     }
-    columns::keys::named(cols, k) != k
-}
-
-// Whether a client has made all its steps and is not idle.
-fn bad_step(
-    clients: &[u32],
-    d: usize,
-    kind: u32,
-    cols: [Column; Hall::COLUMN_SLOTS],
-    k: usize,
-) -> bool
-    requires { ⌜ Fit (now clients) d × (k ≤ maxColumns) ⌝ }
-    ensures { λ r. ⌜ r ≡ leb (stepsOfKind kind (take k cols)) (steps (clientIn narrow (now (clients .entry)) d)) ⌝ }
-{
-    let made = steps_of(clients, d);
-    steps_in_all(kind, cols, k) <= made
+    !columns::keys::names_all(k, marks)
 }
 
 // Whether a client's list is longer than any.
@@ -275,26 +258,25 @@ fn bad_length(clients: &[u32], d: usize) -> bool
     Hall::LIST < word(clients, d, Hall::HELD_LENGTH_OFFSET)
 }
 
-// Whether a client is not idle and its kind, query, step or list length is out of range. Only where the kind is 0 are all its numbers read.
-pub fn is_bad(clients: &[u32], d: usize, k: usize) -> bool
-    requires { ⌜ Fit (now clients) d × ((1 ≤ k) × (k ≤ maxColumns)) ⌝ }
-    ensures { λ r. ⌜ r ≡ isBad narrow (shapeOf k) (clientIn narrow (now (clients .entry)) d) ⌝ }
+// Whether a client, of which h was read, is not idle and its kind, query, step or list length is out of range. Only where the kind is 0 are all
+// its numbers read.
+pub fn is_bad(clients: &[u32], d: usize, h: Held) -> bool
+    requires { ⌜ Fit (now clients) d × (IsHeld h (now clients) d × (h .columns ≤ maxColumns)) ⌝ }
+    ensures { λ r. ⌜ r ≡ isBad narrow (shapeIn (now (clients .entry))) (clientIn narrow (now (clients .entry)) d) ⌝ }
 {
-    let kind = kind_of(clients, d);
-    if kind == 0 {
+    if h.kind == 0 {
         return !is_idle(clients, d);
     }
-    if Hall::DELETES < kind {
+    if Hall::DELETES < h.kind {
         return true;
     }
-    if bad_key(clients, d, k) {
+    if bad_key(clients, d, h.columns) {
         return true;
     }
-    let cols = columns_at(clients, d, k);
-    if bad_insert(kind, cols, k) {
+    if bad_insert(h.kind, h.columns, h.marks) {
         return true;
     }
-    if bad_step(clients, d, kind, cols, k) {
+    if steps_in_all(h.kind, h.columns, h.marks) <= h.steps {
         return true;
     }
     bad_length(clients, d)

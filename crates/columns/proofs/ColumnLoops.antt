@@ -16,6 +16,7 @@ use Rattle.query.specs.Query.{Query, admits, lies, named}
 use Rattle.query.specs.Encoding.{columnOf, queryOf, wellMarked, isQuery, namesAll, recordOf}
 use Rattle.query.specs.Shape.{shapeOf}
 use Rattle.query.proofs.NodeLists.{named-most}
+use Rattle.rules.specs.Layout.{refusedColumns}
 use Rattle.columns.specs.declared.Taken.{Taken}
 use Rattle.columns.specs.ColumnContracts.{columnMarked, four, front, takenOf}
 use Rattle.columns.proofs.FillLoop.{Filled, next-rest, fill-none, fill-more, fill-all}
@@ -52,7 +53,7 @@ past-all cols k i h =
     let w : length (take k cols) ≤ i = simp length-take (omega arith) in
     drop-of-length-le (take k cols) w
 
--- ---- What an insert takes
+-- ---- All named
 pub names-value : (v : ℕ) (q : Query) → namesAll (Is v ∷ q) ≡ namesAll q
 unfolding namesAll named
 names-value v q = eqb·suc-suc (named q) (length q)
@@ -60,52 +61,6 @@ names-value v q = eqb·suc-suc (named q) (length q)
 pub names-wildcard : (q : Query) → namesAll (Wildcard ∷ q) ≡ false
 unfolding namesAll named
 names-wildcard q = ne-eqb (named q) (suc (length q)) (λ e. omega (arith, named-most q))
-
--- a query that names every column is taken whole
-pub front-all : (q : Query) → namesAll q ≡ true → front q ≡ recordOf q
-unfolding front recordOf
-front-all [] e = refl
-front-all (Is v ∷ q) e = rw (front-all q (sym (names-value v q) ∙ e))
-front-all (Wildcard ∷ q) e = absurd (let z : false ≡ true = sym (names-wildcard q) ∙ e in let w : _≡_ {A = ℕ} 0 1 = cc in omega arith)
-
-abbrev pub taken : Bool → List ℕ → Taken
-taken ok values = record { ok = ok; values = values }
-
-pub record Taking (q : Query) (values : List ℕ) (i : ℕ) : Type 0 where
-  pub names : namesAll q ≡ namesAll (drop i q)
-  pub fronts : drop i (front q) ≡ front (drop i q)
-  pub fill : Filled 4 0 (front q) i values
-
-pub taking-none : (q : Query) → Taking q (replicate 4 0) 0
-taking-none q = record { names = refl; fronts = refl; fill = fill-none 4 0 (front q) }
-
-module _ (cols : List Column) (k i : ℕ) (values : List ℕ) (z : Column) (t : Taking (take k cols) values i) (h : i < k) (l : k ≤ length cols) where
-  pub taking-more : (v : ℕ) → getD cols i z ≡ Is v → i < 4 → Taking (take k cols) (set values i v) (i + 1)
-  unfolding front
-  taking-more v e b =
-      let a : drop i (take k cols) ≡ Is v ∷ drop (i + 1) (take k cols) = rw e at (at-place z cols k i h l) in
-      let f : drop i (front (take k cols)) ≡ v ∷ front (drop (i + 1) (take k cols)) = t .fronts ∙ ap front a in
-      record {
-        names = t .names ∙ ap namesAll a ∙ names-value v (drop (i + 1) (take k cols));
-        fronts = next-rest _ i _ _ f;
-        fill = fill-more 4 0 _ i _ _ _ (t .fill) f b;
-      }
-
-  pub taking-stops : getD cols i z ≡ Wildcard → taken false values ≡ takenOf (take k cols)
-  unfolding front padded
-  taking-stops e =
-      let a : drop i (take k cols) ≡ Wildcard ∷ drop (i + 1) (take k cols) = rw e at (at-place z cols k i h l) in
-      let n : namesAll (take k cols) ≡ false = t .names ∙ ap namesAll a ∙ names-wildcard (drop (i + 1) (take k cols)) in
-      let v : values ≡ padded 4 (front (take k cols)) = fill-all 4 0 _ i _ (t .fill) (t .fronts ∙ ap front a) in
-      rw (n, v)
-
-pub taking-all : (cols : List Column) (k i : ℕ) (values : List ℕ) → Taking (take k cols) values i → k ≤ i → taken true values ≡ takenOf (take k cols)
-unfolding front padded namesAll named
-taking-all cols k i values t h =
-    let a : drop i (take k cols) ≡ [] = past-all cols k i h in
-    let n : namesAll (take k cols) ≡ true = t .names ∙ ap namesAll a in
-    let v : values ≡ padded 4 (front (take k cols)) = fill-all 4 0 _ i _ (t .fill) (t .fronts ∙ ap front a) in
-    rw (n, v)
 
 -- ---- A query as it arrives
 pub marked-wildcard : (mark v : ℕ) → mark ≡ 0 → eqb v 0 ≡ columnMarked mark v
@@ -172,7 +127,7 @@ arriving-more a cols i from col t e l h =
     record { place = omega (arith, t .place); within = omega arith; rest = next-rest _ i _ _ f; fill = fill-more 4 Wildcard _ i _ _ _ (t .fill) f b }
 
 -- fewer than two numbers hold no column
-none-left : (a : List ℕ) → length a < 2 → queryOf a ≡ []
+pub none-left : (a : List ℕ) → length a < 2 → queryOf a ≡ []
 unfolding queryOf
 none-left [] h = refl
 none-left (x ∷ []) h = refl
@@ -188,7 +143,3 @@ arriving-all a cols i from t h =
 pub four-back : (k : ℕ) (q : Query) → length q ≡ k → take k (four q) ≡ q
 unfolding four
 four-back k q e = take-at q (replicate (4 - length q) Wildcard) k e
-
--- an insert that is accepted takes its record
-pub taken-whole : (q : Query) → namesAll q ≡ true → takenOf q ≡ taken true (padded 4 (recordOf q))
-taken-whole q e = rw (front-all q e, e)

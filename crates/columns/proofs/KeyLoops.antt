@@ -13,7 +13,7 @@ use borrow.Author.Tests.{eq-eqb, ne-eqb, lt-ltb, le-ltb, eqb-true, ltb-true, not
 use Rattle.lists.specs.Lists.{padded, same}
 use Rattle.query.specs.declared.Column.{Column}
 use Rattle.query.specs.declared.Column.the-variants.{Is, Wildcard}
-use Rattle.query.specs.Query.{Query, named}
+use Rattle.query.specs.Query.{Query}
 use Rattle.query.specs.Encoding.{columnOf, columnValue, marks, columnsIn, queryIn, keyWords, isKey}
 use Rattle.query.specs.Shape.{shapeOf}
 use Rattle.query.proofs.EncodingLaws.{columns-length}
@@ -36,11 +36,6 @@ unfolding marks markOf
 marks-cons (Is v) q = refl
 marks-cons Wildcard q = refl
 
-pub named-cons : (c : Column) (q : Query) → named (c ∷ q) ≡ markOf c + named q
-unfolding named markOf
-named-cons (Is v) q = omega arith
-named-cons Wildcard q = omega arith
-
 -- n bits, all 1
 unfoldable pub ones : ℕ → ℕ
 ones zero = 0
@@ -58,9 +53,6 @@ marks-four k i cols h =
     let l : length (drop i (take k cols)) ≤ 4 = simp (length-drop, length-take) (omega arith) in
     marks-most 4 (drop i (take k cols)) l
 
-pub marks-small : (r k : ℕ) (cols : List Column) → r ≡ marks (take k cols) → k ≤ 4 → r ≤ 15
-marks-small r k cols e h = omega (arith, marks-four k 0 cols h)
-
 -- a loop that goes down from k: what it has of the columns from i on, with the column before
 module _ (z : Column) (cols : List Column) (k i : ℕ) (h : 0 < i) (b : i ≤ k) (l : k ≤ length cols) where
   before : drop (i - 1) (take k cols) ≡ getD cols (i - 1) z ∷ drop i (take k cols)
@@ -72,16 +64,9 @@ module _ (z : Column) (cols : List Column) (k i : ℕ) (h : 0 < i) (b : i ≤ k)
   pub marks-more : (m r : ℕ) → m ≡ marks (drop i (take k cols)) → r ≡ markOf (getD cols (i - 1) z) → r + 2 * m ≡ marks (drop (i - 1) (take k cols))
   marks-more m r e f = rw (before, marks-cons, e, f)
 
-  pub named-more : (n r : ℕ) → n ≡ named (drop i (take k cols)) → r ≡ markOf (getD cols (i - 1) z) → n + r ≡ named (drop (i - 1) (take k cols))
-  named-more n r e f = rw (before, named-cons, e, f) (omega arith)
-
 pub marks-none : (cols : List Column) (k : ℕ) → 0 ≡ marks (drop k (take k cols))
 unfolding marks
 marks-none cols k = rw (past-all cols k k (omega arith))
-
-pub named-none : (cols : List Column) (k : ℕ) → 0 ≡ named (drop k (take k cols))
-unfolding named
-named-none cols k = rw (past-all cols k k (omega arith))
 
 pub down-all : (f : Query → ℕ) (q : Query) (i n : ℕ) → n ≡ f (drop i q) → i ≤ 0 → n ≡ f q
 down-all f q zero n e h = e
@@ -159,7 +144,7 @@ unfolding zeroUnder
 under-end values left i h = rw (drop-of-length-le values h)
 
 -- ---- A key's rule: its marks are below 2 ^ k, and no value stands without a mark
-same-test : (p r : Bool) → (p ≡ true → r ≡ true) → (r ≡ true → p ≡ true) → p ≡ r
+pub same-test : (p r : Bool) → (p ≡ true → r ≡ true) → (r ≡ true → p ≡ true) → p ≡ r
 same-test true true f g = refl
 same-test true false f g = sym (f refl)
 same-test false true f g = g refl

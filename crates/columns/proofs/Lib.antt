@@ -1,5 +1,7 @@
 pub mod TableRule
 pub mod FillLoop
 pub mod ColumnLoops
+pub mod TakeLoop
 pub mod KeyLoops
-pub mod LabelLoops
+pub mod MarkLaws
+pub mod LabelLaws

@@ -1,13 +1,15 @@
 -- What the functions over `[Column; 4]` give, where crates/query/specs has no name for it. Definitions only. Assumes nothing.
-use mathlib.Core.Bool.{Bool, _&&_, _||_}
-use mathlib.Core.List.{[], _∷_, _++_}
+use mathlib.Core.Bool.{Bool, cond, _&&_, _||_}
+use mathlib.Core.List.{List, [], _∷_, _++_}
 use Prim.Native.Nat.{ℕ, _-_}
-use lib.Dec.{eqb, leb}
-use lib.ListN.{length, replicate}
+use lib.Dec.{eqb, ltb, leb}
+use lib.ListN.{length, take, set, replicate}
 use Rattle.lists.specs.Lists.{padded}
 use Rattle.query.specs.declared.Column.the-variants.{Is, Wildcard}
 use Rattle.query.specs.Query.{Query, Record}
 use Rattle.query.specs.Encoding.{namesAll}
+use Rattle.query.specs.Shape.{maxColumns}
+use Rattle.rules.specs.Layout.{refusedColumns}
 use Rattle.columns.specs.declared.Taken.{Taken}
 
 -- a mark and its value are those of a column; `wellMarked` asks it of each
@@ -24,6 +26,6 @@ front [] = []
 front (Is v ∷ q) = v ∷ front q
 front (Wildcard ∷ q) = []
 
--- what an insert takes from a query
+-- what an insert takes from a query: refusal 2 where some column names no value
 abbrev pub takenOf : Query → Taken
-takenOf q = record { ok = namesAll q; values = padded 4 (front q) }
+takenOf q = record { code = cond (namesAll q) 0 refusedColumns; values = padded maxColumns (take maxColumns (front q)) }

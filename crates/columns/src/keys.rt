@@ -1,12 +1,13 @@
 // Queries as numbers in memory (docs/LAYOUT.md): marks, values, keys.
 use hall::Hall;
 ghost use mathlib.Core.Path.{_≡_};
-ghost use Prim.Native.Nat.{_≤_, _^_};
+ghost use mathlib.Core.List.{List, map};
+ghost use Prim.Native.Nat.{ℕ, _-_, _%_, _≤_, _<_, _^_};
 ghost use lib.ListN.{length, take};
-ghost use Rattle.query.specs.Query.{named};
+ghost use Rattle.query.specs.Query.{naming, readCount};
 ghost use Rattle.query.specs.Encoding.{keyWidth};
 ghost use Rattle.query.specs.Shape.{shapeOf, maxColumns};
-ghost use Rattle.query.specs.Encoding.{marks, columnsIn, columnValue, keyWords, isKey};
+ghost use Rattle.query.specs.Encoding.{marks, columnOf, columnsIn, columnValue, keyWords, namesAll, isKey};
 ghost use Rattle.columns.specs.ColumnContracts.{four};
 ghost use Rattle.columns.specs.KeyContracts.{markOf, keeps, zeroUnder};
 use query::Column;
@@ -31,24 +32,8 @@ fn value_of(col: Column) -> u32
     v
 }
 
-// How many columns a query names.
-pub fn named(cols: [Column; Hall::COLUMN_SLOTS], k: usize) -> usize
-    requires { ⌜ k ≤ maxColumns ⌝ }
-    ensures { λ r. ⌜ r ≡ named (take k cols) ⌝ }
-{
-    let mut n = 0;
-    let mut i = k;
-    while 0 < i {
-        i -= 1;
-        let col = cols[i];
-        let mark = mark_of(col);
-        n += mark as usize;
-    }
-    n
-}
-
 // One bit for each column, 1 where it names a value; the first column has the lowest bit.
-pub fn marks_of(cols: [Column; Hall::COLUMN_SLOTS], k: usize) -> u32
+fn marks_of(cols: [Column; Hall::COLUMN_SLOTS], k: usize) -> u32
     requires { ⌜ k ≤ maxColumns ⌝ }
     ensures { λ r. ⌜ r ≡ marks (take k cols) ⌝ }
 {
@@ -99,14 +84,79 @@ pub fn key_words(cols: [Column; Hall::COLUMN_SLOTS], k: usize) -> [u32; Hall::KE
     key
 }
 
-const POWERS: [u32; 5] = [1, 2, 4, 8, 16];
-
-// Two to the k: as many as the nodes of a write, and one above the highest marks.
+// Two to the k: as many as the nodes of a write, and one above the highest marks. A shift, since a constant array is made on the stack wherever
+// it is read.
 pub fn power(k: usize) -> u32
     requires { ⌜ k ≤ maxColumns ⌝ }
     ensures { λ r. ⌜ r ≡ 2 ^ k ⌝ }
 {
-    POWERS[k]
+    1 << k
+}
+
+// The marks of a query that names every column: k bits, all 1.
+pub fn all_marks(k: usize) -> u32
+    requires { ⌜ k ≤ maxColumns ⌝ }
+    ensures { λ r. ⌜ r ≡ 2 ^ k - 1 ⌝ }
+{
+    power(k) - 1
+}
+
+// Two to the number of 1 bits, for the numbers to 15.
+const LOOKS: [u8; 16] = [1, 2, 2, 4, 2, 4, 4, 8, 2, 4, 4, 8, 4, 8, 8, 16];
+
+fn wide(x: u8) -> usize
+    ensures { λ r. ⌜ r ≡ x ⌝ }
+{
+    x as usize
+}
+
+// How many looks a read makes, by its marks.
+pub fn look_count(k: usize, marks: u32) -> usize
+    requires { ⌜ (k ≤ maxColumns) × (marks < 2 ^ k) ⌝ }
+    ensures { λ r. ⌜ ((vs : List ℕ) → r ≡ readCount (columnsIn k marks vs)) ⌝ }
+{
+    let i = marks as usize;
+    wide(LOOKS[i])
+}
+
+// Whether a query names every column, by its marks.
+pub fn names_all(k: usize, marks: u32) -> bool
+    requires { ⌜ (k ≤ maxColumns) × (marks < 2 ^ k) ⌝ }
+    ensures { λ r. ⌜ ((vs : List ℕ) → r ≡ namesAll (columnsIn k marks vs)) ⌝ }
+{
+    marks == all_marks(k)
+}
+
+// A value where its mark is odd, else 0: a choice without a branch.
+fn value_under(mark: u32, v: u32) -> u32
+    ensures { λ r. ⌜ r ≡ columnValue (columnOf (mark % 2) v) ⌝ }
+{
+    if mark % 2 == 0 { 0 } else { v }
+}
+
+// The values that have a mark, and 0 in place of the others.
+pub fn values_under(marks: u32, values: [u32; Hall::COLUMN_SLOTS]) -> [u32; Hall::COLUMN_SLOTS]
+    ensures { λ r. ⌜ r ≡ map columnValue (columnsIn maxColumns marks values) ⌝ }
+{
+    let second = marks / 2;
+    let third = second / 2;
+    let fourth = third / 2;
+    [
+        value_under(marks, values[0]),
+        value_under(second, values[1]),
+        value_under(third, values[2]),
+        value_under(fourth, values[3]),
+    ]
+}
+
+// The key of an insert's record, which names every column.
+pub fn record_key(k: usize, values: [u32; Hall::COLUMN_SLOTS]) -> [u32; Hall::KEY_WIDTH]
+    requires { ⌜ k ≤ maxColumns ⌝ }
+    ensures { λ r. ⌜ r ≡ keyWords (naming (take k values)) ⌝ }
+{
+    let marks = all_marks(k);
+    let kept = values_under(marks, values);
+    [marks, kept[0], kept[1], kept[2], kept[3], 0, 0]
 }
 
 // Whether a value has a mark, or is 0.

@@ -41,30 +41,6 @@ pub fn lies(cols: [Column; Hall::COLUMN_SLOTS], rec: &[u32]) -> bool
     true
 }
 
-// What an insert takes from a query: whether it names every column, and the values up to the first wildcard, zeros behind.
-pub struct Taken {
-    pub ok: bool,
-    pub values: [u32; Hall::COLUMN_SLOTS],
-}
-
-// An insert takes each column's value, and refuses a wildcard.
-pub fn take_record(cols: [Column; Hall::COLUMN_SLOTS], k: usize) -> Taken
-    requires { ⌜ k ≤ maxColumns ⌝ }
-    ensures { λ r. ⌜ r ≡ takenOf (take k cols) ⌝ }
-{
-    let mut values = [0u32; Hall::COLUMN_SLOTS];
-    let mut i = 0;
-    while i < k {
-        let col = cols[i];
-        let Column::Is(v) = col else {
-            return Taken { ok: false, values };
-        };
-        values[i] = v;
-        i += 1;
-    }
-    Taken { ok: true, values }
-}
-
 // Whether a mark and its value are those of a column: no mark above 1, no value under a wildcard.
 fn is_column(mark: u32, v: u32) -> bool
     ensures { λ r. ⌜ r ≡ columnMarked mark v ⌝ }
@@ -133,4 +109,37 @@ pub fn columns_of(asked: &[u32]) -> [Column; Hall::COLUMN_SLOTS]
         from += 2;
     }
     cols
+}
+
+// What an insert takes: refusal 2 or 0, and the values up to the first wildcard, at most four, zeros behind.
+pub struct Taken {
+    pub code: u32,
+    pub values: [u32; Hall::COLUMN_SLOTS],
+}
+
+// An insert takes each column as it arrives, and refuses a wildcard. What arrives may have more columns than any hall: the memory's number of
+// columns is tested later.
+pub fn take_record(asked: &[u32]) -> Taken
+    ensures { λ r. ⌜ r ≡ takenOf (queryOf (now (asked .entry))) ⌝ }
+{
+    let mut values = [0u32; Hall::COLUMN_SLOTS];
+    let mut i = 0;
+    let mut from = 0;
+    while from + 1 < asked.len() {
+        let mark = asked[from];
+        let named = asked[from + 1];
+        let col = column_of(mark, named);
+        let Column::Is(v) = col else {
+            return Taken {
+                code: Hall::REFUSED_COLUMNS,
+                values,
+            };
+        };
+        if i < Hall::COLUMN_SLOTS {
+            values[i] = v;
+        }
+        i += 1;
+        from += 2;
+    }
+    Taken { code: 0, values }
 }

@@ -34,7 +34,7 @@ use Rattle.demands.proofs.HistoryRuns.{responseAt, sound, transition-at
 use Rattle.demands.proofs.Moments.{fetching}
 use Rattle.demands.proofs.Taken.{fetch-step, fetch-accepted, fetch-gave, Gave}
 use Rattle.demands.proofs.Flags.{flagsAt, quiescent-at, since-phase, on-client}
-use Rattle.demands.proofs.Filings.{step-reply, step-call, no-label-twice, on-file}
+use Rattle.demands.proofs.Filings.{step-reply, step-call, on-file}
 use Rattle.rules.specs.Work.{Ask, readLabels, askIn, askKey}
 use Rattle.rules.specs.History as rules
 use Rattle.machine.specs.Machine as machine
@@ -68,7 +68,7 @@ demand-2-gets h q b n e x b′ f y last c lb lf either k =
     let m = memAt h n in
     let w = x .within in
     let s = sound h n (omega arith) in
-    let z = fetching m d q (s .fits) (no-label-twice h n (omega arith)) (x .fetches) in
+    let z = fetching m d q (s .fits) (x .fetches) in
     let since = since-phase h q d b n (x .request) (omega arith) (x .runs) (ap phaseWork (z .phase)) in
     let step = fetch-step m (x .tray) d q (x .takes) (x .fetches) in
     let i = fetchPlace narrow (length (readLabels q)) (entryOf (client m d)) (answersIn narrow (m .answers)) in

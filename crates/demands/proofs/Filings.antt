@@ -11,11 +11,9 @@ use lib.ListN.{length}
 use Rattle.laws.proofs.ListLaws.{and-left, and-right}
 use Rattle.laws.proofs.TestLaws.{byTest}
 use Rattle.rules.specs.Client.{entryOf}
-use Rattle.rules.specs.Memory.{storeIn}
 use Rattle.rules.specs.Refusals.{shape, client}
 use Rattle.rules.specs.Calls.{stepResult}
 use Rattle.rules.specs.History.{evictAnswer, evictNode, callResult}
-use Rattle.revisions.specs.EffectiveRevision.{NoDup}
 use Rattle.rules.specs.Work.{Ask, Value, asking, readOf}
 use Rattle.machine.proofs.Asks.{sameAsk-eq, sameAsk-refl}
 use Rattle.machine.specs.Machine.{State, Phase, idle, looking, tabling, filing, announcing, raising, Response, isRefused}
@@ -34,7 +32,7 @@ use Rattle.demands.proofs.Moments.{filing-there, files-there}
 use Rattle.demands.proofs.Taken.{step-taken, file-step, file-accepted}
 use Rattle.demands.proofs.Works.{Since}
 use Rattle.demands.proofs.Flags.{flagsAt, quiescent-then, quiescent-less, since-phase, on-client}
-use Rattle.query.specs.Shape.{narrow, Shape}
+use Rattle.query.specs.Shape.{Shape}
 use Rattle.rules.specs.Layout.{maxClients}
 use Rattle.rules.specs.History as rules
 use Rattle.machine.specs.Machine as machine
@@ -49,10 +47,6 @@ step-reply h n d tray e = ap (λ c. responseOf (shape (memAt h n)) (callResult (
 pub step-call : (sh : Shape) (c : rules.Call) (d : ℕ) (tray : List ℕ) → c ≡ rules.step d tray → callOf sh c ≡ machine.step d
 unfolding callOf
 step-call sh c d tray e = ap (callOf sh) e
-
-pub no-label-twice : (h : History) (n : ℕ) → n ≤ length (h .calls) → NoDup (storeIn narrow (memAt h n .nodes) .nodes)
-unfolding stateOf
-no-label-twice h n l = sound h n l .good .inv .once
 
 -- ---- A call that files
 filing-at : (x : Phase) (q : Ask) → filesAt x q ≡ true → (ns : List ℕ) × (l : Value) × (x ≡ filing q ns l)
@@ -117,7 +111,7 @@ filed-there h q n w e =
         tray = f .tray;
         calls = f .calls;
         takes = step-taken (shape (memAt h n)) (memAt h n) (f .tray) d (ap isRefused (sym (step-reply h n d (f .tray) (f .calls))) ∙ f .taken);
-        files = files-there (memAt h n) d q (x .0) (x .1) (s .fits) (no-label-twice h n (omega arith))
+        files = files-there (memAt h n) d q (x .0) (x .1) (s .fits)
             (low-client (stateOf (memAt h n)) d q (x .0) (x .1) (s .good .inv) (x .2)) (x .2);
         runs = u .runs;
       },
@@ -144,7 +138,7 @@ pub since-filed : (h : History) (q : Ask) (b f : ℕ) → f < length (h .calls) 
 unfolding phaseWork
 since-filed h q b f l x =
     let s = sound h f (omega arith) in
-    let z = filing-there (memAt h f) (x .client) q (s .fits) (no-label-twice h f (omega arith)) (x .files) in
+    let z = filing-there (memAt h f) (x .client) q (s .fits) (x .files) in
     since-phase h q (x .client) b f (x .request) (omega arith) (x .runs) (ap phaseWork (z .2))
 
 filed-now : (h : History) (q : Ask) (b f n c : ℕ) → n ≤ length (h .calls) → f < n → Filed h q b f → c ≤ b → Quiescent h q c n
@@ -155,7 +149,7 @@ filed-now h q b f n c w l x le k =
     let m = memAt h f in
     let s = sound h f (omega arith) in
     let early = x .runs .earlier in
-    let z = filing-there m d q (s .fits) (no-label-twice h f (omega arith)) (x .files) in
+    let z = filing-there m d q (s .fits) (x .files) in
     let r : isRefused (responseAt h f) ≡ false =
     ap isRefused (step-reply h f d (x .tray) (x .calls) ∙ ap (responseOf (shape m)) (file-step m (x .tray) d q (x .takes) (x .files)))
     ∙ file-accepted (shape m) m (x .tray) d (entryOf (client m d)) in

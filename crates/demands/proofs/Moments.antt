@@ -1,35 +1,35 @@
 -- What demand 2 says of the memories at a moment, told of the machine's state: no open write meets a query, its nodes are still there, and
 -- a client's read stands at its fetch or at its file step. Leans on refinement and on machine's Quiescence. Assumes nothing.
-use mathlib.Core.Path.{_≡_, refl, sym, ap, _∙_}
+use mathlib.Core.Path.{_≡_, refl, sym, ap, subst, _∙_}
 use mathlib.Core.Bool.{Bool, true, false, not}
 use mathlib.Core.List.{List, []}
 use Prim.Native.Nat.{ℕ, _+_, _≤_, _<_}
 use native.Mathlib.Omega.{arith}
 use lib.Dec.{eqb, leb}
 use borrow.Author.Tests.{eqb-true, eqb-false, leb-true, leb-false, not-true}
-use lib.ListN.{length, drop, length-drop, getD}
-use lib.Seq.{length-take-le}
+use lib.ListN.{length, getD}
 use Rattle.laws.proofs.ListLaws.{all-below, below-at}
 use Rattle.laws.proofs.TestLaws.{byTest}
 use Rattle.query.specs.Graph.{meets}
-use Rattle.rules.specs.Work.{Write, Ask, Value, readLabels, shares, asking, writeLabels, workIn}
+use Rattle.rules.specs.Work.{Write, Ask, Value, readLabels, shares, Work, asking, writing, writeLabels, workIn, stepsInAll}
 use Rattle.rules.specs.Table.{target}
 use Rattle.rules.specs.Nodes.{isPresent}
 use Rattle.rules.specs.Answers.{Entry}
 use Rattle.rules.specs.Client.{Client, kind, steps, isIdle, entryOf, writeAt, sawPending, workAt}
 use Rattle.query.specs.Shape.{Shape, narrow}
-use Rattle.rules.specs.Layout.{maxClients, lookRoom, clientWidth, reads}
+use Rattle.rules.specs.Layout.{maxClients, reads}
 use Rattle.rules.specs.Memory.{Mem, storeIn}
 use Rattle.rules.specs.Refusals.{shape, client}
-use Rattle.revisions.specs.EffectiveRevision.{NoDup, has}
+use Rattle.rules.specs.Sound.{Busy}
+use Rattle.revisions.specs.EffectiveRevision.{has}
 use Rattle.revisions.proofs.NodeOperations.{present-has}
 use Rattle.machine.specs.Machine.{looking, tabling, filing, node}
 use Rattle.machine.proofs.Moves.{isFiling, not-filing}
 use Rattle.machine.proofs.Quiescence.{opens, quiet, kept}
-use Rattle.refinement.proofs.Abstraction.{stateOf, revisionsIn, readerOf, writerOf, busyPhase, phaseOf, Fits}
-use Rattle.refinement.proofs.ClientPhases.{asking-at, looking-phase, tabling-phase, filing-phase, last-read}
-use Rattle.refinement.proofs.PhaseSteps.{looks-most}
-use Rattle.refinement.proofs.StepFrame.{Going, going, client-at}
+use Rattle.refinement.proofs.Abstraction.{stateOf, readerOf, writerOf, busyPhase, phaseOf, Fits}
+use Rattle.refinement.proofs.ClientPhases.{busy-phase, looking-phase, tabling-phase, filing-phase}
+use Rattle.refinement.proofs.PhaseSteps.{noted-count}
+use Rattle.refinement.proofs.StepFrame.{busy-at, client-at}
 use Rattle.rules.proofs.Lemma2.{meets-shares}
 use Rattle.demands.specs.Demand2.{isOpen, isQuiet, stillThere, keepsNodes, Reads}
 
@@ -71,12 +71,8 @@ unfolding keepsNodes kept stillThere
 kept-there q m t e = all-below (length (readLabels q)) _ (λ j l. rw (has-is q m j, has-is q t j) (below-at (length (readLabels q)) (stillThere q m t) j e l))
 
 -- ---- A read at its fetch, and at its file step
-revisions-length : (n : ℕ) (c : Client) → length c ≡ clientWidth narrow → n ≤ lookRoom → length (revisionsIn n (entryOf c)) ≡ n
-unfolding revisionsIn entryOf
-revisions-length n c w l =
-    let a = length-drop 5 c in
-    let b = length-drop 8 (drop 5 c) in
-    length-take-le n (drop 8 (drop 5 c)) (omega arith)
+reader-there : (m : Mem) (d : ℕ) (q : Ask) (n : ℕ) → Fits m → Reads m d q n → Busy narrow (shape m) (client m d) (asking q)
+reader-there m d q n f r = subst (λ w. Busy narrow (shape m) (client m d) w) (r .works) (busy-at m f d (r .below) (r .busy))
 
 pub record Fetching (m : Mem) (d : ℕ) (q : Ask) : Type 0 where
   pub revs : List ℕ
@@ -84,27 +80,16 @@ pub record Fetching (m : Mem) (d : ℕ) (q : Ask) : Type 0 where
   pub phase : stateOf m .clients d ≡ looking q revs saw
   pub all : length (readLabels q) ≤ length revs
 
-pub fetching : (m : Mem) (d : ℕ) (q : Ask) → Fits m → NoDup (storeIn narrow (m .nodes) .nodes) → Reads m d q (length (readLabels q)) → Fetching m d q
-fetching m d q f once r =
-    let c = client m d in
-    let k = shape m in
-    let g = going m f once d (r .below) (r .busy) in
+pub fetching : (m : Mem) (d : ℕ) (q : Ask) → Fits m → Reads m d q (length (readLabels q)) → Fetching m d q
+fetching m d q f r =
+    let b = reader-there m d q _ f r in
     let x = r .made in
-    let few = looks-most k c (f .few) q (r .works) in
-    let y = revisions-length (steps c) c (g .wide) (omega arith) in
-    record {
-      revs = revisionsIn (steps c) (entryOf c);
-      saw = sawPending c;
-      phase = client-at m d (r .below) ∙ looking-phase k c (g .busy) q (r .works) (omega arith);
-      all = omega arith;
-    }
+    let n = noted-count b (steps (client m d)) (omega arith) in
+    record { revs = _; saw = _; phase = client-at m d (r .below) ∙ looking-phase b (omega arith); all = omega arith }
 
-pub filing-there : (m : Mem) (d : ℕ) (q : Ask) → Fits m → NoDup (storeIn narrow (m .nodes) .nodes) → Reads m d q (length (readLabels q) + 2)
+pub filing-there : (m : Mem) (d : ℕ) (q : Ask) → Fits m → Reads m d q (length (readLabels q) + 2)
     → (ns : List ℕ) × (l : Value) × (stateOf m .clients d ≡ filing q ns l)
-filing-there m d q f once r =
-    let g = going m f once d (r .below) (r .busy) in
-    let x = r .made in
-    (_, _, client-at m d (r .below) ∙ filing-phase (shape m) (client m d) (g .busy) q (r .works) (omega arith))
+filing-there m d q f r = let x = r .made in (_, _, client-at m d (r .below) ∙ filing-phase (reader-there m d q _ f r) (omega arith))
 
 -- and back: a desk that files is a reader's before its last step
 filing-ask : {q r : Ask} {ns ms : List ℕ} {l v : Value} → filing q ns l ≡ filing r ms v → q ≡ r
@@ -118,33 +103,27 @@ idle-not : (sh : Shape) (c : Client) → isIdle narrow c ≡ true → isFiling (
 unfolding phaseOf
 idle-not sh c e = rw e refl
 
-writer-not : (sh : Shape) (c : Client) → isIdle narrow c ≡ false → eqb (kind c) reads ≡ false → isFiling (phaseOf sh c) ≡ false
-unfolding phaseOf workAt workIn busyPhase
-writer-not sh c e r = rw (e, r) (writer-files _ _ _ _)
-
-reader-files : (m : Mem) (d : ℕ) (q x : Ask) (ns : List ℕ) (l : Value) → Going m d → isIdle narrow (client m d) ≡ false → workAt (shape m) (client m d) ≡ asking x
-    → phaseOf (shape m) (client m d) ≡ filing q ns l → Reads m d q (length (readLabels q) + 2)
-reader-files m d q x ns l g b r e =
-    let c = client m d in
-    let k = shape m in
-    let late = g .busy .going in
-    let lst = last-read k c x r in
-    byTest (leb (steps c) (length (readLabels x)))
-    (λ t. not-filing (looking _ _ _) refl (sym (looking-phase k c (g .busy) x r (leb-true _ _ t)) ∙ e))
-    (λ t. byTest (eqb (steps c) (length (readLabels x) + 1))
-    (λ u. not-filing (tabling _ _ _) refl (sym (tabling-phase k c (g .busy) x r (eqb-true _ _ u)) ∙ e))
-    (λ u. let low = leb-false (steps c) (length (readLabels x)) t in
-    let ne : steps c ≡ length (readLabels x) + 1 → ⊥ = eqb-false (steps c) (length (readLabels x) + 1) u in
-    let a : x ≡ q = filing-ask (sym (filing-phase k c (g .busy) x r (omega arith)) ∙ e) in
+busy-files : (m : Mem) (d : ℕ) (q : Ask) (ns : List ℕ) (l : Value) → d < maxClients → isIdle narrow (client m d) ≡ false → (w : Work)
+    → Busy narrow (shape m) (client m d) w → phaseOf (shape m) (client m d) ≡ filing q ns l → Reads m d q (length (readLabels q) + 2)
+unfolding stepsInAll busyPhase
+busy-files m d q ns l h i (asking x) b e =
+    let n : ℕ = steps (client m d) in
+    let late = b .going in
+    byTest (leb n (length (readLabels x)))
+    (λ t. not-filing (looking _ _ _) refl (sym (looking-phase b (leb-true _ _ t)) ∙ e))
+    (λ t. byTest (eqb n (length (readLabels x) + 1))
+    (λ u. not-filing (tabling _ _ _) refl (sym (tabling-phase b (eqb-true _ _ u)) ∙ e))
+    (λ u. let low = leb-false n (length (readLabels x)) t in
+    let ne : n ≡ length (readLabels x) + 1 → ⊥ = eqb-false n (length (readLabels x) + 1) u in
+    let a : x ≡ q = filing-ask (sym (filing-phase b (omega arith)) ∙ e) in
     let z = ap (λ (y : Ask). length (readLabels y)) a in
-    record { below = g .below; busy = b; works = r ∙ ap asking a; made = omega arith }))
+    record { below = h; busy = i; works = b .work ∙ ap asking a; made = omega arith }))
+busy-files m d q ns l h i (writing w) b e = not-filing _ (writer-files _ _ _ _) (sym (busy-phase b) ∙ e)
 
-pub files-there : (m : Mem) (d : ℕ) (q : Ask) (ns : List ℕ) (l : Value) → Fits m → NoDup (storeIn narrow (m .nodes) .nodes) → d < maxClients
-    → stateOf m .clients d ≡ filing q ns l → Reads m d q (length (readLabels q) + 2)
-files-there m d q ns l f once h e =
+pub files-there : (m : Mem) (d : ℕ) (q : Ask) (ns : List ℕ) (l : Value) → Fits m → d < maxClients → stateOf m .clients d ≡ filing q ns l
+    → Reads m d q (length (readLabels q) + 2)
+files-there m d q ns l f h e =
     let e′ : phaseOf (shape m) (client m d) ≡ filing q ns l = sym (client-at m d h) ∙ e in
     byTest (isIdle narrow (client m d))
     (λ i. not-filing _ (idle-not (shape m) (client m d) i) e′)
-    (λ i. byTest (eqb (kind (client m d)) reads)
-    (λ r. reader-files m d q _ ns l (going m f once d h i) i (asking-at (shape m) (client m d) (eqb-true _ _ r)) e′)
-    (λ r. not-filing _ (writer-not (shape m) (client m d) i r) e′))
+    (λ i. busy-files m d q ns l h i _ (busy-at m f d h i) e′)

@@ -1,5 +1,5 @@
 // The calls for programs in C and Rust: each of the nine public calls over plain slices and numbers, under a name of its own. Nothing is decided
-// here: an export makes one call of the library and turns its outcome into three numbers. Leans on hall, requests and steps; specs/Reply.antt
+// here: an export makes one call of the library and turns its outcome into three numbers. Leans on calls; specs/Reply.antt
 // says what is sent back.
 use hall::Hall;
 use rules::Outcome;
@@ -66,7 +66,7 @@ pub extern "C" fn mondzafeky_open(
 ) -> Reply
     ensures { λ r. ⌜ sent r (mem (now (table .exit)) (now (nodes .exit)) (now (answers .exit)) (now (clients .exit))) ≡ sentBy (openResult (mem (now (table .entry)) (now (nodes .entry)) (now (answers .entry)) (now (clients .entry))) k) ⌝ }
 {
-    let out = Hall::open(table, nodes, answers, clients, k);
+    let out = calls::opening::open(table, nodes, answers, clients, k);
     reply_of(out)
 }
 
@@ -82,7 +82,7 @@ pub extern "C" fn mondzafeky_begin_read(
 ) -> Reply
     ensures { λ r. ⌜ sent r (mem (now (table .exit)) (now (nodes .exit)) (now (answers .exit)) (now (clients .exit))) ≡ sentBy (beginResult (mem (now (table .entry)) (now (nodes .entry)) (now (answers .entry)) (now (clients .entry))) client (readOf (now (query .entry)))) ⌝ }
 {
-    let out = requests::begin_read(table, nodes, answers, clients, client, query);
+    let out = calls::begins::begin_read(table, nodes, answers, clients, client, query);
     reply_of(out)
 }
 
@@ -98,7 +98,7 @@ pub extern "C" fn mondzafeky_begin_insert(
 ) -> Reply
     ensures { λ r. ⌜ sent r (mem (now (table .exit)) (now (nodes .exit)) (now (answers .exit)) (now (clients .exit))) ≡ sentBy (beginResult (mem (now (table .entry)) (now (nodes .entry)) (now (answers .entry)) (now (clients .entry))) client (insertOf (now (query .entry)))) ⌝ }
 {
-    let out = requests::begin_insert(table, nodes, answers, clients, client, query);
+    let out = calls::begins::begin_insert(table, nodes, answers, clients, client, query);
     reply_of(out)
 }
 
@@ -114,7 +114,7 @@ pub extern "C" fn mondzafeky_begin_delete(
 ) -> Reply
     ensures { λ r. ⌜ sent r (mem (now (table .exit)) (now (nodes .exit)) (now (answers .exit)) (now (clients .exit))) ≡ sentBy (beginResult (mem (now (table .entry)) (now (nodes .entry)) (now (answers .entry)) (now (clients .entry))) client (deleteOf (now (query .entry)))) ⌝ }
 {
-    let out = requests::begin_delete(table, nodes, answers, clients, client, query);
+    let out = calls::begins::begin_delete(table, nodes, answers, clients, client, query);
     reply_of(out)
 }
 
@@ -130,7 +130,7 @@ pub extern "C" fn mondzafeky_step(
 ) -> Reply
     ensures { λ r. ⌜ sentWith r (mem (now (table .exit)) (now (nodes .exit)) (now (answers .exit)) (now (clients .exit))) (now (tray .exit)) ≡ sentByStep (stepResult (mem (now (table .entry)) (now (nodes .entry)) (now (answers .entry)) (now (clients .entry))) (now (tray .entry)) client) ⌝ }
 {
-    let out = steps::step(table, nodes, answers, clients, tray, client);
+    let out = calls::desks::step(table, nodes, answers, clients, tray, client);
     reply_of(out)
 }
 
@@ -145,7 +145,7 @@ pub extern "C" fn mondzafeky_abandon(
 ) -> Reply
     ensures { λ r. ⌜ sent r (mem (now (table .exit)) (now (nodes .exit)) (now (answers .exit)) (now (clients .exit))) ≡ sentBy (abandonResult (mem (now (table .entry)) (now (nodes .entry)) (now (answers .entry)) (now (clients .entry))) client) ⌝ }
 {
-    let out = steps::abandon(table, nodes, answers, clients, client);
+    let out = calls::desks::abandon(table, nodes, answers, clients, client);
     reply_of(out)
 }
 
@@ -160,7 +160,7 @@ pub extern "C" fn mondzafeky_evict_answer(
 ) -> Reply
     ensures { λ r. ⌜ sent r (mem (now (table .exit)) (now (nodes .exit)) (now (answers .exit)) (now (clients .exit))) ≡ sentBy (evictAnswerResult (mem (now (table .entry)) (now (nodes .entry)) (now (answers .entry)) (now (clients .entry))) place) ⌝ }
 {
-    let out = requests::evict_answer(table, nodes, answers, clients, place);
+    let out = calls::upkeep::evict_answer(table, nodes, answers, clients, place);
     reply_of(out)
 }
 
@@ -175,7 +175,7 @@ pub extern "C" fn mondzafeky_evict_node(
 ) -> Reply
     ensures { λ r. ⌜ sent r (mem (now (table .exit)) (now (nodes .exit)) (now (answers .exit)) (now (clients .exit))) ≡ sentBy (evictNodeResult (mem (now (table .entry)) (now (nodes .entry)) (now (answers .entry)) (now (clients .entry))) place) ⌝ }
 {
-    let out = requests::evict_node(table, nodes, answers, clients, place);
+    let out = calls::upkeep::evict_node(table, nodes, answers, clients, place);
     reply_of(out)
 }
 
@@ -189,6 +189,6 @@ pub extern "C" fn mondzafeky_renew(
 ) -> Reply
     ensures { λ r. ⌜ sent r (mem (now (table .exit)) (now (nodes .exit)) (now (answers .exit)) (now (clients .exit))) ≡ sentBy (renewResult (mem (now (table .entry)) (now (nodes .entry)) (now (answers .entry)) (now (clients .entry)))) ⌝ }
 {
-    let out = requests::renew(table, nodes, answers, clients);
+    let out = calls::upkeep::renew(table, nodes, answers, clients);
     reply_of(out)
 }

@@ -1,14 +1,13 @@
-// The hall: its fixed sizes as associated constants, the functions that make the cleared state, and the opening call.
-// The rules stand in rules; specs/HallContracts.antt says what one memory's clearing leaves.
-use rules::Outcome;
+// The hall: its fixed sizes as associated constants, the length check, and the functions that make the cleared state of each memory.
+// The rules stand in rules; specs/HallContracts.antt has the sizes in one value.
 ghost use mathlib.Core.Path.{_≡_};
+ghost use Prim.Native.Nat.{_≤_};
+ghost use lib.ListN.{length, set};
 ghost use Rattle.query.specs.Shape.{narrow, Shape, shapeOf};
-ghost use Rattle.rules.specs.Layout.{tableLeast, nodesLeast, answersLeast, clientsLeast};
-ghost use Rattle.rules.specs.Memory.{mem};
-ghost use Rattle.rules.specs.Outcome.{result};
-ghost use Rattle.rules.specs.Refusals.{isShort, openCode};
-ghost use Rattle.rules.specs.Calls.{openResult};
-ghost use Rattle.hall.specs.HallContracts.{limitsOf, isLong, tableCleared, nodesCleared, answersCleared, clientsCleared};
+ghost use Rattle.rules.specs.Layout.{tableLeast, nodesLeast, answersLeast, clientsLeast, floorOffset, columnsOffset, firstFloor};
+ghost use Rattle.rules.specs.Memory.{mem, cleared};
+ghost use Rattle.rules.specs.Refusals.{isShort};
+ghost use Rattle.hall.specs.HallContracts.{limitsOf};
 
 // The name that the sizes and the functions of every hall stand under. A hall itself lies in the lent memories, its number of columns too.
 pub struct Hall;
@@ -119,8 +118,6 @@ impl Hall {
     // The values of its key, behind the marks.
     pub const HELD_VALUES_OFFSET: usize = Hall::ENTRY_OFFSET + 1;
 
-    pub const VALUES_WIDTH: usize = Hall::KEY_WIDTH - 1;
-
     pub const HELD_LENGTH_OFFSET: usize = Hall::ENTRY_OFFSET + Hall::LENGTH_OFFSET;
 
     pub const NOTED_OFFSET: usize = Hall::ENTRY_OFFSET + Hall::REVISIONS_OFFSET;
@@ -162,7 +159,7 @@ impl Hall {
 
     pub const ENDED_FULL: u32 = 13;
 
-    // The sizes are the rules'. The least lengths of the four memories are so by the calls below.
+    // The sizes are the rules'. The least lengths of the four memories are so by the functions below.
     fn limits() -> Limits
         ensures { λ r. ⌜ r ≡ limitsOf ⌝ }
     {
@@ -176,50 +173,38 @@ impl Hall {
         }
     }
 
-    // Empties the table, if it is long enough, and says whether it was.
-    fn clear_table(table: &mut [u32]) -> bool
-        ensures { λ r. ⌜ (r ≡ isLong tableLeast (now (table .entry))) × (now (table .exit) ≡ tableCleared (now (table .entry))) ⌝ }
+    // Empties the table.
+    pub fn clear_table(table: &mut [u32])
+        requires { ⌜ tableLeast ≤ length (now table) ⌝ }
+        ensures { λ _. ⌜ now (table .exit) ≡ cleared tableLeast (now (table .entry)) ⌝ }
     {
-        if table.len() < Hall::TABLE_LEAST {
-            return false;
-        }
         words::clear(table, Hall::TABLE_LEAST);
-        true
     }
 
     // Empties the nodes and sets the floor to 1.
-    fn clear_nodes(nodes: &mut [u32]) -> bool
-        ensures { λ r. ⌜ (r ≡ isLong (nodesLeast narrow) (now (nodes .entry))) × (now (nodes .exit) ≡ nodesCleared (now (nodes .entry))) ⌝ }
+    pub fn clear_nodes(nodes: &mut [u32])
+        requires { ⌜ nodesLeast narrow ≤ length (now nodes) ⌝ }
+        ensures { λ _. ⌜ now (nodes .exit) ≡ set (cleared (nodesLeast narrow) (now (nodes .entry))) floorOffset firstFloor ⌝ }
     {
-        if nodes.len() < Hall::NODES_LEAST {
-            return false;
-        }
         words::clear(nodes, Hall::NODES_LEAST);
         nodes[Hall::FLOOR_OFFSET] = Hall::FIRST_FLOOR;
-        true
     }
 
     // Empties the answers.
-    fn clear_answers(answers: &mut [u32]) -> bool
-        ensures { λ r. ⌜ ((sh : Shape) → (r ≡ isLong (answersLeast narrow sh) (now (answers .entry))) × (now (answers .exit) ≡ answersCleared sh (now (answers .entry)))) ⌝ }
+    pub fn clear_answers(answers: &mut [u32])
+        requires { ⌜ ((sh : Shape) → answersLeast narrow sh ≤ length (now answers)) ⌝ }
+        ensures { λ _. ⌜ ((sh : Shape) → now (answers .exit) ≡ cleared (answersLeast narrow sh) (now (answers .entry))) ⌝ }
     {
-        if answers.len() < Hall::ANSWERS_LEAST {
-            return false;
-        }
         words::clear(answers, Hall::ANSWERS_LEAST);
-        true
     }
 
     // Leaves every client idle and sets the number of columns to k.
-    fn clear_clients(clients: &mut [u32], k: u32) -> bool
-        ensures { λ r. ⌜ (r ≡ isLong (clientsLeast narrow (shapeOf k)) (now (clients .entry))) × (now (clients .exit) ≡ clientsCleared (shapeOf k) (now (clients .entry))) ⌝ }
+    pub fn clear_clients(clients: &mut [u32], k: u32)
+        requires { ⌜ clientsLeast narrow (shapeOf k) ≤ length (now clients) ⌝ }
+        ensures { λ _. ⌜ now (clients .exit) ≡ set (cleared (clientsLeast narrow (shapeOf k)) (now (clients .entry))) columnsOffset k ⌝ }
     {
-        if clients.len() < Hall::CLIENTS_LEAST {
-            return false;
-        }
         words::clear(clients, Hall::CLIENTS_LEAST);
         clients[Hall::COLUMNS_OFFSET] = k;
-        true
     }
 
     // Whether a lent memory is below its least length.
@@ -236,42 +221,5 @@ impl Hall {
             return true;
         }
         clients.len() < Hall::CLIENTS_LEAST
-    }
-
-    // The number that an opening is refused with, or 0.
-    fn open_code(table: &[u32], nodes: &[u32], answers: &[u32], clients: &[u32], k: u32) -> u32
-        ensures { λ r. ⌜ r ≡ openCode (mem (now (table .entry)) (now (nodes .entry)) (now (answers .entry)) (now (clients .entry))) k ⌝ }
-    {
-        if Hall::is_short(table, nodes, answers, clients) {
-            return Hall::REFUSED_SHORT;
-        }
-        if k == 0 {
-            return Hall::REFUSED_COLUMNS;
-        }
-        if Hall::COLUMNS < k {
-            return Hall::REFUSED_COLUMNS;
-        }
-        0
-    }
-
-    // The opening call: k columns, no records, no nodes, no answers, every client idle.
-    pub fn open(
-        table: &mut [u32],
-        nodes: &mut [u32],
-        answers: &mut [u32],
-        clients: &mut [u32],
-        k: u32,
-    ) -> Outcome
-        ensures { λ r. ⌜ result r (mem (now (table .exit)) (now (nodes .exit)) (now (answers .exit)) (now (clients .exit))) ≡ openResult (mem (now (table .entry)) (now (nodes .entry)) (now (answers .entry)) (now (clients .entry))) k ⌝ }
-    {
-        let code = Hall::open_code(table, nodes, answers, clients, k);
-        if code != 0 {
-            return Outcome::Refused(code);
-        }
-        Hall::clear_table(table);
-        Hall::clear_nodes(nodes);
-        Hall::clear_answers(answers);
-        Hall::clear_clients(clients, k);
-        Outcome::Accepted
     }
 }

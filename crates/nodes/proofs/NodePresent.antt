@@ -1,7 +1,7 @@
 -- What the functions that find, add and alter a label's node leave in the nodes memory, in the terms of the code. Leans on the rules' definitions
 -- and on the laws of NodeStores, NodeScans and NodeSizes. Assumes nothing.
 use mathlib.Core.Path.{_≡_, refl, sym, ap, _∙_}
-use mathlib.Core.Bool.{Bool, true, false, cond}
+use mathlib.Core.Bool.{Bool, true, false, cond, not}
 use mathlib.Core.List.{List, []}
 use mathlib.Core.Option.{Option, none, some}
 use mathlib.Core.Logic.{_⊎_, inl, inr, ⊎-elim}
@@ -13,7 +13,7 @@ use lib.Seq.{getD-set-other, set-comm}
 use borrow.Author.Tests.{lt-ltb, le-ltb, le-leb, lt-leb}
 use Rattle.laws.proofs.ListLaws.{false-left, true-false}
 use Rattle.rules.specs.Nodes.{Words, Store, pending, revision, withPending, withRevision, nodePlace, isPresent, nodeOf, withNode, evictNode}
-use Rattle.rules.specs.Nodes.{added, oldestFree, makeRoom, addedIn, ensured, announcedIn, announced, isPending, mayRetire}
+use Rattle.rules.specs.Nodes.{added, isFree, oldestFree, makeRoom, addedIn, ensured, announcedIn, announced, isPending, mayRetire}
 use Rattle.lists.specs.Lists.{header}
 use Rattle.query.specs.Encoding.{labelWidth}
 use Rattle.query.specs.Shape.{narrow}
@@ -25,7 +25,7 @@ use Rattle.nodes.specs.declared.Spot.{Spot}
 use Rattle.nodes.specs.NodeContracts.{Fit, Tried, attempt, tried, saw, looked, Placed, put, placed}
 use Rattle.nodes.specs.NodeContracts.{retirableSpot, nodeAt, releasedAt, liftedAt, retiredAt}
 use Rattle.nodes.proofs.NodeStores.{Sized, Keeps, count-nodes, sized-in, count-store, keeps-store, store-back, store-self, store-twice, store-word}
-use Rattle.nodes.proofs.NodeScans.{pending-at, revision-at}
+use Rattle.nodes.proofs.NodeScans.{is-free-pending, pending-at, revision-at}
 use Rattle.nodes.proofs.NodeSizes.{sized-word, length-word, length-lifted-at, length-retired-at, sized-lifted-at, sized-retired-at}
 use Rattle.nodes.proofs.NodeSizes.{Room, made-room, Present, made-present, added-place, added-more, sized-added}
 
@@ -117,9 +117,9 @@ module _ (p : Words) (s : List ℕ) (i : ℕ) (e : i ≡ nodePlace p (storeIn na
     revision-here : revision narrow (nodeOf p (storeIn narrow s)) ≡ getD s (header + i * nodeWidth + revisionOffset) 0
     revision-here = ap (revision narrow) node-here ∙ revision-at s i h
 
-    pending-test : ltb 0 (getD s (header + i * nodeWidth + pendingOffset) 0) ≡ isPending p (storeIn narrow s)
+    pending-test : not (isFree (getD (storeIn narrow s .nodes) i [])) ≡ isPending p (storeIn narrow s)
     unfolding isPending
-    pending-test = rw (there, pending-here)
+    pending-test = rw (there, node-here) (sym (is-free-pending (getD (storeIn narrow s .nodes) i [])))
 
     -- one of its numbers altered
     word-here : (j x : ℕ) → Fit s → j < 8 → withStore narrow s (withNode p (set (nodeOf p (storeIn narrow s)) j x) (storeIn narrow s)) ≡ set s (header + i * nodeWidth + j) x
@@ -128,12 +128,12 @@ module _ (p : Words) (s : List ℕ) (i : ℕ) (e : i ≡ nodePlace p (storeIn na
 
     -- where it stands, if a mark can be taken off it
     module _ (lift : Bool) where
-      pub spot-idle : getD s (pendingPlace i) 0 ≡ 0 → Nowhere ≡ retirableSpot lift p (storeIn narrow s)
-      spot-idle z = spot-none lift (sym pending-test ∙ le-ltb 0 (getD s (pendingPlace i) 0) (omega arith))
+      pub spot-idle : isFree (getD (storeIn narrow s .nodes) i []) ≡ true → Nowhere ≡ retirableSpot lift p (storeIn narrow s)
+      spot-idle z = spot-none lift (sym pending-test ∙ ap not z)
 
-      module _ (z : getD s (pendingPlace i) 0 ≡ 0 → ⊥) where
+      module _ (z : isFree (getD (storeIn narrow s .nodes) i []) ≡ false) where
         marked : isPending p (storeIn narrow s) ≡ true
-        marked = sym pending-test ∙ lt-ltb 0 (getD s (pendingPlace i) 0) (omega arith)
+        marked = sym pending-test ∙ ap not z
 
         pub spot-plain : lift ≡ false → At i ≡ retirableSpot lift p (storeIn narrow s)
         unfolding retirableSpot mayRetire

@@ -1,7 +1,7 @@
 -- Laws of the loops over the nodes: a label compared with the five numbers of a node, and the search for the first node that passes a test.
 -- Leans on the rules' definitions and on the laws of lists and searches. Assumes nothing.
 use mathlib.Core.Path.{_≡_, sym, ap, _∙_}
-use mathlib.Core.Bool.{Bool, true, false, or-true}
+use mathlib.Core.Bool.{Bool, true, false, not, or-true}
 use mathlib.Core.List.{List, []}
 use Prim.Native.Nat.{ℕ, _+_, _*_, _≤_, _<_}
 use native.Mathlib.Omega.{arith}
@@ -9,7 +9,7 @@ use lib.Bits.{bitOr, bitXor, xor-self, xor-add-and, or-add-and, and-le-l, and-le
 use lib.Dec.{eqb, ltb}
 use lib.ListN.{length, getD, take, drop, length-drop}
 use lib.Seq.{getD-take, getD-drop, length-take-le, take-take}
-use borrow.Author.Tests.{lt-ltb, le-ltb, eq-eqb, ne-eqb, eqb-true, eqb-false}
+use borrow.Author.Tests.{lt-ltb, le-ltb, eqb-true, eqb-false}
 use Rattle.lists.specs.Lists.{same, place}
 use Rattle.laws.proofs.ListLaws.{eq-same, ne-same}
 use Rattle.laws.proofs.TestLaws.{byTest}
@@ -78,6 +78,14 @@ module _ (s : List ℕ) (at : ℕ) (p : Words) where
       (λ r. eqb-false (bitOr x y) 0 e
       (or-none x y (or-none _ _ (xor-none _ _ (word-same 2 (omega arith) r)) (xor-none _ _ (word-same 3 (omega arith) r))) (xor-none _ _ (word-same 4 (omega arith) r))))))
 
+-- a write is pending at a node that is not free
+pub is-free-pending : (n : Node) → ltb 0 (pending n) ≡ not (isFree n)
+unfolding isFree
+is-free-pending n =
+    byTest (eqb (pending n) 0)
+    (λ e. let z : pending n ≡ 0 = eqb-true (pending n) 0 e in rw e (le-ltb 0 (pending n) (omega arith)))
+    (λ e. let z : pending n ≡ 0 → ⊥ = eqb-false (pending n) 0 e in rw e (lt-ltb 0 (pending n) (omega arith)))
+
 -- ---- the tests of a node, in the memory's numbers
 module _ (s : List ℕ) (i : ℕ) (h : i < getD s nodeCountOffset 0) where
   pub label-test : (p : Words) → hasLabel p (getD (storeIn narrow s .nodes) i []) ≡ same (take labelWidth (drop (header + i * nodeWidth) s)) p
@@ -92,13 +100,9 @@ module _ (s : List ℕ) (i : ℕ) (h : i < getD s nodeCountOffset 0) where
   unfolding revision
   revision-at = node-word s i 6 h (omega arith)
 
-  pub free-test : getD s (header + i * nodeWidth + pendingOffset) 0 ≡ 0 → isFree (getD (storeIn narrow s .nodes) i []) ≡ true
+  pub free-test : eqb (getD s (header + i * nodeWidth + pendingOffset) 0) 0 ≡ isFree (getD (storeIn narrow s .nodes) i [])
   unfolding isFree
-  free-test e = eq-eqb (pending (getD (storeIn narrow s .nodes) i [])) 0 (pending-at ∙ e)
-
-  pub busy-test : (getD s (header + i * nodeWidth + pendingOffset) 0 ≡ 0 → ⊥) → isFree (getD (storeIn narrow s .nodes) i []) ≡ false
-  unfolding isFree
-  busy-test n = ne-eqb (pending (getD (storeIn narrow s .nodes) i [])) 0 (λ e. n (sym pending-at ∙ e))
+  free-test = ap (λ (x : ℕ). eqb x 0) (sym pending-at)
 
   pub high-test : (sh : Shape) → wornAbove narrow sh < getD s (header + i * nodeWidth + revisionOffset) 0 → isHigh narrow sh (getD (storeIn narrow s .nodes) i []) ≡ true
   unfolding isHigh

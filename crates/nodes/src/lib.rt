@@ -8,7 +8,7 @@ ghost use Prim.Native.Nat.{_+_, _≤_, _<_, max};
 ghost use lib.ListN.{length, getD, take, drop};
 ghost use Rattle.lists.specs.Lists.{same};
 ghost use Rattle.rules.specs.Nodes.{store, nodePlace, oldestFree, evictNode, added, makeRoom, ensured, announced};
-ghost use Rattle.rules.specs.Nodes.{pending, revision, isWorn};
+ghost use Rattle.rules.specs.Nodes.{isFree, pending, revision, isWorn};
 ghost use Rattle.query.specs.Encoding.{labelWidth};
 ghost use Rattle.query.specs.Shape.{Shape, narrow};
 ghost use Rattle.rules.specs.Layout.{maxNodes, maxRevision, firstFloor, nodeCountOffset};
@@ -60,6 +60,14 @@ fn find(nodes: &[u32], label: &[u32]) -> usize
     i
 }
 
+// Whether node i has no pending write.
+pub fn is_free(nodes: &[u32], i: usize) -> bool
+    requires { ⌜ Fit (now nodes) × (i < getD (now nodes) nodeCountOffset 0) ⌝ }
+    ensures { λ r. ⌜ r ≡ isFree (getD (storeIn narrow (now (nodes .entry)) .nodes) i []) ⌝ }
+{
+    nodes[Hall::HEADER + i * Hall::NODE_WIDTH + Hall::PENDING_OFFSET] == 0
+}
+
 // The place of the oldest node with no pending write, or the number of nodes where there is none.
 fn find_free(nodes: &[u32]) -> usize
     requires { ⌜ Fit (now nodes) ⌝ }
@@ -68,7 +76,7 @@ fn find_free(nodes: &[u32]) -> usize
     let n = nodes[Hall::NODE_COUNT_OFFSET] as usize;
     let mut i = 0;
     while i < n {
-        if nodes[Hall::HEADER + i * Hall::NODE_WIDTH + Hall::PENDING_OFFSET] == 0 {
+        if is_free(nodes, i) {
             return i;
         }
         i += 1;
@@ -203,25 +211,17 @@ pub fn find_retirable(nodes: &[u32], label: &[u32], lift: bool) -> Spot
     if nodes[Hall::NODE_COUNT_OFFSET] as usize <= i {
         return Spot::Nowhere;
     }
-    let at = Hall::HEADER + i * Hall::NODE_WIDTH;
-    if nodes[at + Hall::PENDING_OFFSET] == 0 {
+    if is_free(nodes, i) {
         return Spot::Nowhere;
     }
     if !lift {
         return Spot::At(i);
     }
+    let at = Hall::HEADER + i * Hall::NODE_WIDTH;
     if Hall::LARGEST_REVISION <= nodes[at + Hall::REVISION_OFFSET] {
         return Spot::Nowhere;
     }
     Spot::At(i)
-}
-
-// How many writes are pending at node i.
-pub fn pending_at(nodes: &[u32], i: usize) -> u32
-    requires { ⌜ Fit (now nodes) × (i < getD (now nodes) nodeCountOffset 0) ⌝ }
-    ensures { λ r. ⌜ r ≡ pending (getD (storeIn narrow (now (nodes .entry)) .nodes) i []) ⌝ }
-{
-    nodes[Hall::HEADER + i * Hall::NODE_WIDTH + Hall::PENDING_OFFSET]
 }
 
 // One pending write fewer at node i; with a lift its revision goes up by one too.

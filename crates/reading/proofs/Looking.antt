@@ -1,29 +1,32 @@
--- Laws of a look: what is noted, and the refusal where there is no room for the node. Leans on rules and on ReadClient. Assumes nothing.
+-- Laws of a look: what is noted, and the refusal where there is no room for the node. Leans on rules, on clients and on ReadClient.
+-- Assumes nothing.
 use mathlib.Core.Path.{_≡_, sym, ap, _∙_}
 use mathlib.Core.List.{List, []}
 use mathlib.Core.Option.{Option, none, some}
 use Prim.Native.Nat.{ℕ, _<_}
 use native.Mathlib.Omega.{arith}
-use lib.ListN.{getD, take}
-use Rattle.query.specs.declared.Column.{Column}
+use lib.ListN.{getD}
 use Rattle.query.specs.Query.{readNode, readCount}
 use Rattle.query.specs.Encoding.{labelWords}
-use Rattle.columns.specs.ColumnContracts.{four}
 use Rattle.rules.specs.declared.Outcome.the-variants.{Refused, Accepted}
+use Rattle.rules.specs.Layout.{refusedUnsound}
 use Rattle.rules.specs.Nodes.{Words, Store, ensured, nodeOf, revision, pending}
 use Rattle.rules.specs.Work.{readLabels}
-use Rattle.rules.specs.Client.{queryAt, askAt, noted}
+use Rattle.rules.specs.Client.{noted}
 use Rattle.rules.specs.Memory.{mem, clientIn, withClient, storeIn, withStore}
 use Rattle.rules.specs.Outcome.{resultWith}
 use Rattle.rules.specs.Refusals.{client}
-use Rattle.query.specs.Shape.{narrow, shapeOf}
+use Rattle.query.specs.Shape.{narrow}
 use Rattle.rules.specs.Steps.{nowAt, storeBack, lookResult, readResult}
-use Rattle.rules.proofs.ClientLaws.{looks-at, read-label-of}
+use Rattle.rules.proofs.ClientLaws.{look-count-of}
 use Rattle.nodes.specs.declared.Sight.{Sight}
 use Rattle.nodes.specs.declared.Sight.the-variants.{Seen, Stuck}
 use Rattle.nodes.specs.NodeContracts.{Looked, saw, looked}
-use Rattle.reading.specs.ReadContracts.{Reads, looks, made}
-use Rattle.reading.proofs.ReadClient.{read-columns, look-is}
+use Rattle.clients.specs.declared.Held.{Held}
+use Rattle.clients.specs.ClientContracts.{Reader, askedAt, heldQuery}
+use Rattle.clients.proofs.HeldLaws.{at-query, reader-label}
+use Rattle.reading.specs.ReadContracts.{looks, made}
+use Rattle.reading.proofs.ReadClient.{look-is}
 
 look-given : (t a y ns ns′ clients clients′ : List ℕ) (d j revised open′ : ℕ) (p : Words) (o : Option Store) → saw (Seen revised open′) ns′ ≡ looked p ns o
     → clients′ ≡ withClient narrow clients d (noted narrow j revised open′ (clientIn narrow clients d)) → resultWith Accepted (mem t ns′ a clients′) y ≡ lookResult (mem t ns a clients) y d j p o
@@ -40,7 +43,7 @@ look-given t a y ns ns′ clients clients′ d j revised open′ p (some s) e g 
     rw (g, n, u, v)
 
 look-not : (t a y ns ns′ clients : List ℕ) (d j : ℕ) (p : Words) (o : Option Store) → saw Stuck ns′ ≡ looked p ns o
-    → resultWith (Refused 3) (mem t ns′ a clients) y ≡ lookResult (mem t ns a clients) y d j p o
+    → resultWith (Refused refusedUnsound) (mem t ns′ a clients) y ≡ lookResult (mem t ns a clients) y d j p o
 unfolding lookResult looked
 look-not t a y ns ns′ clients d j p none e = let n : ns′ ≡ ns = ap (λ (l : Looked). l .mem) e in rw n
 look-not t a y ns ns′ clients d j p (some s) e =
@@ -48,27 +51,24 @@ look-not t a y ns ns′ clients d j p (some s) e =
     let z : _≡_ {A = ℕ} 0 1 = cc in
     absurd (omega arith)
 
--- cols, look, p: the query's columns, the number of the look and the label, as the code has them
-module _ (clients : List ℕ) (d k : ℕ) (r : Reads clients d k) (h : made clients d < looks clients d k) (cols : List Column) (look : ℕ)
-    (e : cols ≡ four (queryAt (shapeOf k) (clientIn narrow clients d))) (l : look ≡ made clients d) where
-  pub look-below : look < readCount (take k cols)
-  look-below = rw (l, read-columns clients d k r cols e, ← looks-at (shapeOf k) (clientIn narrow clients d)) h
+-- p: the label, as the code makes it of what was read
+module _ {h : Held} {clients : List ℕ} {d : ℕ} (r : Reader h clients d) (i : made clients d < looks clients d) where
+  pub look-below : h .steps < readCount (heldQuery h)
+  look-below = rw (r .held .steps, at-query r, ← look-count-of (r .busy)) i
 
-  module _ (ns : List ℕ) (p : Words) (f : p ≡ labelWords (readNode (take k cols) look)) (sight : Sight) (ns′ : List ℕ)
+  module _ (ns : List ℕ) (p : Words) (f : p ≡ labelWords (readNode (heldQuery h) (h .steps))) (sight : Sight) (ns′ : List ℕ)
       (g : saw sight ns′ ≡ looked p ns (ensured narrow p (storeIn narrow ns))) where
-    label-is : p ≡ getD (readLabels (askAt (shapeOf k) (clientIn narrow clients d))) (made clients d) []
-    label-is =
-        let o = looks-at (shapeOf k) (clientIn narrow clients d) in
-        f ∙ rw (read-columns clients d k r cols e, l) (sym (read-label-of (shapeOf k) (clientIn narrow clients d) (made clients d) (omega arith)))
+    label-is : p ≡ getD (readLabels (askedAt clients d)) (made clients d) []
+    label-is = f ∙ rw (r .held .steps) (reader-label r (made clients d) i)
 
     pub look-stuck : sight ≡ Stuck → (t a y : List ℕ)
-        → resultWith (Refused 3) (mem t ns′ a clients) y ≡ readResult (mem t ns a clients) y d (askAt (shapeOf k) (clientIn narrow clients d)) (made clients d)
+        → resultWith (Refused refusedUnsound) (mem t ns′ a clients) y ≡ readResult (mem t ns a clients) y d (askedAt clients d) (made clients d)
     look-stuck x t a y =
-        rw (look-is (mem t ns a clients) y d (askAt (shapeOf k) (clientIn narrow clients d)) (made clients d) h, ← label-is)
+        rw (look-is (mem t ns a clients) y d (askedAt clients d) (made clients d) i, ← label-is)
         (look-not t a y ns ns′ clients d (made clients d) p (ensured narrow p (storeIn narrow ns)) (ap (λ (s : Sight). saw s ns′) (sym x) ∙ g))
 
-    pub look-noted : (revised open′ : ℕ) → sight ≡ Seen revised open′ → (clients′ : List ℕ) → clients′ ≡ withClient narrow clients d (noted narrow look revised open′ (clientIn narrow clients d)) → (t a y : List ℕ)
-        → resultWith Accepted (mem t ns′ a clients′) y ≡ readResult (mem t ns a clients) y d (askAt (shapeOf k) (clientIn narrow clients d)) (made clients d)
+    pub look-noted : (revised open′ : ℕ) → sight ≡ Seen revised open′ → (clients′ : List ℕ) → clients′ ≡ withClient narrow clients d (noted narrow (h .steps) revised open′ (clientIn narrow clients d)) → (t a y : List ℕ)
+        → resultWith Accepted (mem t ns′ a clients′) y ≡ readResult (mem t ns a clients) y d (askedAt clients d) (made clients d)
     look-noted revised open′ x clients′ u t a y =
-        rw (look-is (mem t ns a clients) y d (askAt (shapeOf k) (clientIn narrow clients d)) (made clients d) h, ← label-is)
-        (look-given t a y ns ns′ clients clients′ d (made clients d) revised open′ p (ensured narrow p (storeIn narrow ns)) (ap (λ (s : Sight). saw s ns′) (sym x) ∙ g) (u ∙ rw l))
+        rw (look-is (mem t ns a clients) y d (askedAt clients d) (made clients d) i, ← label-is)
+        (look-given t a y ns ns′ clients clients′ d (made clients d) revised open′ p (ensured narrow p (storeIn narrow ns)) (ap (λ (s : Sight). saw s ns′) (sym x) ∙ g) (u ∙ rw (r .held .steps)))

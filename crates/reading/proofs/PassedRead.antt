@@ -1,37 +1,55 @@
 -- What a step's refusals have ruled out once none applies, for the caller: the premises of a read's step, and that the step is the read's.
--- Leans on rules. Assumes nothing.
-use mathlib.Core.Path.{_≡_, refl}
+-- Leans on rules and on clients. Assumes nothing.
+use mathlib.Core.Path.{_≡_, sym, _∙_}
 use mathlib.Core.List.{List}
 use Prim.Native.Nat.{ℕ}
-use borrow.Author.Tests.{eq-eqb}
 use native.Mathlib.Omega.{arith}
-use Rattle.rules.specs.Work.{workIn}
-use Rattle.rules.specs.Client.{kind, steps, askAt, workAt}
+use borrow.Author.Tests.{eq-eqb}
+use Rattle.query.specs.Shape.{narrow}
 use Rattle.rules.specs.Layout.{reads}
-use Rattle.rules.specs.Memory.{Mem}
-use Rattle.rules.specs.Refusals.{columns, client, stepCode}
+use Rattle.rules.specs.Work.{asking, workIn}
+use Rattle.rules.specs.Client.{kind, steps, askAt, workAt}
+use Rattle.rules.specs.Memory.{Mem, clientIn}
+use Rattle.rules.specs.Refusals.{shape, client, stepCode}
 use Rattle.rules.specs.Steps.{readResult, progressOf, progress}
 use Rattle.rules.specs.Calls.{stepResult}
-use Rattle.rules.specs.Refusals.{shape}
-use Rattle.rules.proofs.PassedChecks.{step-passed}
+use Rattle.rules.proofs.PassedChecks.{AtWork, step-passed}
+use Rattle.clients.specs.declared.Held.{Held}
+use Rattle.clients.specs.ClientContracts.{IsHeld, Reader, askedAt}
 use Rattle.reading.specs.ReadContracts.{Steps}
 
-module _ (m : Mem) (tray : List ℕ) (d : ℕ) (e : stepCode m tray d ≡ 0) (x : kind (client m d) ≡ reads) where
-  pub reads-on : Steps (m .table) (m .nodes) (m .answers) (m .clients) tray d (columns m)
-  unfolding client
-  reads-on =
-      let t = step-passed m tray d e in
-      let b = t .1 in
-      let s = b .memories in
-      record {
-        read = record { columns = refl; least = s .least; most = s .most; below = b .below; long = (let l = s .long .clients in omega arith); sound = b .fine; busy = b .busy; kind = x };
-        listed = record { columns = (s .least, s .most); long = s .long .table; few = s .records };
-        nodes = record { long = s .long .nodes; few = s .nodes };
-        fit = record { long = (let l = s .long .answers in omega arith); few = s .answers };
-        short = s .lists;
-        room = t .0;
-      }
+-- h: what was read of the client
+module _ (m : Mem) (d : ℕ) {h : Held} (i : IsHeld h (m .clients) d) (x : h .kind ≡ reads) where
+  -- it is at work on what it asks
+  pub asks : workAt (shape m) (client m d) ≡ asking (askedAt (m .clients) d)
+  unfolding workAt workIn askAt client
+  asks = rw (eq-eqb (kind (clientIn narrow (m .clients) d)) reads (sym (i .kind) ∙ x))
 
-  pub read-due : stepResult m tray d ≡ readResult m tray d (askAt (shape m) (client m d)) (steps (client m d))
-  unfolding stepResult progress progressOf workAt workIn askAt
-  read-due = rw (eq-eqb (stepCode m tray d) 0 e, eq-eqb (kind (client m d)) reads x)
+  -- and sound and busy, where the call's refusals have passed
+  pub reader-at : AtWork m d → Reader h (m .clients) d
+  unfolding client
+  reader-at w = record {
+    held = i;
+    fit = record { long = (let l = w .0 .long .clients in omega arith); below = w .1 };
+    busy = rw (← asks) (w .2);
+  }
+
+  module _ (tray : List ℕ) (e : stepCode m tray d ≡ 0) where
+    pub reads-on : Steps (m .table) (m .nodes) (m .answers) (m .clients) tray d h
+    reads-on =
+        let t = step-passed m tray d e in
+        let w = t .1 in
+        let s = w .0 in
+        let c = i .columns in
+        record {
+          read = reader-at w;
+          listed = record { columns = (let l = s .least in omega arith, let l = s .most in omega arith); long = s .long .table; few = s .records };
+          nodes = record { long = s .long .nodes; few = s .nodes };
+          fit = record { long = (let l = s .long .answers in omega arith); few = s .answers };
+          short = s .lists;
+          room = t .0;
+        }
+
+    pub read-due : stepResult m tray d ≡ readResult m tray d (askedAt (m .clients) d) (steps (clientIn narrow (m .clients) d))
+    unfolding stepResult progress progressOf client
+    read-due = rw (eq-eqb (stepCode m tray d) 0 e, asks)

@@ -1,62 +1,36 @@
--- What a client that reads is known to hold, and which step is due. Leans on rules and on the laws of clients. Assumes nothing.
-use mathlib.Core.Path.{_≡_, sym, _∙_}
+-- What a reading client is known to hold, and which step is due. Leans on rules and on the laws of clients. Assumes nothing.
+use mathlib.Core.Path.{_≡_, ap, _∙_}
 use mathlib.Core.List.{List, []}
-use Prim.Native.Nat.{ℕ, _+_, _^_, _≤_, _<_}
+use Prim.Native.Nat.{ℕ, _+_, _<_}
 use native.Mathlib.Omega.{arith}
 use lib.ListN.{length, getD, take}
 use borrow.Author.Tests.{lt-ltb, le-ltb, eq-eqb, ne-eqb}
 use Rattle.query.specs.declared.Column.{Column}
-use Rattle.query.specs.Query.{named, readCount}
+use Rattle.query.proofs.EncodingLaws.{columns-length}
 use Rattle.columns.specs.ColumnContracts.{four}
-use Rattle.query.proofs.NodeLists.{read-count-most}
-use Rattle.rules.specs.Work.{Ask, valueOf, readLabels, workIn, stepsInAll}
+use Rattle.columns.proofs.ColumnLoops.{four-back}
+use Rattle.rules.specs.Work.{Ask, valueOf, readLabels, stepsInAll}
 use Rattle.rules.specs.Nodes.{ensured}
-use Rattle.rules.specs.Answers.{lengthIn, fetchPlace}
-use Rattle.rules.specs.Client.{kind, entryOf, queryAt, askAt, workAt}
-use Rattle.query.specs.Shape.{shapeOf, narrow}
-use Rattle.rules.specs.Layout.{maxList, lookRoom, reads}
-use Rattle.rules.specs.Memory.{Mem, clientIn, storeIn, answersIn, recordsIn}
+use Rattle.rules.specs.Answers.{fetchPlace}
+use Rattle.rules.specs.Client.{entryOf, queryAt}
+use Rattle.query.specs.Shape.{narrow}
+use Rattle.rules.specs.Memory.{Mem, shapeIn, clientIn, storeIn, answersIn, recordsIn}
 use Rattle.rules.specs.Refusals.{columns, client}
 use Rattle.rules.specs.Steps.{lookResult, fetchResult, tableResult, fileResult, readResult}
-use Rattle.rules.proofs.ClientLaws.{looks-at}
-use Rattle.clients.specs.ClientContracts as client-contracts
-use Rattle.clients.proofs.ClientSound.{Sound, sound-client, columns-back, length-query}
-use Rattle.reading.specs.ReadContracts.{Reads, looks, made}
+use Rattle.clients.specs.declared.Held.{Held}
+use Rattle.clients.specs.ClientContracts.{Reader, heldQuery}
+use Rattle.clients.proofs.HeldLaws.{at-query}
+use Rattle.reading.specs.ReadContracts.{looks, made}
 
--- ---- what a client that reads holds
-module _ (clients : List ℕ) (d k : ℕ) (r : Reads clients d k) where
-  pub fit-clients : client-contracts.Fit clients d
-  fit-clients = record { long = r .long; below = r .below }
+-- ---- what a reader holds
+module _ {h : Held} {clients : List ℕ} {d : ℕ} (r : Reader h clients d) where
+  pub few-steps : made clients d < looks clients d + 3
+  unfolding stepsInAll
+  few-steps = r .busy .going
 
-  pub sound-read : Sound k (clientIn narrow clients d)
-  sound-read = sound-client k (clientIn narrow clients d) (r .most) (r .sound) (r .busy)
-
-  pub few-looks : looks clients d k ≤ lookRoom
-  few-looks =
-      let l = length-query k (clientIn narrow clients d) in
-      let m = r .most in
-      rw (looks-at (shapeOf k) (clientIn narrow clients d)) (read-count-most (queryAt (shapeOf k) (clientIn narrow clients d)) (omega arith))
-
-  read-steps : stepsInAll (workAt (shapeOf k) (clientIn narrow clients d)) ≡ looks clients d k + 3
-  unfolding workAt workIn askAt stepsInAll
-  read-steps = rw (eq-eqb (kind (clientIn narrow clients d)) reads (r .kind))
-
-  pub few-steps : made clients d < looks clients d k + 3
-  few-steps = let e = read-steps in let s = sound-read .step in omega arith
-
-  pub made-small : made clients d < 33
-  made-small = let s = sound-read .step in let l = sound-read .last in omega arith
-
-  pub short-list : lengthIn (entryOf (clientIn narrow clients d)) ≤ maxList
-  short-list = sound-read .list
-
-  pub read-columns : (cols : List Column) → cols ≡ four (queryAt (shapeOf k) (clientIn narrow clients d)) → take k cols ≡ queryAt (shapeOf k) (clientIn narrow clients d)
-  read-columns cols e = columns-back k (clientIn narrow clients d) cols e
-
-  -- the count as the code reckons it
-  pub looks-are : (cols : List Column) (n r′ : ℕ) → cols ≡ four (queryAt (shapeOf k) (clientIn narrow clients d)) → n ≡ named (take k cols) → r′ ≡ 2 ^ n → r′ ≡ looks clients d k
-  unfolding readCount
-  looks-are cols n r′ e f g = g ∙ rw (f, read-columns cols e) (sym (looks-at (shapeOf k) (clientIn narrow clients d)))
+  -- the columns that the code makes of what was read
+  pub read-columns : (cols : List Column) → cols ≡ four (heldQuery h) → take (h .columns) cols ≡ queryAt (shapeIn clients) (clientIn narrow clients d)
+  read-columns cols e = ap (take (h .columns)) e ∙ four-back (h .columns) (heldQuery h) (columns-length (h .columns) (h .marks) (h .values)) ∙ at-query r
 
 -- ---- which step it is
 module _ (m : Mem) (y : List ℕ) (d : ℕ) (x : Ask) (i : ℕ) where

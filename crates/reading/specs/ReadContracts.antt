@@ -5,77 +5,75 @@ use mathlib.Core.Bool.{false, cond}
 use mathlib.Core.List.{List}
 use Prim.Native.Nat.{ℕ, _+_, _≤_, _<_}
 use lib.ListN.{length, getD}
+use Rattle.query.specs.Shape.{maxColumns, narrow}
+use Rattle.rules.specs.Layout.{trayLeast, lookRoom, maxList, answerCountOffset}
 use Rattle.rules.specs.Work.{readLabels}
-use Rattle.rules.specs.Answers.{fetchPlace, someLong}
-use Rattle.rules.specs.Client.{Client, kind, steps, sawPending, entryOf, isIdle, isBad, askAt}
-use Rattle.query.specs.Shape.{shapeOf, maxColumns, narrow}
-use Rattle.rules.specs.Layout.{maxClients, trayLeast, lookRoom, clientsEnd, reads}
-use Rattle.rules.specs.Memory.{shapeIn, clientIn, answersIn}
+use Rattle.rules.specs.Answers.{fetchPlace, someLong, lengthIn}
+use Rattle.rules.specs.Client.{Client, steps, sawPending, entryOf}
+use Rattle.rules.specs.Memory.{clientIn, answersIn}
 use Rattle.nodes.specs.NodeContracts as nodes
 use Rattle.answers.specs.AnswerContracts as answers
+use Rattle.clients.specs.declared.Held.{Held}
 use Rattle.clients.specs.ClientContracts as client-contracts
+use Rattle.clients.specs.ClientContracts.{Reader, askedAt}
 use Rattle.table.specs.TableContracts as table
 
--- a read of k columns is under way at client d
-pub record Reads (clients : List ℕ) (d k : ℕ) : Type 0 where
-  pub columns : k ≡ shapeIn clients .columns
-  pub least : 1 ≤ k
-  pub most : k ≤ maxColumns
-  pub below : d < maxClients
-  pub long : clientsEnd narrow ≤ length clients
-  pub sound : isBad narrow (shapeOf k) (clientIn narrow clients d) ≡ false
-  pub busy : isIdle narrow (clientIn narrow clients d) ≡ false
-  pub kind : kind (clientIn narrow clients d) ≡ reads
-
 -- how many nodes the read has, and how many steps it has made
-abbrev pub looks : List ℕ → ℕ → ℕ → ℕ
-looks clients d k = length (readLabels (askAt (shapeOf k) (clientIn narrow clients d)))
+abbrev pub looks : List ℕ → ℕ → ℕ
+looks clients d = length (readLabels (askedAt clients d))
 
 abbrev pub made : List ℕ → ℕ → ℕ
 made clients d = steps (clientIn narrow clients d)
 
--- ---- each step
-pub record Looks (ns clients : List ℕ) (d k : ℕ) : Type 0 where
-  pub read : Reads clients d k
+-- ---- each step; h: what was read of the client
+pub record Looks (ns clients : List ℕ) (d : ℕ) (h : Held) : Type 0 where
+  pub read : Reader h clients d
   pub fit : nodes.Fit ns
-  pub step : made clients d < looks clients d k
+  pub step : made clients d < looks clients d
 
--- the search for a filed answer, by the client's own entry
-pub record Finds (filed clients : List ℕ) (d : ℕ) : Type 0 where
+-- the search for a filed answer, by the client's own entry and the n revisions noted in it
+pub record Finds (filed clients : List ℕ) (d n : ℕ) : Type 0 where
   pub fit : answers.Fit filed
   pub client : client-contracts.Fit clients d
-  pub few : made clients d ≤ lookRoom
+  pub few : n ≤ lookRoom
 
-unfoldable pub foundFor : List ℕ → Client → ℕ
-foundFor s c = cond (sawPending c) (getD s 0 0) (fetchPlace narrow (steps c) (entryOf c) (answersIn narrow s))
+unfoldable pub foundFor : List ℕ → Client → ℕ → ℕ
+foundFor s c n = cond (sawPending c) (getD s answerCountOffset 0) (fetchPlace narrow n (entryOf c) (answersIn narrow s))
 
-pub record Fetches (filed clients tray : List ℕ) (d k : ℕ) : Type 0 where
-  pub read : Reads clients d k
+pub record Fetches (filed clients tray : List ℕ) (d : ℕ) (h : Held) : Type 0 where
+  pub read : Reader h clients d
   pub fit : answers.Fit filed
   pub short : someLong (answersIn narrow filed) ≡ false
   pub room : trayLeast ≤ length tray
-  pub step : made clients d ≡ looks clients d k
+  pub step : made clients d ≡ looks clients d
 
-pub record Gathers (records clients : List ℕ) (d k : ℕ) : Type 0 where
-  pub read : Reads clients d k
-  pub fit : table.Fit k records
+pub record Gathers (records clients : List ℕ) (d : ℕ) (h : Held) : Type 0 where
+  pub read : Reader h clients d
+  pub fit : table.Fit (h .columns) records
 
-pub record Lists (records clients tray : List ℕ) (d k : ℕ) : Type 0 where
-  pub read : Reads clients d k
-  pub fit : table.Fit k records
+-- the client's own list, given
+pub record Gives (clients tray : List ℕ) (d k : ℕ) : Type 0 where
+  pub client : client-contracts.Fit clients d
+  pub few : k ≤ maxColumns
+  pub short : lengthIn (entryOf (clientIn narrow clients d)) ≤ maxList
   pub room : trayLeast ≤ length tray
-  pub step : made clients d ≡ looks clients d k + 1
 
-pub record Files (filed clients tray : List ℕ) (d k : ℕ) : Type 0 where
-  pub read : Reads clients d k
+pub record Lists (records clients tray : List ℕ) (d : ℕ) (h : Held) : Type 0 where
+  pub read : Reader h clients d
+  pub fit : table.Fit (h .columns) records
+  pub room : trayLeast ≤ length tray
+  pub step : made clients d ≡ looks clients d + 1
+
+pub record Files (filed clients tray : List ℕ) (d : ℕ) (h : Held) : Type 0 where
+  pub read : Reader h clients d
   pub fit : answers.Fit filed
   pub room : trayLeast ≤ length tray
-  pub step : made clients d ≡ looks clients d k + 2
+  pub step : made clients d ≡ looks clients d + 2
 
 -- any of them
-pub record Steps (records ns filed clients tray : List ℕ) (d k : ℕ) : Type 0 where
-  pub read : Reads clients d k
-  pub listed : table.Fit k records
+pub record Steps (records ns filed clients tray : List ℕ) (d : ℕ) (h : Held) : Type 0 where
+  pub read : Reader h clients d
+  pub listed : table.Fit (h .columns) records
   pub nodes : nodes.Fit ns
   pub fit : answers.Fit filed
   pub short : someLong (answersIn narrow filed) ≡ false

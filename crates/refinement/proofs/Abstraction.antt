@@ -10,7 +10,7 @@ use lib.ListN.{length, getD, take, drop}
 use Rattle.lists.specs.Lists.{In}
 use Rattle.query.specs.Encoding.{isKey}
 use Rattle.query.specs.Shape.{Shape, maxColumns, narrow}
-use Rattle.rules.specs.Layout.{maxRecords, maxNodes, maxAnswers, maxClients, maxList, tableLeast, nodesLeast, answersLeast, clientsLeast}
+use Rattle.rules.specs.Layout.{maxRecords, maxNodes, maxAnswers, maxClients, maxList}
 use Rattle.rules.specs.Layout.{recordCountOffset, nodeCountOffset, answerCountOffset, revisionsOffset, answersEnd}
 use Rattle.rules.specs.declared.Outcome.{Outcome}
 use Rattle.rules.specs.declared.Outcome.the-variants.{Refused, Accepted, Answered, Long, Ended, Full}
@@ -20,6 +20,7 @@ use Rattle.rules.specs.Client.{Client, steps, sawPending, didChange, foundFull,
 use Rattle.rules.specs.Memory.{Mem, recordsIn, storeIn, answersIn}
 use Rattle.rules.specs.Refusals.{columns, client, shape}
 use Rattle.rules.specs.Outcome.{StepResult}
+use Rattle.rules.specs.Sound as memories
 use Rattle.rules.specs.History as rules
 use Rattle.machine.specs.Machine.{Phase, idle, looking, tabling, filing, announcing, raising, Ans, State, Response}
 use Rattle.machine.specs.Machine as machine
@@ -103,10 +104,7 @@ pub record Kept (sh : Shape) (e : Entry) : Type 0 where
   pub short : lengthIn e ≤ maxList
 
 pub record Fits (m : Mem) : Type 0 where
-  pub table-long : tableLeast ≤ length (m .table)
-  pub nodes-long : nodesLeast narrow ≤ length (m .nodes)
-  pub answers-long : answersLeast narrow (shape m) ≤ length (m .answers)
-  pub clients-long : clientsLeast narrow (shape m) ≤ length (m .clients)
+  pub long : memories.Long m
   pub some : 1 ≤ columns m
   pub few : columns m ≤ maxColumns
   pub records : getD (m .table) recordCountOffset 0 ≤ maxRecords
@@ -117,4 +115,4 @@ pub record Fits (m : Mem) : Type 0 where
 
 -- such an answers memory has room for every entry
 pub answers-room : (m : Mem) → Fits m → answersEnd narrow ≤ length (m .answers)
-answers-room m f = let l = f .answers-long in omega arith
+answers-room m f = let l = f .long .answers in omega arith

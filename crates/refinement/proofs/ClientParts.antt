@@ -1,38 +1,29 @@
--- What the changes of a client do to its parts: kind, steps, flags and entry. Leans on rules' Client and on the laws of lists.
--- Assumes nothing.
+-- What the changes of a client do to its parts: kind, steps, flags and entry. Leans on rules' Client and HoldingLaws, and on the laws of
+-- lists. Assumes nothing.
 use mathlib.Core.Path.{_≡_, refl, sym, ap, _∙_}
 use mathlib.Core.Bool.{Bool, true, false, cond, not, _||_, or-true, or-false}
-use mathlib.Core.List.{List, [], _∷_, _++_, append-assoc}
-use Prim.Native.Nat.{ℕ, suc, _+_, _-_, _*_, _≤_, _<_}
+use mathlib.Core.List.{List, [], _∷_, _++_}
+use Prim.Native.Nat.{ℕ, suc, _+_, _-_, _≤_, _<_}
 use native.Mathlib.Omega.{arith}
 use lib.Dec.{eqb, ltb}
-use lib.ListN.{length, getD, take, drop, set, replicate, length-drop, length-set, List·getD-eq-default}
-use lib.Seq.{take-at, drop-append-le, length-take-le, getD-drop, getD-set-same, getD-set-other, take-set-le, drop-set-lt, drop-set-add, take-suc-set}
-use lib.Seq.{drop-drop}
+use lib.ListN.{length, getD, take, drop, set, length-drop, length-set, List·getD-eq-default}
+use lib.Seq.{take-at, getD-drop, getD-set-same, getD-set-other, take-set-le, drop-set-lt, drop-set-add, take-suc-set}
 use borrow.Author.Tests.{lt-ltb, le-ltb, eqb-true, eqb-false}
 use Rattle.lists.specs.Lists.{padded, written}
 use Rattle.laws.proofs.TestLaws.{byTest}
 use Rattle.laws.proofs.ListLaws.{length-padded, getD-padded}
-use Rattle.laws.proofs.WrittenLaws.{drop-take, take-written, drop-of-written, getD-before, length-written}
+use Rattle.laws.proofs.WrittenLaws.{drop-take, take-written, getD-before, length-written}
 use Rattle.query.specs.Encoding.{labelWidth, keyWidth}
 use Rattle.query.specs.Shape.{Shape, maxColumns, narrow}
 use Rattle.rules.specs.Work.{Value, Work, kindOf, keyOf}
-use Rattle.rules.specs.Answers.{Entry, keyIn, lengthIn, listIn, valueIn}
+use Rattle.rules.specs.Answers.{Entry, keyIn, lengthIn}
 use Rattle.rules.specs.Client.{Client, kind, steps, sawPending, didChange, foundFull, entryOf, begun, stepped, flag, noted, holding, wrote}
 use Rattle.rules.specs.Layout.{maxList, lookRoom, listOffset, listRoom, entryWidth, clientWidth, notedOffset, heldListOffset}
 use Rattle.rules.proofs.ClientLaws.{list-room}
+use Rattle.rules.proofs.HoldingLaws.{counted, holding-entry, long-counted}
 use Rattle.refinement.proofs.Abstraction.{revisionsIn, Whole}
 
--- ---- Lists
-drop-written-add : (n i : ℕ) (s v : List ℕ) → n + i ≤ length s → drop n (written s (n + i) v) ≡ written (drop n s) i v
-unfolding written
-drop-written-add n i s v h =
-    let l : length (take (n + i) s) ≡ n + i = length-take-le (n + i) s h in
-    let e : n + i - n ≡ i = omega arith in
-    let f : n + (i + length v) ≡ n + i + length v = omega arith in
-    rw (append-assoc, drop-append-le n (take (n + i) s) (v ++ drop (n + i + length v) s) (omega arith), drop-take n (n + i) s, e, append-assoc, drop-drop (i + length v) n s, f)
-
--- three numbers stored
+-- ---- Three numbers stored in a list
 module _ (s : List ℕ) (i x j y l z : ℕ) where
   three-other : (a : ℕ) → (a ≡ i → ⊥) → (a ≡ j → ⊥) → (a ≡ l → ⊥) → getD (set (set (set s i x) j y) l z) a 0 ≡ getD s a 0
   three-other a e f g =
@@ -176,58 +167,35 @@ module _ (c : Client) (w : length c ≡ clientWidth narrow) where
     unfolding wrote foundFull stepped
     wrote-full = ap (λ (x : ℕ). not (eqb x 0)) (three-last c 1 (steps c + 1) 3 (flag changed) 4 (flag full) (omega arith)) ∙ flag-read full
 
-padded-front : (n x : ℕ) (a r : List ℕ) → length a ≡ x → take x (padded n a ++ r) ≡ a
-unfolding padded
-padded-front n x a r h = rw append-assoc (take-at a (replicate (n - length a) 0 ++ r) x h)
-
 -- ---- A list taken
--- the entry with the list's length
-counted : Client → ℕ → Entry
-counted c n = set (entryOf c) 7 n
-
 module _ (c : Client) (w : length c ≡ clientWidth narrow) (sh : Shape) (v : Value) (whole : Whole sh v) (few : sh .columns ≤ maxColumns) (short : v .count ≤ maxList) where
   -- what is written of the list
-  numbers : List ℕ
+  abbrev numbers : List ℕ
   numbers = padded listRoom (v .numbers)
 
   length-numbers : length numbers ≡ listRoom
-  unfolding numbers
   length-numbers = let b = list-room (v .count) (sh .columns) short few in length-padded listRoom (v .numbers) (omega arith)
-
-  length-counted : length (counted c (v .count)) ≡ entryWidth narrow
-  unfolding counted
-  length-counted = length-set (entryOf c) 7 (v .count) ∙ length-entry c w
-
-  holding-entry : entryOf (holding narrow sh v c) ≡ written (counted c (v .count)) (listOffset narrow sh) numbers
-  unfolding holding entryOf stepped counted numbers
-  holding-entry =
-      drop-written-add 5 (listOffset narrow sh) (set (set c 1 (steps c + 1)) 12 (v .count)) (padded listRoom (v .numbers)) (rw (length-set, length-set, w) (omega arith))
-      ∙ ap (λ (e : Entry). written e (listOffset narrow sh) (padded listRoom (v .numbers)))
-      (drop-set-add 5 (set c 1 (steps c + 1)) 7 (v .count) ∙ ap (λ (e : Entry). set e 7 (v .count)) (drop-set-lt 5 c 1 (steps c + 1) (omega arith)))
 
   holding-front : (i : ℕ) → i < 5 → getD (holding narrow sh v c) i 0 ≡ getD (stepped c) i 0
   unfolding holding
   holding-front i h =
-      getD-before (set (stepped c) 12 (v .count)) (heldListOffset narrow sh) (padded listRoom (v .numbers)) (rw (length-set, stepped-next c w .wide) (omega arith)) i 0 (omega arith)
+      getD-before (set (stepped c) 12 (v .count)) (heldListOffset narrow sh) numbers (rw (length-set, stepped-next c w .wide) (omega arith)) i 0 (omega arith)
       ∙ getD-set-other (stepped c) 12 i (v .count) 0 (λ e. omega arith)
 
-  long-counted : listOffset narrow sh ≤ length (counted c (v .count))
-  long-counted = let a = length-counted in omega arith
-
   holding-key : keyIn (entryOf (holding narrow sh v c)) ≡ keyIn (entryOf c)
-  unfolding keyIn counted
+  unfolding keyIn
   holding-key =
-      ap (take keyWidth) holding-entry
-      ∙ take-written (counted c (v .count)) (listOffset narrow sh) numbers long-counted 7 (omega arith)
+      ap (take keyWidth) (holding-entry c w sh v)
+      ∙ take-written (counted c (v .count)) (listOffset narrow sh) numbers (long-counted c w sh v) 7 (omega arith)
       ∙ take-set-le 7 (entryOf c) 7 (v .count) (omega arith)
 
   holding-wide : length (holding narrow sh v c) ≡ clientWidth narrow
-  unfolding holding numbers
+  unfolding holding
   holding-wide =
       let a = stepped-next c w .wide in
       let b = length-set (stepped c) 12 (v .count) in
       let d = length-numbers in
-      length-written (set (stepped c) 12 (v .count)) (heldListOffset narrow sh) (padded listRoom (v .numbers)) (omega arith) ∙ b ∙ a
+      length-written (set (stepped c) 12 (v .count)) (heldListOffset narrow sh) numbers (omega arith) ∙ b ∙ a
 
   pub holding-next : Next c (holding narrow sh v c)
   unfolding kind steps
@@ -239,34 +207,15 @@ module _ (c : Client) (w : length c ≡ clientWidth narrow) (sh : Shape) (v : Va
   }
 
   pub holding-revisions : (n : ℕ) → n ≤ lookRoom → revisionsIn n (entryOf (holding narrow sh v c)) ≡ revisionsIn n (entryOf c)
-  unfolding revisionsIn counted
+  unfolding revisionsIn
   holding-revisions n h =
       let e : 8 + n - 8 ≡ n = omega arith in
       let a : (l : Entry) → take n (drop 8 l) ≡ drop 8 (take (8 + n) l) = λ l. rw (drop-take 8 (8 + n) l, e) in
-      ap (λ (l : Entry). take n (drop 8 l)) holding-entry
+      ap (λ (l : Entry). take n (drop 8 l)) (holding-entry c w sh v)
       ∙ a (written (counted c (v .count)) (listOffset narrow sh) numbers)
-      ∙ ap (drop 8) (take-written (counted c (v .count)) (listOffset narrow sh) numbers long-counted (8 + n) (omega arith))
+      ∙ ap (drop 8) (take-written (counted c (v .count)) (listOffset narrow sh) numbers (long-counted c w sh v) (8 + n) (omega arith))
       ∙ sym (a (counted c (v .count)))
       ∙ ap (take n) (drop-set-lt 8 (entryOf c) 7 (v .count) (omega arith))
-
-  pub holding-length : lengthIn (entryOf (holding narrow sh v c)) ≡ v .count
-  unfolding lengthIn counted
-  holding-length =
-      ap (λ (x : Entry). getD x 7 0) holding-entry
-      ∙ getD-before (counted c (v .count)) (listOffset narrow sh) numbers long-counted 7 0 (omega arith)
-      ∙ getD-set-same (entryOf c) 7 (v .count) 0 (let z = length-entry c w in omega arith)
-
-  holding-list : listIn narrow sh (entryOf (holding narrow sh v c)) ≡ v .numbers
-  unfolding listIn numbers
-  holding-list =
-      rw holding-length (
-      ap (λ (x : Entry). take (v .count * sh .columns) (drop (listOffset narrow sh) x)) holding-entry
-      ∙ ap (take (v .count * sh .columns)) (drop-of-written (counted c (v .count)) (listOffset narrow sh) (padded listRoom (v .numbers)) long-counted)
-      ∙ padded-front listRoom (v .count * sh .columns) (v .numbers) (drop (listOffset narrow sh + length (padded listRoom (v .numbers))) (counted c (v .count))) whole)
-
-  pub holding-value : valueIn narrow sh (entryOf (holding narrow sh v c)) ≡ v
-  unfolding valueIn
-  holding-value = λ i. record { count = holding-length i; numbers = holding-list i }
 
 -- ---- As a begin of work x leaves it
 module _ (x : Work) where

@@ -7,22 +7,23 @@ use Prim.Native.Nat.{ℕ, _+_, _-_, _≤_, _<_}
 use native.Mathlib.Omega.{arith}
 use lib.Dec.{eqb}
 use lib.ListN.{length, getD, length-replicate}
-use borrow.Author.Tests.{eqb-true, eqb-false, le-leb, lt-leb, eq-eqb, ne-eqb, le-ltb}
+use borrow.Author.Tests.{le-leb, lt-leb, eq-eqb, ne-eqb}
 use Rattle.laws.proofs.ListLaws.{same-refl, same-eq}
 use Rattle.laws.proofs.TestLaws.{byTest}
 use Rattle.query.specs.Query.{Record, naming}
 use Rattle.query.specs.Encoding.{keyWidth, keyWords, recordOf}
 use Rattle.query.specs.Shape.{Shape, maxColumns, narrow}
 use Rattle.query.proofs.EncodingLaws.{query-in-key, query-in-length, key-words-length}
-use Rattle.rules.specs.Layout.{maxList, clientWidth, reads, inserts, deletes}
+use Rattle.rules.specs.Layout.{clientWidth, reads}
 use Rattle.rules.specs.Table.{Change, insert, delete, target}
 use Rattle.rules.specs.Work.{Ask, readLabels, askKey, askIn, Write, writeLabels, Work, asking, writing, changeKind, kindOf, keyOf, changeIn, writeIn}
 use Rattle.rules.specs.Work.{workIn, stepsInAll}
-use Rattle.rules.specs.Answers.{Entry, keyIn, lengthIn, isLong, valueIn}
-use Rattle.rules.specs.Client.{Client, kind, steps, sawPending, didChange, foundFull, entryOf, isIdle, queryAt, askAt, writeAt, workAt, isBad, begun}
+use Rattle.rules.specs.Answers.{Entry, keyIn, isLong, valueIn}
+use Rattle.rules.specs.Client.{Client, kind, steps, sawPending, didChange, foundFull, entryOf, isIdle, askAt, workAt, isBad, begun}
 use Rattle.rules.specs.Client as rules
+use Rattle.rules.specs.Sound.{Busy}
 use Rattle.rules.proofs.WorkLaws.{target-length}
-use Rattle.rules.proofs.ClientLaws.{Busy, busy-of, busy-sound, idle-sound}
+use Rattle.rules.proofs.ClientLaws.{change-known, kind-known, busy-sound, idle-sound}
 use Rattle.machine.specs.Machine.{WorkFits, Phase, idle, looking, tabling, filing, announcing, raising}
 use Rattle.refinement.proofs.Abstraction.{revisionsIn, notedOf, readerOf, writerOf, busyPhase, phaseOf}
 use Rattle.refinement.proofs.ClientParts.{Next, begun-kind, begun-steps, begun-saw, begun-wide, begun-key, begun-length}
@@ -45,9 +46,10 @@ idle-kind : (c : Client) → isIdle narrow c ≡ true → kind c ≡ 0
 unfolding isIdle kind rules.idle
 idle-kind c e = ap (λ (x : Client). getD x 0 0) (same-eq c (rules.idle narrow) e)
 
--- a client of some kind is not idle
-kind-busy : (c : Client) → 1 ≤ kind c → isIdle narrow c ≡ false
-kind-busy c l = byTest (isIdle narrow c) (λ e. absurd (let z = idle-kind c e in omega arith)) (λ e. e)
+-- a busy client is not idle
+busy-goes : {sh : Shape} {c : Client} {w : Work} → Busy narrow sh c w → isIdle narrow c ≡ false
+busy-goes {sh} {c} {w} b =
+    byTest (isIdle narrow c) (λ e. absurd (let z = idle-kind c e in let y = b .kind in let k = kind-known w in omega (arith, k .0))) (λ e. e)
 
 -- ---- What a call leaves at a desk: a sound client, which stands for x
 pub record Left (sh : Shape) (t : Client) (x : Phase) : Type 0 where
@@ -58,98 +60,63 @@ pub record Left (sh : Shape) (t : Client) (x : Phase) : Type 0 where
 pub idle-left : (sh : Shape) → Left sh (rules.idle narrow) idle
 idle-left sh = record { sound = idle-sound sh (rules.idle narrow) idle-is; wide = idle-wide; phase = idle-at sh (rules.idle narrow) idle-is }
 
--- ---- A client's work, by its kind
-module _ (sh : Shape) (c : Client) where
-  pub asking-at : kind c ≡ reads → workAt sh c ≡ asking (askAt sh c)
-  unfolding workAt workIn askAt
-  asking-at r = rw (eq-eqb (kind c) reads r)
+pub busy-left : {sh : Shape} {t : Client} {w : Work} {x : Phase} → Busy narrow sh t w → phaseOf sh t ≡ x → Left sh t x
+busy-left b e = record { sound = busy-sound b; wide = b .wide; phase = e }
 
-  pub writing-at : (kind c ≡ reads → ⊥) → workAt sh c ≡ writing (writeAt sh c)
-  unfolding workAt workIn writeAt
-  writing-at r = rw (ne-eqb (kind c) reads r)
+-- ---- A client's work
+-- by its kind
+pub asking-at : (sh : Shape) (c : Client) → kind c ≡ reads → workAt sh c ≡ asking (askAt sh c)
+unfolding workAt workIn askAt
+asking-at sh c r = rw (eq-eqb (kind c) reads r)
 
-  -- what a reader asks
-  pub asks-at : (x : Ask) → workAt sh c ≡ asking x → askAt sh c ≡ x
-  asks-at x r = byTest (eqb (kind c) reads)
-      (λ e. let z = sym (asking-at (eqb-true (kind c) reads e)) ∙ r in cc)
-      (λ e. let z = sym (writing-at (eqb-false (kind c) reads e)) ∙ r in cc)
-
-  -- what a writer writes; it is no reader
-  pub writes-at : (w : Write) → workAt sh c ≡ writing w → (kind c ≡ reads → ⊥) × (writeAt sh c ≡ w)
-  writes-at w r =
-      let n : kind c ≡ reads → ⊥ = λ e. (let z = sym (asking-at e) ∙ r in let y : _≡_ {A = ℕ} 0 1 = cc in omega arith) in
-      (n, let z = sym (writing-at n) ∙ r in cc)
-
-  -- it is of the hall
-  pub fits-at : {y : Work} → workAt sh c ≡ y → WorkFits sh y
-  unfolding workAt workIn askIn writeIn
-  fits-at r = rw (← r) (byTest (eqb (kind c) reads)
-      (λ e. rw e (record { shape = refl; columns = query-in-length sh (keyIn (entryOf c)) }))
-      (λ e. rw e (record { shape = refl; columns = target-length sh (kind c) (keyIn (entryOf c)) })))
-
-  -- how many steps it makes at the most
-  pub last-read : (x : Ask) → workAt sh c ≡ asking x → stepsInAll (workAt sh c) ≡ length (readLabels x) + 3
-  unfolding stepsInAll
-  last-read x r = rw r
-
-  pub last-write : (w : Write) → workAt sh c ≡ writing w → stepsInAll (workAt sh c) ≡ length (writeLabels w) + 1 + length (writeLabels w)
-  unfolding stepsInAll
-  last-write w r = rw r
+-- it is of the hall
+pub fits-at : (sh : Shape) (c : Client) {w : Work} → workAt sh c ≡ w → WorkFits sh w
+unfolding workAt workIn askIn writeIn
+fits-at sh c r = rw (← r) (byTest (eqb (kind c) reads)
+    (λ e. rw e (record { shape = refl; columns = query-in-length sh (keyIn (entryOf c)) }))
+    (λ e. rw e (record { shape = refl; columns = target-length sh (kind c) (keyIn (entryOf c)) })))
 
 -- ---- A busy client's desk
-pub busy-phase : (sh : Shape) (c : Client) → Busy sh c → phaseOf sh c ≡ busyPhase sh c (workAt sh c)
+pub busy-phase : {sh : Shape} {c : Client} {w : Work} → Busy narrow sh c w → phaseOf sh c ≡ busyPhase sh c w
 unfolding phaseOf
-busy-phase sh c b = rw (kind-busy c (b .low))
+busy-phase b = rw (busy-goes b, b .work)
 
-module _ (sh : Shape) (c : Client) (b : Busy sh c) (x : Ask) (r : workAt sh c ≡ asking x) where
-  reader-phase : phaseOf sh c ≡ readerOf sh x (entryOf c) (steps c) (sawPending c)
-  unfolding busyPhase
-  reader-phase = busy-phase sh c b ∙ rw r
-
+module _ {sh : Shape} {c : Client} {x : Ask} (b : Busy narrow sh c (asking x)) where
   pub looking-phase : steps c ≤ length (readLabels x) → phaseOf sh c ≡ looking x (revisionsIn (steps c) (entryOf c)) (sawPending c)
-  unfolding readerOf
-  looking-phase h = reader-phase ∙ rw (le-leb _ _ h)
+  unfolding busyPhase readerOf
+  looking-phase h = busy-phase b ∙ rw (le-leb _ _ h)
 
   pub tabling-phase : steps c ≡ length (readLabels x) + 1 → phaseOf sh c ≡ tabling x (notedOf x (entryOf c)) (sawPending c)
-  unfolding readerOf
-  tabling-phase h = reader-phase ∙ rw (lt-leb (steps c) (length (readLabels x)) (omega arith), eq-eqb _ _ h)
+  unfolding busyPhase readerOf
+  tabling-phase h = busy-phase b ∙ rw (lt-leb (steps c) (length (readLabels x)) (omega arith), eq-eqb _ _ h)
 
   pub filing-phase : length (readLabels x) + 1 < steps c → phaseOf sh c ≡ filing x (notedOf x (entryOf c)) (valueIn narrow sh (entryOf c))
-  unfolding readerOf
-  filing-phase h = reader-phase ∙ rw (lt-leb (steps c) (length (readLabels x)) (omega arith), ne-eqb (steps c) (length (readLabels x) + 1) (λ e. omega arith))
+  unfolding busyPhase readerOf
+  filing-phase h = busy-phase b ∙ rw (lt-leb (steps c) (length (readLabels x)) (omega arith), ne-eqb (steps c) (length (readLabels x) + 1) (λ e. omega arith))
 
-module _ (sh : Shape) (c : Client) (b : Busy sh c) (w : Write) (r : workAt sh c ≡ writing w) where
-  writer-phase : phaseOf sh c ≡ writerOf w (steps c) (didChange c) (foundFull c)
-  unfolding busyPhase
-  writer-phase = busy-phase sh c b ∙ rw r
-
+module _ {sh : Shape} {c : Client} {w : Write} (b : Busy narrow sh c (writing w)) where
   pub announcing-phase : steps c ≤ length (writeLabels w) → phaseOf sh c ≡ announcing w (steps c)
-  unfolding writerOf
-  announcing-phase h = writer-phase ∙ rw (le-leb _ _ h)
+  unfolding busyPhase writerOf
+  announcing-phase h = busy-phase b ∙ rw (le-leb _ _ h)
 
   pub raising-phase : length (writeLabels w) < steps c → phaseOf sh c ≡ raising w (steps c - (length (writeLabels w) + 1)) (didChange c) (foundFull c)
-  unfolding writerOf
-  raising-phase h = writer-phase ∙ rw (lt-leb _ _ h)
+  unfolding busyPhase writerOf
+  raising-phase h = busy-phase b ∙ rw (lt-leb _ _ h)
 
 -- ---- One step more: the same work
-module _ (sh : Shape) (c t : Client) (n : Next c t) where
-  pub next-work : workAt sh t ≡ workAt sh c
-  unfolding workAt
-  next-work = rw (n .kinds, n .keys)
-
-  next-busy : Busy sh c → steps c + 1 < stepsInAll (workAt sh c) → lengthIn (entryOf t) ≤ maxList → Busy sh t
-  unfolding queryAt
-  next-busy b h s = record {
-    low = rw (n .kinds) (b .low);
-    high = rw (n .kinds) (b .high);
-    key = rw (n .keys) (b .key);
-    names = λ e. rw (n .keys) (b .names (sym (n .kinds) ∙ e));
-    going = rw (next-work, n .one) h;
-    short = s;
-  }
-
-  pub next-left : {x : Phase} → Busy sh c → steps c + 1 < stepsInAll (workAt sh c) → lengthIn (entryOf t) ≤ maxList → (Busy sh t → phaseOf sh t ≡ x) → Left sh t x
-  next-left b h s p = let busy = next-busy b h s in record { sound = busy-sound sh t busy; wide = n .wide; phase = p busy }
+pub next-busy : {sh : Shape} {c t : Client} {w : Work} → Next c t → Busy narrow sh c w → steps c + 1 < stepsInAll w
+    → isLong (entryOf t) ≡ false → Busy narrow sh t w
+unfolding workAt
+next-busy n b h s = record {
+  least = b .least;
+  most = b .most;
+  wide = n .wide;
+  work = rw (n .kinds, n .keys) (b .work);
+  kind = n .kinds ∙ b .kind;
+  key = n .keys ∙ b .key;
+  going = rw (n .one) h;
+  short = s;
+}
 
 -- ---- What begins
 -- the phase that work begins with
@@ -168,28 +135,18 @@ unfolding changeIn changeKind target
 change-kept sh (insert r) l = ap insert (ap recordOf (query-in-key sh (naming r) l) ∙ record-naming r)
 change-kept sh (delete q) l = ap delete (query-in-key sh q l)
 
-change-known : (c : Change) → (inserts ≤ changeKind c) × (changeKind c ≤ deletes)
-unfolding changeKind
-change-known (insert r) = (omega arith, omega arith)
-change-known (delete q) = (omega arith, omega arith)
-
 work-kept : (sh : Shape) (x : Work) → WorkFits sh x → workIn sh (kindOf x) (keyOf x) ≡ x
 unfolding workIn kindOf keyOf askKey askIn writeIn
 work-kept sh (asking x) f = λ i. asking (record { shape = sym (f .shape) i; query = query-in-key sh (x .query) (f .columns) i })
 work-kept sh (writing w) f =
-    let k = change-known (w .change) in
-    rw (ne-eqb (changeKind (w .change)) reads (λ e. omega (arith, k .0))) (λ i. writing (record { shape = sym (f .shape) i; change = change-kept sh (w .change) (f .columns) i }))
+    let k = change-known (w .change) .0 in
+    rw (ne-eqb (changeKind (w .change)) reads (λ e. omega arith)) (λ i. writing (record { shape = sym (f .shape) i; change = change-kept sh (w .change) (f .columns) i }))
 
 -- its key is that of a query of the hall
 key-wide : (sh : Shape) (x : Work) → WorkFits sh x → sh .columns ≤ maxColumns → length (keyOf x) ≡ keyWidth
 unfolding keyOf askKey
 key-wide sh (asking x) f few = key-words-length (x .query) (let z = f .columns in omega arith)
 key-wide sh (writing w) f few = key-words-length (target (w .change)) (let z = f .columns in omega arith)
-
-kind-known : (x : Work) → (1 ≤ kindOf x) × (kindOf x ≤ deletes)
-unfolding kindOf
-kind-known (asking x) = (omega arith, omega arith)
-kind-known (writing w) = let k = change-known (w .change) in (omega (arith, k .0), k .1)
 
 steps-some : (x : Work) → 0 < stepsInAll x
 unfolding stepsInAll
@@ -203,42 +160,28 @@ no-revisions i e h = rw h
 pub looking-eq : {x : Ask} {ns ms : List ℕ} {a b : Bool} → ns ≡ ms → a ≡ b → looking x ns a ≡ looking x ms b
 looking-eq {x} f g = λ i. looking x (f i) (g i)
 
-begun-busy : (x : Work) → isIdle narrow (begun narrow x) ≡ false
-begun-busy x = kind-busy (begun narrow x) (let k = kind-known x in let z = begun-kind x in omega (arith, k .0))
+module _ (sh : Shape) (least : 1 ≤ sh .columns) (most : sh .columns ≤ maxColumns) where
+  begun-busy : (x : Work) → WorkFits sh x → Busy narrow sh (begun narrow x) x
+  unfolding workAt isLong
+  begun-busy x f =
+      let h = key-wide sh x f most in
+      record {
+        least = least;
+        most = most;
+        wide = begun-wide x h;
+        work = rw (begun-kind x, begun-key x h) (work-kept sh x f);
+        kind = begun-kind x;
+        key = begun-key x h;
+        going = rw (begun-steps x) (steps-some x);
+        short = rw (begun-length x h);
+      }
 
-module _ (sh : Shape) (few : sh .columns ≤ maxColumns) where
-  begun-work : (x : Work) → WorkFits sh x → workAt sh (begun narrow x) ≡ x
-  unfolding workAt
-  begun-work x f = rw (begun-kind x, begun-key x (key-wide sh x f few)) (work-kept sh x f)
-
-  begun-sound : (x : Work) → WorkFits sh x → isBad narrow sh (begun narrow x) ≡ false
-  unfolding isBad isLong
-  begun-sound x f =
-      let k = kind-known x in
-      let h = key-wide sh x f few in
-      rw (
-        begun-busy x,
-        begun-work x f,
-        begun-kind x,
-        begun-key x h,
-        begun-steps x,
-        begun-length x h,
-        same-refl (keyOf x),
-        ne-eqb (kindOf x) 0 (λ z. omega (arith, k .0)),
-        le-ltb deletes (kindOf x) (k .1),
-        lt-leb (stepsInAll x) 0 (steps-some x),
-      )
-
-  begun-phase : (x : Work) → WorkFits sh x → Busy sh (begun narrow x) → phaseOf sh (begun narrow x) ≡ startOf x
-  begun-phase (asking x) f b =
+  begun-phase : (x : Work) → Busy narrow sh (begun narrow x) x → phaseOf sh (begun narrow x) ≡ startOf x
+  begun-phase (asking x) b =
       let c : Client = begun narrow (asking x) in
       let z = begun-steps (asking x) in
-      looking-phase sh c b x (begun-work (asking x) f) (omega arith) ∙ looking-eq (no-revisions (steps c) (entryOf c) z) (begun-saw (asking x))
-  begun-phase (writing w) f b =
-      let z = begun-steps (writing w) in
-      announcing-phase sh (begun narrow (writing w)) b w (begun-work (writing w) f) (omega arith) ∙ ap (announcing w) z
+      looking-phase b (omega arith) ∙ looking-eq (no-revisions (steps c) (entryOf c) z) (begun-saw (asking x))
+  begun-phase (writing w) b = let z = begun-steps (writing w) in announcing-phase b (omega arith) ∙ ap (announcing w) z
 
   pub begun-left : (x : Work) → WorkFits sh x → Left sh (begun narrow x) (startOf x)
-  begun-left x f =
-      let s = begun-sound x f in
-      record { sound = s; wide = begun-wide x (key-wide sh x f few); phase = begun-phase x f (busy-of sh (begun narrow x) s (begun-busy x)) }
+  begun-left x f = let b = begun-busy x f in busy-left b (begun-phase x b)

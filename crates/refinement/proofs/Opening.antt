@@ -18,8 +18,9 @@ use Rattle.rules.specs.Nodes.{store}
 use Rattle.rules.specs.Memory.{Mem, recordsIn, storeIn, answersIn, clientIn, cleared, opened}
 use Rattle.rules.specs.Refusals.{shape, columns, client, openCode}
 use Rattle.rules.specs.Client as rules
+use Rattle.rules.specs.Sound.{Long}
 use Rattle.rules.proofs.ClientLaws.{idle-sound}
-use Rattle.rules.proofs.PassedChecks.{Long, open-passed}
+use Rattle.rules.proofs.PassedChecks.{open-passed}
 use Rattle.machine.specs.Machine.{idle}
 use Rattle.machine.specs.Machine as machine
 use Rattle.refinement.proofs.Abstraction.{ansOf, phasesOf, filedOf, stateOf, Fits}
@@ -104,10 +105,7 @@ module _ (m : Mem) (sh : Shape) (l : Long m) where
 
   fits-opened : 1 ≤ sh .columns → sh .columns ≤ maxColumns → Fits (opened narrow sh m)
   fits-opened lo hi = record {
-    table-long = opened-lengths .table;
-    nodes-long = opened-lengths .nodes;
-    answers-long = opened-lengths .answers;
-    clients-long = opened-lengths .clients;
+    long = opened-lengths;
     some = rw opened-columns lo;
     few = rw opened-columns hi;
     records = let z = no-records in omega arith;

@@ -2,7 +2,7 @@
 use mathlib.Core.Path.{_≡_, refl, ap, _∙_}
 use mathlib.Core.Bool.{Bool, true, false}
 use mathlib.Core.List.{List, []}
-use Prim.Native.Nat.{ℕ, _+_, _≤_, _<_}
+use Prim.Native.Nat.{ℕ, _+_, _<_}
 use native.Mathlib.Omega.{arith}
 use lib.Dec.{eqb, ltb, leb}
 use lib.ListN.{length, getD, take, length-map}
@@ -28,6 +28,7 @@ use Rattle.rules.specs.Outcome.{result}
 use Rattle.rules.specs.Steps.{storeBack}
 use Rattle.rules.specs.Calls.{beginResult, releaseResult, abandoned, abandonResult, evictAnswerResult, evictNodeResult, renewResult, abandonedOf}
 use Rattle.rules.specs.History.{untrayed}
+use Rattle.rules.specs.Sound.{Busy}
 use Rattle.rules.proofs.PassedChecks.{Begins, begin-passed, abandon-passed, steps-before, evict-answer-passed, evict-node-passed, renew-passed}
 use Rattle.rules.proofs.PassedChecks.{read-good, insert-good, delete-good}
 use Rattle.rules.proofs.WorkLaws.{target-insert, target-delete}
@@ -38,13 +39,13 @@ use Rattle.machine.specs.Machine.{idle, State, begin, abandon, evict-answer, ev
 use Rattle.machine.specs.Machine.{at-client}
 use Rattle.machine.specs.Transition as steps-of
 use Rattle.refinement.proofs.Abstraction.{ansOf, readerOf, busyPhase, phasesOf, filedOf, stateOf, responseIn, Fits}
-use Rattle.refinement.proofs.ClientPhases.{busy-phase, idle-at, begun-left, writes-at, startOf}
+use Rattle.refinement.proofs.ClientPhases.{busy-phase, idle-at, begun-left, startOf}
 use Rattle.refinement.proofs.MemoryReads.{length-nodes, length-answers, rows-held, answers-held}
 use Rattle.refinement.proofs.StatesAfter.{After, Simulated, simulated, as-it-was, at-store, at-filed, then-now, then-idle}
 use Rattle.refinement.proofs.RefusedCalls.{refused-simulated, unless-simulated, begin-low, abandon-low, evict-answer-low, evict-node-low}
 use Rattle.refinement.proofs.RefusedCalls.{renew-low}
 use Rattle.refinement.proofs.AnswersRefined.{map-without, in-without}
-use Rattle.refinement.proofs.StepFrame.{stepsAt, entryAt, Going, going, client-at, underWay, by-retired, announcing-at}
+use Rattle.refinement.proofs.StepFrame.{stepsAt, entryAt, client-at, by-retired, announcing-at}
 
 -- ---- Begins
 -- what a request asks or writes is of the hall
@@ -67,7 +68,7 @@ unfolding beginResult untrayed responseIn
 begin-simulated m d r f = unless-simulated m _ (beginCode m d r) _ f (begin-low m d r) (λ e.
     let b = begin-passed m d r e in
     simulated Accepted []
-    (then-now (as-it-was m f) d (b .below) (begun-left (shape m) (f .few) (workOf (shape m) r) (request-fits (shape m) r (b .good))))
+    (then-now (as-it-was m f) d (b .below) (begun-left (shape m) (f .some) (f .few) (workOf (shape m) r) (request-fits (shape m) r (b .good))))
     (started m d r b (client-at m d (b .below) ∙ idle-at (shape m) (client m d) (b .rests))))
 
 -- ---- Abandonings
@@ -76,28 +77,25 @@ unfolding readerOf
 reader-is sh x e i saw =
     byTest (leb i (length (readLabels x))) (λ t. rw t) (λ t. rw t (byTest (eqb i (length (readLabels x) + 1)) (λ u. rw u) (λ u. rw u)))
 
-module _ (m : Mem) (d : ℕ) (g : Going m d) where
-  reader-at : (x : Ask) → underWay m d ≡ asking x → steps-of.isReader (stateOf m .clients d) ≡ true
+module _ (m : Mem) (f : Fits m) (once : NoDup (storeIn narrow (m .nodes) .nodes)) (d : ℕ) (low : d < maxClients) where
+  reader-at : {x : Ask} → Busy narrow (shape m) (client m d) (asking x) → steps-of.isReader (stateOf m .clients d) ≡ true
   unfolding busyPhase
-  reader-at x r =
-      rw (client-at m d (g .below), busy-phase (shape m) (client m d) (g .busy), r) (reader-is (shape m) x (entryAt m d) (stepsAt m d) (sawPending (client m d)))
+  reader-at {x} b = rw (client-at m d low, busy-phase b) (reader-is (shape m) x (entryAt m d) (stepsAt m d) (sawPending (client m d)))
 
-  abandoned-simulated : (y : Work) → underWay m d ≡ y → isCommitted (shape m) (client m d) ≡ false → Simulated m (abandon d) (untrayed (abandonedOf m d y))
+  abandoned-simulated : (w : Work) → Busy narrow (shape m) (client m d) w → isCommitted (shape m) (client m d) ≡ false
+      → Simulated m (abandon d) (untrayed (abandonedOf m d w))
   unfolding abandonedOf releaseResult untrayed responseIn stateOf
-  abandoned-simulated (asking x) r e =
-      simulated Accepted [] (then-idle (as-it-was m (g .fits)) d (g .below)) (steps-of.abandoned-read (g .below) (reader-at x r))
-  abandoned-simulated (writing w) r e =
-      let k = writes-at (shape m) (client m d) w r in
-      let h : stepsAt m d ≤ length (writeLabels w) = rw (k .1) at (steps-before m d e (k .0)) in
-      by-retired g false (take (stepsAt m d) (writeLabels w)) (λ o. Simulated m (abandon d) (untrayed (releaseResult m d o)))
-      (refused-simulated m (abandon d) 3 [] (g .fits) (omega arith) (λ z. omega arith))
-      (λ t k a. simulated Accepted [] (then-idle a d (g .below))
-      (steps-of.abandoned-write (g .below) (announcing-at m d w g r h) k))
+  abandoned-simulated (asking x) b e = simulated Accepted [] (then-idle (as-it-was m f) d low) (steps-of.abandoned-read low (reader-at b))
+  abandoned-simulated (writing w) b e =
+      by-retired m f once false (take (stepsAt m d) (writeLabels w)) (λ o. Simulated m (abandon d) (untrayed (releaseResult m d o)))
+      (refused-simulated m (abandon d) 3 [] f (omega arith) (λ z. omega arith))
+      (λ t k a. simulated Accepted [] (then-idle a d low)
+      (steps-of.abandoned-write low (announcing-at m d low b (steps-before m d w b e)) k))
 
 pub abandon-simulated : (m : Mem) (d : ℕ) → Fits m → NoDup (storeIn narrow (m .nodes) .nodes) → Simulated m (abandon d) (untrayed (abandonResult m d))
 unfolding abandonResult abandoned
 abandon-simulated m d f once = unless-simulated m _ (abandonCode m d) _ f (abandon-low m d) (λ e.
-    let t = abandon-passed m d e in abandoned-simulated m d (going m f once d (t .0 .below) (t .0 .busy)) (underWay m d) refl (t .1))
+    let t = abandon-passed m d e in abandoned-simulated m f once d (t .0 .1) _ (t .0 .2) (t .1))
 
 -- ---- Puttings out
 evicted-simulated : (m : Mem) (i : ℕ) → Fits m → i < getD (m .answers) answerCountOffset 0

@@ -7,8 +7,7 @@ use mathlib.Core.List.{List, [], _∷_, _++_, map}
 use Prim.Native.Nat.{ℕ, _+_, _≤_, _<_}
 use native.Mathlib.Omega.{arith}
 use lib.Dec.{eqb, ltb}
-use lib.ListN.{length, getD, drop, length-drop}
-use lib.Seq.{length-take-le}
+use lib.ListN.{length, getD}
 use borrow.Author.Tests.{ltb-true, ltb-false, eqb-true, eqb-false, leb-true}
 use Rattle.lists.specs.Lists.{In, place}
 use Rattle.laws.proofs.TestLaws.{byTest}
@@ -17,7 +16,7 @@ use Rattle.laws.proofs.SearchLaws.{place-at, place-before}
 use Rattle.laws.proofs.Members.{in-at, in-place}
 use Rattle.query.specs.Query.{lies}
 use Rattle.query.specs.Shape.{narrow}
-use Rattle.rules.specs.Layout.{maxList, entryWidth}
+use Rattle.rules.specs.Layout.{maxList, maxClients, entryWidth}
 use Rattle.rules.specs.declared.Outcome.the-variants.{Accepted, Long}
 use Rattle.rules.specs.Table.{listOf}
 use Rattle.rules.specs.Nodes.{Words, Store, nodeOf, revision, pending}
@@ -28,29 +27,29 @@ use Rattle.rules.specs.Refusals.{columns, client, shape}
 use Rattle.rules.specs.Outcome.{resultWith}
 use Rattle.rules.specs.Steps.{nowAt, answered, lookResult, fetchResult, tableResult, fileResult, readResult}
 use Rattle.rules.specs.Work.{Ask, valueOf, mayAnswer, readLabels, Value, asking, ofRecords, askIn}
+use Rattle.rules.specs.Sound.{Busy}
 use Rattle.rules.proofs.WorkLaws.{read-label-wide}
-use Rattle.revisions.specs.EffectiveRevision.{has, effective, pendingOf}
+use Rattle.rules.proofs.ClientLaws.{asks-at, busy-key, busy-short}
+use Rattle.revisions.specs.EffectiveRevision.{NoDup, has, effective, pendingOf}
 use Rattle.revisions.proofs.NodeOperations.{EnsuredOk, ensured-ok, node-effective, node-pending-of}
-use Rattle.machine.specs.Machine.{looking, tabling, Ans, step, node, with-filed, holds-for, filed-in, AskFits}
+use Rattle.machine.specs.Machine.{looking, tabling, Ans, step, node, with-filed, holds-for, filed-in}
 use Rattle.machine.specs.Transition as transition
-use Rattle.refinement.proofs.Abstraction.{revisionsIn, ansOf, filedOf, stateOf, responseIn, Kept, notedOf, Whole}
+use Rattle.refinement.proofs.Abstraction.{revisionsIn, ansOf, filedOf, stateOf, responseIn, Kept, Fits, notedOf, Whole}
 use Rattle.refinement.proofs.ClientParts.{length-entry}
-use Rattle.refinement.proofs.ClientPhases.{Left, looking-eq, looking-phase, tabling-phase, filing-phase, fits-at, asks-at}
-use Rattle.refinement.proofs.PhaseSteps.{looks-most, noted-left, missed-left, holding-left}
+use Rattle.refinement.proofs.ClientPhases.{Left, fits-at, looking-eq, looking-phase, tabling-phase, filing-phase}
+use Rattle.refinement.proofs.PhaseSteps.{noted-count, noted-left, missed-left, holding-left}
 use Rattle.refinement.proofs.MemoryReads.{length-answers, wide-in, records-held, rows-held, answers-held}
 use Rattle.refinement.proofs.StatesAfter.{After, Simulated, simulated, as-it-was, at-store, at-filed, then-now, then-idle}
 use Rattle.refinement.proofs.RefusedCalls.{refused-simulated}
 use Rattle.refinement.proofs.AnswersRefined.{in-map, map-in, serves-holds, map-filed, wide-filed, in-filed, length-filed}
-use Rattle.refinement.proofs.StepFrame.{entryAt, stepsAt, Going, client-at, answered-simulated, underWay, whole-entry}
+use Rattle.refinement.proofs.StepFrame.{entryAt, stepsAt, client-at, answered-simulated, whole-entry}
 
-module _ (m : Mem) (tray : List ℕ) (d : ℕ) (g : Going m d) (x : Ask) (r : underWay m d ≡ asking x) where
-  -- what it asks; it is of the hall
+module _ (m : Mem) (f : Fits m) (once : NoDup (storeIn narrow (m .nodes) .nodes)) (tray : List ℕ) (d : ℕ) (low : d < maxClients)
+    {x : Ask} (b : Busy narrow (shape m) (client m d) (asking x)) where
+  -- what it asks
   asks : askIn (shape m) (keyIn (entryAt m d)) ≡ x
   unfolding askAt
-  asks = asks-at (shape m) (client m d) x r
-
-  fits : AskFits (shape m) x
-  fits = fits-at (shape m) (client m d) r
+  asks = asks-at b
 
   -- how many nodes it has; the revisions noted so far, and at all of them
   abbrev looks : ℕ
@@ -67,47 +66,37 @@ module _ (m : Mem) (tray : List ℕ) (d : ℕ) (g : Going m d) (x : Ask) (r : un
   entries = answersIn narrow (m .answers)
 
   -- ---- A look
-
-  length-seen : stepsAt m d ≤ looks → length seen ≡ stepsAt m d
-  unfolding revisionsIn
-  length-seen h =
-      let a = looks-most (shape m) (client m d) (g .fits .few) x r in
-      let b = length-entry (client m d) (g .wide) in
-      length-take-le (stepsAt m d) (drop 8 (entryAt m d)) (rw length-drop (omega arith))
-
   look-label : stepsAt m d < looks → getD (readLabels x) (stepsAt m d) [] ≡ node x (length seen)
   unfolding node
-  look-label h = ap (λ (i : ℕ). getD (readLabels x) i []) (sym (length-seen (omega arith)))
+  look-label h = ap (λ (i : ℕ). getD (readLabels x) i []) (sym (noted-count b (stepsAt m d) (omega arith)))
 
   -- what the look leaves at its desk
   look-left : (p : Words) (t : Store) → p ≡ node x (length seen) → has (t .nodes) p ≡ true → stepsAt m d < looks
       → Left (shape m) (noted narrow (stepsAt m d) (revision narrow (nodeOf p t)) (pending (nodeOf p t)) (client m d))
       (looking x (seen ++ (effective t (node x (length seen)) ∷ [])) (sawPending (client m d) || ltb 0 (pendingOf t (node x (length seen)))))
   look-left p t e k h =
-      let l = noted-left (shape m) (client m d) (g .fits .few) x r (g .wide) (g .busy) (revision narrow (nodeOf p t)) (pending (nodeOf p t)) h in
+      let l = noted-left b (revision narrow (nodeOf p t)) (pending (nodeOf p t)) h in
       record { sound = l .sound; wide = l .wide; phase = l .phase ∙ rw (node-effective p t k, node-pending-of p t k, e) refl }
 
   look-simulated : (p : Words) (o : Option Store) → p ≡ node x (length seen) → stepsAt m d < looks → EnsuredOk p (storeIn narrow (m .nodes)) o
       → Simulated m (step d) (lookResult m tray d (stepsAt m d) p o)
   unfolding lookResult responseIn stateOf
-  look-simulated p none e h k = refused-simulated m (step d) 3 tray (g .fits) (omega arith) (λ z. omega arith)
+  look-simulated p none e h k = refused-simulated m (step d) 3 tray f (omega arith) (λ z. omega arith)
   look-simulated p (some t) e h k =
-      let n = length-seen (omega arith) in
+      let n = noted-count b (stepsAt m d) (omega arith) in
       simulated Accepted tray
-      (then-now (at-store m (g .fits) t (k .2) (k .3)) d (g .below) (look-left p t e (k .1) h))
-      (transition.looked (g .below) (client-at m d (g .below) ∙ looking-phase (shape m) (client m d) (g .busy) x r (omega arith)) (omega arith) (k .0) (rw e at (k .1)))
+      (then-now (at-store m f t (k .2) (k .3)) d low (look-left p t e (k .1) h))
+      (transition.looked low (client-at m d low ∙ looking-phase b (omega arith)) (omega arith) (k .0) (rw e at (k .1)))
 
   -- ---- A fetch
   -- the reader has noted all its nodes
   fetch-phase : (saw : Bool) → stepsAt m d ≡ looks → sawPending (client m d) ≡ saw → stateOf m .clients d ≡ looking x all-noted saw
   fetch-phase saw e s =
-      client-at m d (g .below) ∙ looking-phase (shape m) (client m d) (g .busy) x r (omega arith)
+      client-at m d low ∙ looking-phase b (omega arith)
       ∙ looking-eq (ap (λ (i : ℕ). revisionsIn i (entryAt m d)) e) s
 
-  looks-done : stepsAt m d ≡ looks → looks ≤ length all-noted
-  looks-done e =
-      let a = ap (λ (i : ℕ). length (revisionsIn i (entryAt m d))) (sym e) ∙ length-seen (omega arith) in
-      omega arith
+  looks-done : looks ≤ length all-noted
+  looks-done = let n = noted-count b looks (omega arith) in omega arith
 
   missed-simulated : stepsAt m d ≡ looks
       → (sawPending (client m d) ≡ true) ⊎ ((a : Ans) → In a (stateOf m .filed) → holds-for x all-noted a ≡ false)
@@ -115,15 +104,15 @@ module _ (m : Mem) (tray : List ℕ) (d : ℕ) (g : Going m d) (x : Ask) (r : un
   unfolding responseIn
   missed-simulated e out =
       simulated Accepted tray
-      (then-now (as-it-was m (g .fits)) d (g .below) (missed-left (shape m) (client m d) (g .fits .few) x r (g .wide) (g .busy) e))
-      (transition.missed (g .below) (fetch-phase (sawPending (client m d)) e refl) (looks-done e) out)
+      (then-now (as-it-was m f) d low (missed-left b e))
+      (transition.missed low (fetch-phase (sawPending (client m d)) e refl) looks-done out)
 
   -- whether an entry serves it
   abbrev served : Entry → Bool
   served = serves narrow looks (entryAt m d)
 
   served-holds : (e : Entry) → In e entries → holds-for x all-noted (ansOf (shape m) e) ≡ served e
-  served-holds e i = serves-holds (shape m) (entryAt m d) x asks (g .busy .key) e (g .fits .kept e i .key)
+  served-holds e i = serves-holds (shape m) (entryAt m d) x asks (busy-key b) e (f .kept e i .key)
 
   -- none serves
   none-holds : length entries ≤ place served entries → (a : Ans) → In a (stateOf m .filed) → holds-for x all-noted a ≡ false
@@ -139,13 +128,12 @@ module _ (m : Mem) (tray : List ℕ) (d : ℕ) (g : Going m d) (x : Ask) (r : un
       → Simulated m (step d) (answered m tray d (valueIn narrow (shape m) (getD entries i [])) true)
   unfolding stateOf filedOf ansOf
   hit-simulated i is e s h =
-      let f = g .fits in
       let j : In (getD entries i []) entries = in-at [] entries i h in
       let w = wide-in (entryWidth narrow) (answers-held m f) j in
       let z : served (getD entries i []) ≡ true = rw is (place-at served entries [] (rw is at h)) in
-      answered-simulated tray d (valueIn narrow (shape m) (getD entries i [])) true (as-it-was m f) (g .below)
+      answered-simulated tray d (valueIn narrow (shape m) (getD entries i [])) true (as-it-was m f) low
       (whole-entry (shape m) (getD entries i []) w (f .few) (f .kept (getD entries i []) j .short))
-      (transition.hit (g .below) (fetch-phase false e s) (looks-done e) (map-in (ansOf (shape m)) j) (served-holds (getD entries i []) j ∙ z))
+      (transition.hit low (fetch-phase false e s) looks-done (map-in (ansOf (shape m)) j) (served-holds (getD entries i []) j ∙ z))
 
   fetch-simulated : stepsAt m d ≡ looks
       → Simulated m (step d) (fetchResult m tray d (fetchPlace narrow looks (entryAt m d) entries))
@@ -160,7 +148,7 @@ module _ (m : Mem) (tray : List ℕ) (d : ℕ) (g : Going m d) (x : Ask) (r : un
 
   -- ---- A table step
   table-phase : (saw : Bool) → stepsAt m d ≡ looks + 1 → sawPending (client m d) ≡ saw → stateOf m .clients d ≡ tabling x all-noted saw
-  table-phase saw e s = client-at m d (g .below) ∙ rw s at (tabling-phase (shape m) (client m d) (g .busy) x r e)
+  table-phase saw e s = client-at m d low ∙ rw s at (tabling-phase b e)
 
   -- what the table has for it
   abbrev listed : Value
@@ -168,7 +156,7 @@ module _ (m : Mem) (tray : List ℕ) (d : ℕ) (g : Going m d) (x : Ask) (r : un
 
   whole-listed : Whole (shape m) listed
   unfolding valueOf ofRecords listOf stateOf
-  whole-listed = length-flat (columns m) _ (wide-keep (columns m) (lies (x .query)) (recordsIn (columns m) (m .table)) (records-held m (g .fits)))
+  whole-listed = length-flat (columns m) _ (wide-keep (columns m) (lies (x .query)) (recordsIn (columns m) (m .table)) (records-held m f))
 
   may-short : mayAnswer x listed ≡ true → listed .count ≤ maxList
   unfolding mayAnswer
@@ -179,12 +167,12 @@ module _ (m : Mem) (tray : List ℕ) (d : ℕ) (g : Going m d) (x : Ask) (r : un
   table-simulated e =
       byTest (mayAnswer x listed)
       (λ t. byTest (sawPending (client m d))
-      (λ s. rw (t, s) (answered-simulated tray d listed false (as-it-was m (g .fits)) (g .below) whole-listed (transition.listed (g .below) (table-phase true e s) t)))
+      (λ s. rw (t, s) (answered-simulated tray d listed false (as-it-was m f) low whole-listed (transition.listed low (table-phase true e s) t)))
       (λ s. rw (t, s) (simulated Accepted tray
-      (then-now (as-it-was m (g .fits)) d (g .below) (holding-left (shape m) (client m d) (g .fits .few) x r (g .wide) (g .busy) listed whole-listed (may-short t) e))
-      (transition.took (g .below) (table-phase false e s) t))))
-      (λ t. rw t (simulated Long tray (then-idle (as-it-was m (g .fits)) d (g .below))
-      (transition.too-long (g .below) (table-phase (sawPending (client m d)) e refl) t)))
+      (then-now (as-it-was m f) d low (holding-left b listed whole-listed (may-short t) e))
+      (transition.took low (table-phase false e s) t))))
+      (λ t. rw t (simulated Long tray (then-idle (as-it-was m f) d low)
+      (transition.too-long low (table-phase (sawPending (client m d)) e refl) t)))
 
   -- ---- A file step
   -- what it got, and the entries with its own filed
@@ -196,40 +184,38 @@ module _ (m : Mem) (tray : List ℕ) (d : ℕ) (g : Going m d) (x : Ask) (r : un
 
   kept-filed : (e : Entry) → In e refiled → Kept (shape m) e
   kept-filed e i = elim (in-filed (entryAt m d) entries e i) [
-    | inl j ↦ g .fits .kept e j
-    | inr j ↦ rw j (record { key = g .busy .key; short = g .busy .short })
+    | inl j ↦ f .kept e j
+    | inr j ↦ rw j (record { key = busy-key b; short = busy-short b })
   ]
 
   filed-is : map (ansOf (shape m)) refiled ≡ filed-in x all-noted held (stateOf m .filed)
   unfolding stateOf filedOf
-  filed-is = map-filed (shape m) (entryAt m d) x asks (g .busy .key) entries (λ e i. g .fits .kept e i .key)
+  filed-is = map-filed (shape m) (entryAt m d) x asks (busy-key b) entries (λ e i. f .kept e i .key)
 
   filed-after : After m (withFiled m (withAnswers narrow (m .answers) refiled)) (with-filed (stateOf m) (filed-in x all-noted held (stateOf m .filed)))
   filed-after =
-      let f = g .fits in
       let e : Entry = entryAt m d in
       let n = length-answers (m .answers) in
       let y = f .answers in
       rw (← filed-is)
-      (at-filed m f refiled (wide-filed e entries (answers-held m f) (length-entry (client m d) (g .wide))) (length-filed e entries (omega arith)) kept-filed)
+      (at-filed m f refiled (wide-filed e entries (answers-held m f) (length-entry (client m d) (b .wide))) (length-filed e entries (omega arith)) kept-filed)
 
   file-simulated : looks + 1 < stepsAt m d → Simulated m (step d) (fileResult m tray d (entryAt m d))
   unfolding fileResult
   file-simulated h =
-      answered-simulated tray d held false filed-after (g .below)
-      (whole-entry (shape m) (entryAt m d) (length-entry (client m d) (g .wide)) (g .fits .few) (g .busy .short))
-      (transition.filed (g .below) (client-at m d (g .below) ∙ filing-phase (shape m) (client m d) (g .busy) x r h))
+      answered-simulated tray d held false filed-after low
+      (whole-entry (shape m) (entryAt m d) (length-entry (client m d) (b .wide)) (b .most) (busy-short b))
+      (transition.filed low (client-at m d low ∙ filing-phase b h))
 
   -- ---- A step of a read
   pub read-simulated : Simulated m (step d) (readResult m tray d x (stepsAt m d))
   unfolding readResult stateOf
   read-simulated =
-      let f = g .fits in
       let i : ℕ = stepsAt m d in
       byTest (ltb i looks)
       (λ t. let z = ltb-true i looks t in
-      let k = read-label-wide x i (let c = fits .columns in let y = f .few in omega arith) z in
-      rw t (look-simulated _ _ (look-label z) z (ensured-ok _ (storeIn narrow (m .nodes)) k (g .once) (rows-held m f))))
+      let k = read-label-wide x i (let c = fits-at (shape m) (client m d) (b .work) .columns in let y = b .most in omega arith) z in
+      rw t (look-simulated _ _ (look-label z) z (ensured-ok _ (storeIn narrow (m .nodes)) k once (rows-held m f))))
       (λ t. let z = ltb-false i looks t in rw t (byTest (eqb i looks)
       (λ u. rw u (fetch-simulated (eqb-true i looks u)))
       (λ u. let y = eqb-false i looks u in rw u (byTest (eqb i (looks + 1))

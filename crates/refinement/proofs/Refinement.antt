@@ -2,20 +2,22 @@
 -- OthersRefined. Assumes nothing.
 use mathlib.Core.Path.{_≡_, refl}
 use mathlib.Core.List.{List}
-use Prim.Native.Nat.{ℕ}
+use Prim.Native.Nat.{ℕ, _<_}
 use lib.Dec.{eqb}
 use borrow.Author.Tests.{eqb-true, eqb-false}
 use Rattle.laws.proofs.TestLaws.{byTest}
 use Rattle.query.specs.Shape.{Shape, narrow}
+use Rattle.rules.specs.Layout.{maxClients}
 use Rattle.rules.specs.declared.Outcome.{Outcome}
 use Rattle.rules.specs.declared.Outcome.the-variants.{Refused, Accepted, Answered, Long, Ended, Full}
 use Rattle.rules.specs.Work.{Work, asking, writing}
 use Rattle.rules.specs.Memory.{Mem, storeIn}
 use Rattle.rules.specs.Outcome.{StepResult, number}
-use Rattle.rules.specs.Refusals.{shape, stepCode}
+use Rattle.rules.specs.Refusals.{shape, client, stepCode}
 use Rattle.rules.specs.Steps.{progressOf, progress}
 use Rattle.rules.specs.Calls.{stepResult}
 use Rattle.rules.specs.History.{Call, begin, step, abandon, evictAnswer, evictNode, renew, callResult}
+use Rattle.rules.specs.Sound.{Busy}
 use Rattle.rules.proofs.PassedChecks.{step-passed}
 use Rattle.revisions.specs.EffectiveRevision.{NoDup}
 use Rattle.machine.specs.Transition.{Transition}
@@ -23,22 +25,22 @@ use Rattle.machine.specs.Machine as machine
 use Rattle.refinement.proofs.Abstraction.{stateOf, callOf, responseIn, responseOf, Fits}
 use Rattle.refinement.proofs.StatesAfter.{Simulated}
 use Rattle.refinement.proofs.RefusedCalls.{refused-simulated, step-low}
-use Rattle.refinement.proofs.StepFrame.{underWay, Going, going}
 use Rattle.refinement.proofs.ReadRefined.{read-simulated}
 use Rattle.refinement.proofs.WriteRefined.{write-simulated}
 use Rattle.refinement.proofs.OthersRefined.{begin-simulated, abandon-simulated, evict-answer-simulated, evict-node-simulated, renew-simulated}
 
 -- ---- A step
-progress-simulated : (m : Mem) (tray : List ℕ) (d : ℕ) → Going m d → (y : Work) → underWay m d ≡ y → Simulated m (machine.step d) (progressOf m tray d y)
+progress-simulated : (m : Mem) → Fits m → NoDup (storeIn narrow (m .nodes) .nodes) → (tray : List ℕ) (d : ℕ) → d < maxClients
+    → (w : Work) → Busy narrow (shape m) (client m d) w → Simulated m (machine.step d) (progressOf m tray d w)
 unfolding progressOf
-progress-simulated m tray d g (asking x) r = read-simulated m tray d g x r
-progress-simulated m tray d g (writing w) r = write-simulated m tray d g w r
+progress-simulated m f once tray d low (asking x) b = read-simulated m f once tray d low b
+progress-simulated m f once tray d low (writing w) b = write-simulated m f once tray d low b
 
 step-simulated : (m : Mem) (tray : List ℕ) (d : ℕ) → Fits m → NoDup (storeIn narrow (m .nodes) .nodes) → Simulated m (machine.step d) (stepResult m tray d)
 unfolding stepResult progress
 step-simulated m tray d f once =
     byTest (eqb (stepCode m tray d) 0)
-    (λ t. let s = step-passed m tray d (eqb-true (stepCode m tray d) 0 t) in rw t (progress-simulated m tray d (going m f once d (s .1 .below) (s .1 .busy)) (underWay m d) refl))
+    (λ t. let s = step-passed m tray d (eqb-true (stepCode m tray d) 0 t) in rw t (progress-simulated m f once tray d (s .1 .1) _ (s .1 .2)))
     (λ t. rw t (refused-simulated m (machine.step d) (stepCode m tray d) tray f (step-low m tray d) (eqb-false (stepCode m tray d) 0 t)))
 
 -- ---- Every call

@@ -59,7 +59,7 @@ state-eq a b c d e = λ i. record { shape = a i; tab = b i; store = c i; filed =
 -- ---- A client
 module _ (m : Mem) (f : Fits m) (d : ℕ) (h : d < maxClients) (c : Client) (x : Phase) (l : Left (shape m) c x) where
   room : clientOffset narrow d + clientWidth narrow ≤ length (m .clients)
-  room = let z = f .clients-long in omega arith
+  room = let z = f .long .clients in omega arith
 
   now-columns : columns (nowAt m d c) ≡ columns m
   unfolding nowAt
@@ -92,10 +92,7 @@ module _ (m : Mem) (f : Fits m) (d : ℕ) (h : d < maxClients) (c : Client) (x :
   now-fits : Fits (nowAt m d c)
   unfolding nowAt
   now-fits = record {
-    table-long = f .table-long;
-    nodes-long = f .nodes-long;
-    answers-long = f .answers-long;
-    clients-long = let z = length-with (m .clients) d c (l .wide) room in let y = f .clients-long in omega arith;
+    long = record { table = f .long .table; nodes = f .long .nodes; answers = f .long .answers; clients = rw (length-with (m .clients) d c (l .wide) room) (f .long .clients) };
     some = rw now-columns (f .some);
     few = rw now-columns (f .few);
     records = f .records;
@@ -122,16 +119,13 @@ module _ (m : Mem) (f : Fits m) (t : Store) (r : AllRows (t .nodes)) (few : leng
   pub at-store : After m (storeBack m t) (with-store (stateOf m) t)
   unfolding stateOf with-store filedOf storeBack phasesOf client
   at-store = record {
-    state = state-eq refl refl (store-with (m .nodes) (f .nodes-long) (f .nodes) t r most) refl refl;
+    state = state-eq refl refl (store-with (m .nodes) (f .long .nodes) (f .nodes) t r most) refl refl;
     fits = record {
-      table-long = f .table-long;
-      nodes-long = let z = length-with-store (m .nodes) (f .nodes-long) (f .nodes) t r most in let y = f .nodes-long in omega arith;
-      answers-long = f .answers-long;
-      clients-long = f .clients-long;
+      long = record { table = f .long .table; nodes = rw (length-with-store (m .nodes) (f .long .nodes) (f .nodes) t r most) (f .long .nodes); answers = f .long .answers; clients = f .long .clients };
       some = f .some;
       few = f .few;
       records = f .records;
-      nodes = let z = count-nodes (m .nodes) (f .nodes-long) (f .nodes) t r most in let y = most in omega arith;
+      nodes = let z = count-nodes (m .nodes) (f .long .nodes) (f .nodes) t r most in let y = most in omega arith;
       answers = f .answers;
       kept = f .kept;
       sound = f .sound;
@@ -144,15 +138,12 @@ module _ (m : Mem) (f : Fits m) (t : Table) (w : Wide (columns m) t) (most : len
   pub at-table : After m (withTable m (withRecords (columns m) (m .table) t)) (with-tab (stateOf m) t)
   unfolding stateOf with-tab filedOf phasesOf client
   at-table = record {
-    state = state-eq refl (records-with (columns m) (m .table) (f .few) (f .table-long) (f .records) t w most) refl refl refl;
+    state = state-eq refl (records-with (columns m) (m .table) (f .few) (f .long .table) (f .records) t w most) refl refl refl;
     fits = record {
-      table-long = let z = length-with-records (columns m) (m .table) (f .few) (f .table-long) (f .records) t w most in let y = f .table-long in omega arith;
-      nodes-long = f .nodes-long;
-      answers-long = f .answers-long;
-      clients-long = f .clients-long;
+      long = record { table = rw (length-with-records (columns m) (m .table) (f .few) (f .long .table) (f .records) t w most) (f .long .table); nodes = f .long .nodes; answers = f .long .answers; clients = f .long .clients };
       some = f .some;
       few = f .few;
-      records = let z = count-records (columns m) (m .table) (f .few) (f .table-long) (f .records) t w most in omega arith;
+      records = let z = count-records (columns m) (m .table) (f .few) (f .long .table) (f .records) t w most in omega arith;
       nodes = f .nodes;
       answers = f .answers;
       kept = f .kept;
@@ -171,10 +162,7 @@ module _ (m : Mem) (f : Fits m) (es : List Entry) (w : Wide (entryWidth narrow) 
   at-filed = record {
     state = state-eq refl refl refl (ap (map (ansOf (shape m))) answers-back) refl;
     fits = record {
-      table-long = f .table-long;
-      nodes-long = f .nodes-long;
-      answers-long = let z = length-with-answers (m .answers) (answers-room m f) (f .answers) es w most in let y = f .answers-long in omega arith;
-      clients-long = f .clients-long;
+      long = record { table = f .long .table; nodes = f .long .nodes; answers = rw (length-with-answers (m .answers) (answers-room m f) (f .answers) es w most) (f .long .answers); clients = f .long .clients };
       some = f .some;
       few = f .few;
       records = f .records;

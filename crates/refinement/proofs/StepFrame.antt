@@ -11,9 +11,9 @@ use borrow.Author.Tests.{lt-ltb}
 use Rattle.lists.specs.Lists.{written}
 use Rattle.laws.proofs.WrittenLaws.{written-read}
 use Rattle.query.specs.Shape.{Shape, narrow, maxColumns}
-use Rattle.rules.specs.Layout.{maxClients, listOffset, entryWidth, clientWidth, maxList}
+use Rattle.rules.specs.Layout.{maxClients, listOffset, entryWidth, maxList}
 use Rattle.rules.specs.declared.Outcome.the-variants.{Answered}
-use Rattle.rules.specs.Work.{Value, Work, Write, writing, writeLabels}
+use Rattle.rules.specs.Work.{Value, Write, writing, writeLabels}
 use Rattle.rules.specs.Answers.{Entry, lengthIn, listIn, valueIn}
 use Rattle.rules.specs.Client.{steps, entryOf, isIdle, workAt}
 use Rattle.rules.specs.Memory.{Mem, storeIn}
@@ -21,7 +21,8 @@ use Rattle.rules.specs.Refusals.{columns, client, shape}
 use Rattle.rules.specs.Nodes.{Words, Store, retired}
 use Rattle.rules.specs.Steps.{storeBack}
 use Rattle.rules.specs.Steps as rules-steps
-use Rattle.rules.proofs.ClientLaws.{Busy, busy-of, client-wide, list-room}
+use Rattle.rules.specs.Sound.{Busy}
+use Rattle.rules.proofs.ClientLaws.{busy-of, client-wide, list-room}
 use Rattle.revisions.specs.EffectiveRevision.{NoDup, Retired}
 use Rattle.revisions.proofs.NodeOperations.{RetiredOk, retired-ok}
 use Rattle.machine.specs.Machine.{idle, State, Call, answered, at-client, with-store, announcing}
@@ -31,55 +32,40 @@ use Rattle.refinement.proofs.ClientPhases.{announcing-phase}
 use Rattle.refinement.proofs.MemoryReads.{rows-held}
 use Rattle.refinement.proofs.StatesAfter.{After, Simulated, simulated, at-store, then-idle}
 
--- ---- What stands at a desk: how many steps it has made, its entry, its work
+-- ---- What stands at a desk: how many steps it has made, and its entry
 abbrev pub stepsAt : Mem → ℕ → ℕ
 stepsAt m d = steps (client m d)
 
 abbrev pub entryAt : Mem → ℕ → Entry
 entryAt m d = entryOf (client m d)
 
-abbrev pub underWay : Mem → ℕ → Work
-underWay m d = workAt (shape m) (client m d)
-
 -- ---- A desk that is busy
-pub record Going (m : Mem) (d : ℕ) : Type 0 where
-  pub fits : Fits m
-  pub once : NoDup (storeIn narrow (m .nodes) .nodes)
-  pub below : d < maxClients
-  pub busy : Busy (shape m) (client m d)
-  pub wide : length (client m d) ≡ clientWidth narrow
-
-wide-at-client : (m : Mem) → Fits m → (d : ℕ) → d < maxClients → length (client m d) ≡ clientWidth narrow
+pub busy-at : (m : Mem) → Fits m → (d : ℕ) → d < maxClients → isIdle narrow (client m d) ≡ false
+    → Busy narrow (shape m) (client m d) (workAt (shape m) (client m d))
 unfolding client
-wide-at-client m f d h = client-wide (m .clients) d (let z = f .clients-long in omega arith)
-
-pub going : (m : Mem) → Fits m → NoDup (storeIn narrow (m .nodes) .nodes) → (d : ℕ) → d < maxClients → isIdle narrow (client m d) ≡ false → Going m d
-going m f once d h e = record {
-  fits = f;
-  once = once;
-  below = h;
-  busy = busy-of (shape m) (client m d) (f .sound d h) e;
-  wide = wide-at-client m f d h;
-}
+busy-at m f d h e =
+    let w = client-wide (m .clients) d (let z = f .long .clients in omega arith) in
+    busy-of (shape m) (client m d) (f .some) (f .few) w (f .sound d h) e
 
 pub client-at : (m : Mem) (d : ℕ) → d < maxClients → stateOf m .clients d ≡ phaseOf (shape m) (client m d)
 unfolding stateOf phasesOf
 client-at m d h = rw (lt-ltb d maxClients h)
 
 -- a write before its table step
-pub announcing-at : (m : Mem) (d : ℕ) (w : Write) → Going m d → underWay m d ≡ writing w → stepsAt m d ≤ length (writeLabels w) → stateOf m .clients d ≡ announcing w (stepsAt m d)
-announcing-at m d w g r h = client-at m d (g .below) ∙ announcing-phase (shape m) (client m d) (g .busy) w r h
+pub announcing-at : (m : Mem) (d : ℕ) {w : Write} → d < maxClients → Busy narrow (shape m) (client m d) (writing w) → stepsAt m d ≤ length (writeLabels w)
+    → stateOf m .clients d ≡ announcing w (stepsAt m d)
+announcing-at m d low b h = client-at m d low ∙ announcing-phase b h
 
 -- ---- Marks taken off, or a refusal
-pub by-retired : {m : Mem} {d : ℕ} (g : Going m d) (lift : Bool) (ps : List Words) (P : Option Store → Type 0) → P none
+pub by-retired : (m : Mem) → Fits m → NoDup (storeIn narrow (m .nodes) .nodes) → (lift : Bool) (ps : List Words) (P : Option Store → Type 0) → P none
     → ((t : Store) → Retired lift ps (storeIn narrow (m .nodes)) t → After m (storeBack m t) (with-store (stateOf m) t) → P (some t))
     → P (retired narrow lift ps (storeIn narrow (m .nodes)))
-by-retired {m} g lift ps P z s =
-    go (retired narrow lift ps (storeIn narrow (m .nodes))) (retired-ok lift ps (storeIn narrow (m .nodes)) (g .once) (rows-held m (g .fits)))
+by-retired m f once lift ps P z s =
+    go (retired narrow lift ps (storeIn narrow (m .nodes))) (retired-ok lift ps (storeIn narrow (m .nodes)) once (rows-held m f))
   where
     go : (o : Option Store) → RetiredOk lift ps (storeIn narrow (m .nodes)) o → P o
     go none k = z
-    go (some t) k = s t (k .0) (at-store m (g .fits) t (k .1) (λ l. let e = k .2 in omega arith))
+    go (some t) k = s t (k .0) (at-store m f t (k .1) (λ l. let e = k .2 in omega arith))
 
 -- ---- An answer
 pub answered-simulated : {m n : Mem} {s : State} {c : Call} (tray : List ℕ) (d : ℕ) (v : Value) (cached : Bool) → After m n s → d < maxClients → Whole (shape m) v

@@ -10,32 +10,35 @@ use lib.ListN.{length, getD}
 use borrow.Author.Tests.{ltb-true, ltb-false, eqb-true, eqb-false}
 use Rattle.laws.proofs.TestLaws.{byTest}
 use Rattle.query.specs.Shape.{narrow}
+use Rattle.rules.specs.Layout.{maxClients}
 use Rattle.rules.specs.declared.Outcome.the-variants.{Accepted}
 use Rattle.rules.specs.Table.{Table, effect, changes, noRoom, Change}
-use Rattle.rules.specs.Work.{Write, writeLabels, writing}
+use Rattle.rules.specs.Work.{Write, writeLabels, writing, stepsInAll}
 use Rattle.rules.specs.Nodes.{Store, retired}
 use Rattle.rules.specs.Client.{didChange, foundFull}
 use Rattle.rules.specs.Memory.{Mem, recordsIn, storeIn}
 use Rattle.rules.specs.Refusals.{shape, columns, client}
 use Rattle.rules.specs.Steps.{storeBack, announceResult, writeTableResult, endOf, raiseResult, writeResult}
+use Rattle.rules.specs.Sound.{Busy}
 use Rattle.rules.proofs.WorkLaws.{write-label-wide}
 use Rattle.records.proofs.RecordWrites.{of-width, effect-wide, effect-few}
-use Rattle.revisions.specs.EffectiveRevision.{Retired}
+use Rattle.revisions.specs.EffectiveRevision.{NoDup, Retired}
 use Rattle.revisions.proofs.NodeOperations.{AnnouncedOk, announced-ok}
 use Rattle.machine.specs.Machine.{idle, step, write-end, at-client, with-store, WriteFits, raising}
 use Rattle.machine.specs.Transition as transition
-use Rattle.refinement.proofs.Abstraction.{stateOf, responseIn}
-use Rattle.refinement.proofs.ClientPhases.{raising-phase, last-write, fits-at}
+use Rattle.refinement.proofs.Abstraction.{stateOf, responseIn, Fits}
+use Rattle.refinement.proofs.ClientPhases.{fits-at, raising-phase}
 use Rattle.refinement.proofs.PhaseSteps.{announced-left, wrote-left, raised-left}
 use Rattle.refinement.proofs.MemoryReads.{length-records, records-held, rows-held}
 use Rattle.refinement.proofs.StatesAfter.{After, Simulated, simulated, at-store, at-table, then-now, then-idle}
 use Rattle.refinement.proofs.RefusedCalls.{refused-simulated}
-use Rattle.refinement.proofs.StepFrame.{stepsAt, Going, client-at, underWay, by-retired, announcing-at}
+use Rattle.refinement.proofs.StepFrame.{stepsAt, client-at, by-retired, announcing-at}
 
-module _ (m : Mem) (tray : List ℕ) (d : ℕ) (g : Going m d) (w : Write) (r : underWay m d ≡ writing w) where
+module _ (m : Mem) (f : Fits m) (once : NoDup (storeIn narrow (m .nodes) .nodes)) (tray : List ℕ) (d : ℕ) (low : d < maxClients)
+    {w : Write} (b : Busy narrow (shape m) (client m d) (writing w)) where
   -- what it writes is of the hall
   fits : WriteFits (shape m) w
-  fits = fits-at (shape m) (client m d) r
+  fits = fits-at (shape m) (client m d) (b .work)
 
   -- how many nodes it has, and how many raises it has made
   abbrev labels : ℕ
@@ -48,25 +51,24 @@ module _ (m : Mem) (tray : List ℕ) (d : ℕ) (g : Going m d) (w : Write) (r : 
   announce-simulated : (o : Option Store) → stepsAt m d < labels → AnnouncedOk (getD (writeLabels w) (stepsAt m d) []) (storeIn narrow (m .nodes)) o
       → Simulated m (step d) (announceResult m tray d o)
   unfolding announceResult responseIn stateOf
-  announce-simulated none h k = refused-simulated m (step d) 3 tray (g .fits) (omega arith) (λ z. omega arith)
+  announce-simulated none h k = refused-simulated m (step d) 3 tray f (omega arith) (λ z. omega arith)
   announce-simulated (some t) h k =
       simulated Accepted tray
-      (then-now (at-store m (g .fits) t (k .1) (k .2)) d (g .below) (announced-left (shape m) (client m d) w r (g .wide) (g .busy) h))
-      (transition.announced (g .below) (announcing-at m d w g r (omega arith)) h (k .0))
+      (then-now (at-store m f t (k .1) (k .2)) d low (announced-left b h))
+      (transition.announced low (announcing-at m d low b (omega arith)) h (k .0))
 
   -- ---- The table step
   write-table-simulated : stepsAt m d ≡ labels → Simulated m (step d) (writeTableResult m tray d (w .change))
   unfolding writeTableResult responseIn stateOf
   write-table-simulated e =
-      let f = g .fits in
       let c : Change = w .change in
       let t : Table = recordsIn (columns m) (m .table) in
       let n = length-records (columns m) (m .table) in
       let y = f .records in
       let a = at-table m f (effect c t) (effect-wide (columns m) c t (of-width (columns m) c (fits .columns)) (records-held m f)) (effect-few c t (omega arith)) in
       simulated Accepted tray
-      (then-now a d (g .below) (wrote-left (shape m) (client m d) w r (g .wide) (g .busy) (changes c t) (noRoom c t) e))
-      (transition.wrote (g .below) (announcing-at m d w g r (omega arith)) (omega arith))
+      (then-now a d low (wrote-left b (changes c t) (noRoom c t) e))
+      (transition.wrote low (announcing-at m d low b (omega arith)) (omega arith))
 
   -- ---- A raise
   -- what the last one returns
@@ -75,43 +77,41 @@ module _ (m : Mem) (tray : List ℕ) (d : ℕ) (g : Going m d) (w : Write) (r : 
   end-is = byTest (foundFull (client m d)) (λ e. rw e) (λ e. rw e)
 
   raising-at : labels < stepsAt m d → stateOf m .clients d ≡ raising w raises (didChange (client m d)) (foundFull (client m d))
-  raising-at h = client-at m d (g .below) ∙ raising-phase (shape m) (client m d) (g .busy) w r h
+  raising-at h = client-at m d low ∙ raising-phase b h
 
   raised-simulated : (isLast : Bool) (t : Store) → labels < stepsAt m d → eqb (stepsAt m d) (labels + labels) ≡ isLast
       → Retired true (getD (writeLabels w) raises [] ∷ []) (storeIn narrow (m .nodes)) t
       → After m (storeBack m t) (with-store (stateOf m) t) → Simulated m (step d) (raiseResult m tray d isLast (some t))
-  unfolding raiseResult responseIn stateOf
+  unfolding raiseResult responseIn stateOf stepsInAll
   raised-simulated true t h l k a =
       let z = eqb-true (stepsAt m d) (labels + labels) l in
       let y : transition.Transition (stateOf m) (step d) (write-end (didChange (client m d)) (foundFull (client m d))) (at-client (with-store (stateOf m) t) d idle) =
-      transition.last (g .below) (raising-at h) (omega arith) k in
-      simulated (endOf (client m d)) tray (then-idle a d (g .below)) (rw end-is y)
+      transition.last low (raising-at h) (omega arith) k in
+      simulated (endOf (client m d)) tray (then-idle a d low) (rw end-is y)
   raised-simulated false t h l k a =
       let z = eqb-false (stepsAt m d) (labels + labels) l in
-      let b = g .busy .going in
-      let o = last-write (shape m) (client m d) w r in
+      let y = b .going in
       let j : suc raises < labels = omega arith in
       simulated Accepted tray
-      (then-now a d (g .below) (raised-left (shape m) (client m d) w r (g .wide) (g .busy) h j))
-      (transition.raised (g .below) (raising-at h) j k)
+      (then-now a d low (raised-left b h j))
+      (transition.raised low (raising-at h) j k)
 
   raise-simulated : (isLast : Bool) → labels < stepsAt m d → eqb (stepsAt m d) (labels + labels) ≡ isLast
       → Simulated m (step d) (raiseResult m tray d isLast (retired narrow true (getD (writeLabels w) raises [] ∷ []) (storeIn narrow (m .nodes))))
   raise-simulated isLast h l =
-      by-retired g true (getD (writeLabels w) raises [] ∷ []) (λ o. Simulated m (step d) (raiseResult m tray d isLast o))
-      (unfold raiseResult in refused-simulated m (step d) 3 tray (g .fits) (omega arith) (λ z. omega arith))
+      by-retired m f once true (getD (writeLabels w) raises [] ∷ []) (λ o. Simulated m (step d) (raiseResult m tray d isLast o))
+      (unfold raiseResult in refused-simulated m (step d) 3 tray f (omega arith) (λ z. omega arith))
       (λ t k a. raised-simulated isLast t h l k a)
 
   -- ---- A step of a write
   pub write-simulated : Simulated m (step d) (writeResult m tray d w (stepsAt m d))
   unfolding writeResult
   write-simulated =
-      let f = g .fits in
       let i : ℕ = stepsAt m d in
       byTest (ltb i labels)
       (λ t. let z = ltb-true i labels t in
-      let k = write-label-wide w i (let c = fits .columns in let y = f .few in omega arith) z in
-      rw t (announce-simulated _ z (announced-ok _ (storeIn narrow (m .nodes)) k (g .once) (rows-held m f))))
+      let k = write-label-wide w i (let c = fits .columns in let y = b .most in omega arith) z in
+      rw t (announce-simulated _ z (announced-ok _ (storeIn narrow (m .nodes)) k once (rows-held m f))))
       (λ t. let z = ltb-false i labels t in rw t (byTest (eqb i labels)
       (λ u. rw u (write-table-simulated (eqb-true i labels u)))
       (λ u. let y = eqb-false i labels u in rw u (raise-simulated _ (omega arith) refl))))

@@ -1,6 +1,6 @@
 -- What a sound client keeps to; and one client in the desks memory: what is read after another was written there, and that its list has
 -- room. Leans on Client, on Memory and on the laws of lists. Assumes nothing.
-use mathlib.Core.Path.{_≡_, sym, ap, _∙_}
+use mathlib.Core.Path.{_≡_, refl, sym, ap, _∙_}
 use mathlib.Core.Bool.{Bool, true, false, cond, not, _&&_, _||_, and-false}
 use mathlib.Core.List.{List, []}
 use Prim.Native.Nat.{ℕ, _+_, _-_, _*_, _^_, _≤_, _<_}
@@ -11,66 +11,130 @@ use borrow.Author.Tests.{eqb-true, eqb-false, eq-eqb, ne-eqb, ltb-true, ltb-fals
 use lib.ListN.{length, getD, take, drop, length-drop}
 use lib.Seq.{take-at, length-take-le}
 use Rattle.lists.specs.Lists.{same, written}
+use Rattle.laws.proofs.ListLaws.{same-refl, same-eq}
 use Rattle.laws.proofs.TestLaws.{byTest, or-false}
 use Rattle.laws.proofs.WrittenLaws.{drop-take, take-written, drop-written, drop-of-written, getD-before, length-written}
-use Rattle.query.specs.Encoding.{isKey, namesAll, labelWords}
+use Rattle.query.specs.Encoding.{queryIn, isKey, namesAll, labelWords}
 use Rattle.query.specs.Shape.{Shape, maxColumns, narrow}
 use Rattle.rules.specs.Layout.{maxList, columnsOffset, listRoom, clientWidth, clientOffset, reads, inserts, deletes}
 use Rattle.rules.specs.Answers.{keyIn, lengthIn, isLong}
 use Rattle.rules.specs.Client.{Client, kind, steps, entryOf, queryAt, askAt, writeAt, workAt, isIdle, isBad}
-use Rattle.rules.specs.Table.{target}
-use Rattle.rules.specs.Work.{askIn, readLabels, writeIn, writeLabels, workIn, keyOf, stepsInAll}
-use Rattle.rules.proofs.WorkLaws.{key-same, length-readLabels, length-writeLabels, read-label-at, write-label-at, target-length, target-in}
+use Rattle.rules.specs.Sound.{Busy}
+use Rattle.rules.specs.Table.{Change, insert, delete, target}
+use Rattle.rules.specs.Work.{Ask, askIn, readLabels, Write, writeIn, writeLabels, Work, asking, writing, changeKind, kindOf, changeIn, workIn, keyOf, stepsInAll}
+use Rattle.rules.proofs.WorkLaws.{key-same, length-readLabels, length-writeLabels, read-label-at, write-label-at, target-length}
 use Rattle.query.specs.Query.{Query, readNode, writeNode, readCount, writeCount}
-use Rattle.query.proofs.EncodingLaws.{query-in-length}
+use Rattle.query.proofs.EncodingLaws.{query-in-key, query-in-length}
 use Rattle.rules.specs.Memory.{shapeIn, clientIn, withClient}
 
--- ---- A sound client
--- what a busy client that is sound keeps to
-pub record Busy (sh : Shape) (c : Client) : Type 0 where
-  pub low : 1 ≤ kind c
-  pub high : kind c ≤ deletes
-  pub key : isKey sh (keyIn (entryOf c)) ≡ true
-  pub names : kind c ≡ inserts → namesAll (queryAt sh c) ≡ true
-  pub going : steps c < stepsInAll (workAt sh c)
-  pub short : lengthIn (entryOf c) ≤ maxList
+-- ---- A sound client's kind
+-- a change is kept as no read
+pub change-known : (c : Change) → (inserts ≤ changeKind c) × (changeKind c ≤ deletes)
+unfolding changeKind
+change-known (insert r) = (omega arith, omega arith)
+change-known (delete q) = (omega arith, omega arith)
 
-named-all : (x : ℕ) (b : Bool) → eqb x inserts && not b ≡ false → x ≡ inserts → b ≡ true
-named-all x b e h = not-false b (rw (eq-eqb x inserts h) at e)
+-- work has a kind that is in range
+pub kind-known : (x : Work) → (1 ≤ kindOf x) × (kindOf x ≤ deletes)
+unfolding kindOf
+kind-known (asking x) = (omega arith, omega arith)
+kind-known (writing w) = let k = change-known (w .change) in (omega (arith, k .0), k .1)
 
--- the key's part of it, as the two tests that it stands for
+change-kind : (sh : Shape) (kind : ℕ) (key : List ℕ) → inserts ≤ kind → kind ≤ deletes → changeKind (changeIn sh kind key) ≡ kind
+unfolding changeIn changeKind
+change-kind sh kind key low high = byTest (eqb kind inserts)
+    (λ e. rw e (sym (eqb-true kind inserts e)))
+    (λ e. rw e (let z = eqb-false kind inserts e in omega arith))
+
+-- and a kind in range is that of the work read from it
+kind-back : (sh : Shape) (kind : ℕ) (key : List ℕ) → 1 ≤ kind → kind ≤ deletes → kindOf (workIn sh kind key) ≡ kind
+unfolding workIn kindOf writeIn
+kind-back sh kind key low high = byTest (eqb kind reads)
+    (λ e. rw e (sym (eqb-true kind reads e)))
+    (λ e. rw e (change-kind sh kind key (let z = eqb-false kind reads e in omega arith) high))
+
+kind-at : (sh : Shape) (c : Client) → 1 ≤ kind c → kind c ≤ deletes → kindOf (workAt sh c) ≡ kind c
+unfolding workAt
+kind-at sh c low high = kind-back sh (kind c) (keyIn (entryOf c)) low high
+
+-- ---- A sound, busy client
+-- the key's part of the test, as the two tests that it stands for
 pub key-tests : (sh : Shape) (c : Client)
     → not (same (keyIn (entryOf c)) (keyOf (workAt sh c))) ≡ not (isKey sh (keyIn (entryOf c))) || (eqb (kind c) inserts && not (namesAll (queryAt sh c)))
 unfolding workAt queryAt
 key-tests sh c = key-same sh (kind c) (keyIn (entryOf c))
 
-pub busy-of : (sh : Shape) (c : Client) → isBad narrow sh c ≡ false → isIdle narrow c ≡ false → Busy sh c
-unfolding isBad isLong
-busy-of sh c h e =
+pub busy-of : (sh : Shape) (c : Client) → 1 ≤ sh .columns → sh .columns ≤ maxColumns → length c ≡ clientWidth narrow
+    → isBad narrow sh c ≡ false → isIdle narrow c ≡ false → Busy narrow sh c (workAt sh c)
+unfolding isBad
+busy-of sh c least most wide h e =
     let a = or-false _ _ (rw e at h) in
     let b = or-false _ _ (a .0) in
     let y = or-false _ _ (a .1) in
-    let z = or-false _ _ (sym (key-tests sh c) ∙ y .0) in
     let w = or-false _ _ (y .1) in
     let n = eqb-false (kind c) 0 (b .0) in
     record {
-      low = omega arith;
-      high = ltb-false deletes (kind c) (b .1);
-      key = not-false _ (z .0);
-      names = named-all (kind c) (namesAll (queryAt sh c)) (z .1);
+      least = least;
+      most = most;
+      wide = wide;
+      work = refl;
+      kind = sym (kind-at sh c (omega arith) (ltb-false deletes (kind c) (b .1)));
+      key = same-eq _ _ (not-false _ (y .0));
       going = leb-false _ _ (w .0);
-      short = ltb-false maxList (lengthIn (entryOf c)) (w .1);
+      short = w .1;
     }
 
-names-off : (sh : Shape) (c : Client) → Busy sh c → (eqb (kind c) inserts && not (namesAll (queryAt sh c))) ≡ false
-names-off sh c b = byTest (eqb (kind c) inserts) (λ e. rw (e, b .names (eqb-true (kind c) inserts e))) (λ e. rw e)
-
-pub busy-sound : (sh : Shape) (c : Client) → Busy sh c → isBad narrow sh c ≡ false
-unfolding isBad isLong
-busy-sound sh c b =
-    let l = b .low in
-    rw (key-tests sh c, ne-eqb (kind c) 0 (λ z. omega arith), le-ltb deletes (kind c) (b .high), b .key, names-off sh c b, lt-leb _ _ (b .going), le-ltb _ _ (b .short))
+pub busy-sound : {sh : Shape} {c : Client} {w : Work} → Busy narrow sh c w → isBad narrow sh c ≡ false
+unfolding isBad
+busy-sound {sh} {c} {w} b =
+    let k = kind-known w in
+    let l = b .kind in
+    rw (
+      ne-eqb (kind c) 0 (λ z. omega (arith, k .0)),
+      le-ltb deletes (kind c) (omega (arith, k .1)),
+      b .work,
+      b .key,
+      same-refl (keyOf w),
+      lt-leb _ _ (b .going),
+      b .short,
+    )
     (and-false (not (isIdle narrow c)))
+
+-- at most as many records as are listed
+pub busy-short : {sh : Shape} {c : Client} {w : Work} → Busy narrow sh c w → lengthIn (entryOf c) ≤ maxList
+unfolding isLong
+busy-short {sh} {c} {w} b = ltb-false maxList (lengthIn (entryOf c)) (b .short)
+
+-- its key is that of a query of the hall
+pub busy-key : {sh : Shape} {c : Client} {w : Work} → Busy narrow sh c w → isKey sh (keyIn (entryOf c)) ≡ true
+busy-key {sh} {c} {w} b =
+    let e : not (same (keyIn (entryOf c)) (keyOf (workAt sh c))) ≡ false = rw (b .work, b .key, same-refl (keyOf w)) in
+    not-false _ (or-false _ _ (sym (key-tests sh c) ∙ e) .0)
+
+-- what a reader asks
+pub asks-at : {sh : Shape} {c : Client} {x : Ask} → Busy narrow sh c (asking x) → askAt sh c ≡ x
+unfolding kindOf workAt workIn askAt
+asks-at {sh} {c} {x} b = let z = (rw (eq-eqb (kind c) reads (b .kind)) at (b .work)) in cc
+
+-- what a writer writes; it is no reader
+pub no-reader : {sh : Shape} {c : Client} {w : Write} → Busy narrow sh c (writing w) → kind c ≡ reads → ⊥
+unfolding kindOf
+no-reader {sh} {c} {w} b e = let k = change-known (w .change) in let z = b .kind in omega (arith, k .0)
+
+pub writes-at : {sh : Shape} {c : Client} {w : Write} → Busy narrow sh c (writing w) → writeAt sh c ≡ w
+unfolding workAt workIn writeAt
+writes-at {sh} {c} {w} b = let z = (rw (ne-eqb (kind c) reads (no-reader b)) at (b .work)) in cc
+
+-- the query of its key is the one that it reads, or whose subspace it changes
+pub asked-query : {sh : Shape} {c : Client} {x : Ask} → Busy narrow sh c (asking x) → queryAt sh c ≡ x .query
+unfolding askAt askIn queryAt
+asked-query b = ap (λ (y : Ask). y .query) (asks-at b)
+
+pub written-query : {sh : Shape} {c : Client} {w : Write} → Busy narrow sh c (writing w) → queryAt sh c ≡ target (w .change)
+unfolding queryAt keyOf writeAt writeIn
+written-query {sh} {c} {w} b =
+    let l : length (target (w .change)) ≡ sh .columns = rw (← writes-at b) (target-length sh (kind c) (keyIn (entryOf c))) in
+    ap (queryIn sh) (b .key) ∙ query-in-key sh (target (w .change)) l
 
 -- ---- Its work, by the query of its key
 -- how many nodes it has
@@ -91,19 +155,20 @@ steps-at sh c = byTest (eqb (kind c) reads)
     (λ e. rw e (ap (λ (n : ℕ). n + 3) (unfold askAt in looks-at sh c)))
     (λ e. rw e (ap (λ (n : ℕ). n + 1 + n) (unfold writeAt in announcements-at sh c)))
 
--- which they are
-pub read-label-of : (sh : Shape) (c : Client) (i : ℕ) → i < readCount (queryAt sh c) → getD (readLabels (askAt sh c)) i [] ≡ labelWords (readNode (queryAt sh c) i)
-unfolding askAt askIn queryAt
-read-label-of sh c i h = read-label-at (askAt sh c) i (let z = length-readLabels (askAt sh c) in omega arith)
+-- the same of a reader and of a writer, and which they are
+module _ {sh : Shape} {c : Client} {x : Ask} (b : Busy narrow sh c (asking x)) where
+  pub look-count-of : length (readLabels x) ≡ readCount (queryAt sh c)
+  look-count-of = rw (← asks-at b) (looks-at sh c)
 
-pub write-target : (sh : Shape) (c : Client) → Busy sh c → target (writeAt sh c .change) ≡ queryAt sh c
-unfolding writeAt writeIn queryAt
-write-target sh c b = target-in sh (kind c) (keyIn (entryOf c)) (unfold queryAt in b .names)
+  pub read-label-of : (i : ℕ) → i < length (readLabels x) → getD (readLabels x) i [] ≡ labelWords (readNode (queryAt sh c) i)
+  read-label-of i h = read-label-at x i h ∙ ap (λ (q : Query). labelWords (readNode q i)) (sym (asked-query b))
 
-pub write-label-of : (sh : Shape) (c : Client) (i : ℕ) → Busy sh c → i < writeCount (queryAt sh c) → getD (writeLabels (writeAt sh c)) i [] ≡ labelWords (writeNode (queryAt sh c) i)
-write-label-of sh c i b h =
-    write-label-at (writeAt sh c) i (let z = announcements-at sh c in omega arith)
-    ∙ ap (λ (q : Query). labelWords (writeNode q i)) (write-target sh c b)
+module _ {sh : Shape} {c : Client} {w : Write} (b : Busy narrow sh c (writing w)) where
+  pub announcement-count-of : length (writeLabels w) ≡ writeCount (queryAt sh c)
+  announcement-count-of = rw (← writes-at b) (announcements-at sh c)
+
+  pub write-label-of : (i : ℕ) → i < length (writeLabels w) → getD (writeLabels w) i [] ≡ labelWords (writeNode (queryAt sh c) i)
+  write-label-of i h = write-label-at w i h ∙ ap (λ (q : Query). labelWords (writeNode q i)) (sym (written-query b))
 
 pub idle-sound : (sh : Shape) (c : Client) → isIdle narrow c ≡ true → isBad narrow sh c ≡ false
 unfolding isBad

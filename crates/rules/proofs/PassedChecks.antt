@@ -14,21 +14,17 @@ use Rattle.query.specs.Encoding.{queryOf, isQuery, namesAll}
 use Rattle.rules.specs.Layout.{recordCountOffset, nodeCountOffset, answerCountOffset, maxRecords, maxNodes, maxAnswers, maxClients, tableLeast, nodesLeast, answersLeast, clientsLeast, trayLeast}
 use Rattle.rules.specs.Nodes.{isWorn, pending}
 use Rattle.rules.specs.Answers.{someLong}
-use Rattle.rules.specs.Client.{kind, steps, isIdle, isBad, writeAt}
-use Rattle.rules.specs.Work.{writeLabels, Request, readOf, insertOf, deleteOf, isWrite, faultOf}
+use Rattle.rules.specs.Client.{kind, steps, isIdle, isBad, writeAt, workAt}
+use Rattle.rules.specs.Work.{Write, writing, writeLabels, Request, readOf, insertOf, deleteOf, isWrite, faultOf}
 use Rattle.rules.specs.Layout.{reads, refusedColumns}
 use Rattle.rules.specs.Memory.{Mem, storeIn, answersIn}
 use Rattle.query.specs.Shape.{Shape, narrow, shapeOf, maxColumns}
+use Rattle.rules.specs.Sound.{Long, Sound, Busy}
+use Rattle.rules.proofs.ClientLaws.{busy-of, client-wide, no-reader, writes-at}
 use Rattle.rules.specs.Refusals.{shape}
 use Rattle.rules.specs.Refusals.{columns, client, isShort, badColumns, isUnsound, noClient, isCommitted, allIdle, openCode, atClient, beginCode, stepCode, abandonCode, evictAnswerCode, evictNodeCode, renewCode}
 
 -- ---- Memories that are long
-pub record Long (m : Mem) : Type 0 where
-  pub table : tableLeast ≤ length (m .table)
-  pub nodes : nodesLeast narrow ≤ length (m .nodes)
-  pub answers : answersLeast narrow (shape m) ≤ length (m .answers)
-  pub clients : clientsLeast narrow (shape m) ≤ length (m .clients)
-
 pub long : (sh : Shape) (m : Mem) → isShort narrow sh m ≡ false → Long m
 unfolding isShort
 long sh m e =
@@ -51,15 +47,6 @@ open-passed m k e =
     (long (shapeOf k) m (p .0), columns-passed k (passed (badColumns k) 1 0 (p .1) .0))
 
 -- ---- And sound
-pub record Sound (m : Mem) : Type 0 where
-  pub long : Long m
-  pub least : 1 ≤ columns m
-  pub most : columns m ≤ maxColumns
-  pub records : getD (m .table) recordCountOffset 0 ≤ maxRecords
-  pub nodes : getD (m .nodes) nodeCountOffset 0 ≤ maxNodes
-  pub answers : getD (m .answers) answerCountOffset 0 ≤ maxAnswers
-  pub lists : someLong (answersIn narrow (m .answers)) ≡ false
-
 pub sound : (m : Mem) → isShort narrow (shape m) m ≡ false → isUnsound m ≡ false → Sound m
 unfolding isUnsound
 sound m s e =
@@ -79,24 +66,25 @@ sound m s e =
     }
 
 -- ---- A busy client
-pub record Busy (m : Mem) (d : ℕ) : Type 0 where
-  pub memories : Sound m
-  pub below : d < maxClients
-  pub fine : isBad narrow (shape m) (client m d) ≡ false
-  pub busy : isIdle narrow (client m d) ≡ false
-
 client-passed : (d : ℕ) → noClient d ≡ false → d < maxClients
 unfolding noClient
 client-passed d e = leb-false _ _ e
 
-pub busy-passed : (m : Mem) (d : ℕ) → isShort narrow (shape m) m ≡ false → atClient m d ≡ 0 → Busy m d
-unfolding atClient
+-- what the call finds: the memories, the client's number and the client
+abbrev pub AtWork : Mem → ℕ → Type 0
+AtWork m d = Sound m × (d < maxClients) × Busy narrow (shape m) (client m d) (workAt (shape m) (client m d))
+
+pub busy-passed : (m : Mem) (d : ℕ) → isShort narrow (shape m) m ≡ false → atClient m d ≡ 0 → AtWork m d
+unfolding atClient client
 busy-passed m d s e =
     let p3 = passed (isUnsound m) 2 _ e in
     let p4 = passed (noClient d) 3 _ (p3 .1) in
     let p5 = passed (isBad narrow (shape m) (client m d)) 2 _ (p4 .1) in
     let p6 = passed (isIdle narrow (client m d)) 5 0 (p5 .1) in
-    record { memories = sound m s (p3 .0); below = client-passed d (p4 .0); fine = p5 .0; busy = p6 .0 }
+    let good = sound m s (p3 .0) in
+    let low = client-passed d (p4 .0) in
+    let wide = client-wide (m .clients) d (let z = good .long .clients in omega arith) in
+    (good, low, busy-of (shape m) (client m d) (good .least) (good .most) wide (p5 .0) (p6 .0))
 
 -- an idle client is found in sound memories alone
 pub idle-passed : (m : Mem) (d : ℕ) → isShort narrow (shape m) m ≡ false → atClient m d ≡ 6 → Sound m
@@ -108,7 +96,7 @@ idle-passed m d s e = sound m s (go (isUnsound m) _ e)
     go false rest f = refl
 
 -- the tray has room, and the client is busy
-pub step-passed : (m : Mem) (tray : List ℕ) (d : ℕ) → stepCode m tray d ≡ 0 → (trayLeast ≤ length tray) × Busy m d
+pub step-passed : (m : Mem) (tray : List ℕ) (d : ℕ) → stepCode m tray d ≡ 0 → (trayLeast ≤ length tray) × AtWork m d
 unfolding stepCode
 step-passed m tray d e =
     let p = passed (isShort narrow (shape m) m || ltb (length tray) trayLeast) 0 _ e in
@@ -123,7 +111,7 @@ code-passed n rest e = go (eqb n 0) refl e
     go true q f = (eqb-true n 0 q, f)
     go false q f = absurd (eqb-false n 0 q f)
 
-pub abandon-passed : (m : Mem) (d : ℕ) → abandonCode m d ≡ 0 → Busy m d × (isCommitted (shape m) (client m d) ≡ false)
+pub abandon-passed : (m : Mem) (d : ℕ) → abandonCode m d ≡ 0 → AtWork m d × (isCommitted (shape m) (client m d) ≡ false)
 unfolding abandonCode
 abandon-passed m d e =
     let p = passed (isShort narrow (shape m) m) 0 _ e in
@@ -131,10 +119,10 @@ abandon-passed m d e =
     (busy-passed m d (p .0) (q .0), passed (isCommitted (shape m) (client m d)) 6 0 (q .1) .0)
 
 -- a write that is not committed has made no more steps than it has nodes to mark
-pub steps-before : (m : Mem) (d : ℕ) → isCommitted (shape m) (client m d) ≡ false → (kind (client m d) ≡ reads → ⊥)
-    → steps (client m d) ≤ length (writeLabels (writeAt (shape m) (client m d)))
+pub steps-before : (m : Mem) (d : ℕ) (w : Write) → Busy narrow (shape m) (client m d) (writing w) → isCommitted (shape m) (client m d) ≡ false
+    → steps (client m d) ≤ length (writeLabels w)
 unfolding isCommitted
-steps-before m d e ne = ltb-false _ _ (rw (ne-eqb (kind (client m d)) reads ne) at e)
+steps-before m d w b e = rw (← writes-at b) (ltb-false _ _ (rw (ne-eqb (kind (client m d)) reads (no-reader b)) at e))
 
 -- ---- Begins
 pub record Begins (m : Mem) (d : ℕ) (r : Request) : Type 0 where

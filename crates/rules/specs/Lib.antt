@@ -7,6 +7,7 @@ pub mod Client
 pub mod Memory
 pub mod Outcome
 pub mod Refusals
+pub mod Sound
 pub mod Steps
 pub mod Calls
 pub mod History

@@ -54,12 +54,12 @@ fn begin(
     let client = call.client;
     let n = compare::least(call.length as usize, asked.len());
     if kind == 1 {
-        return requests::begin_read(table, nodes, answers, desks, client, &asked[..n]);
+        return calls::begins::begin_read(table, nodes, answers, desks, client, &asked[..n]);
     }
     if kind == 2 {
-        return requests::begin_insert(table, nodes, answers, desks, client, &asked[..n]);
+        return calls::begins::begin_insert(table, nodes, answers, desks, client, &asked[..n]);
     }
-    requests::begin_delete(table, nodes, answers, desks, client, &asked[..n])
+    calls::begins::begin_delete(table, nodes, answers, desks, client, &asked[..n])
 }
 
 fn evict(
@@ -71,9 +71,9 @@ fn evict(
     place: u32,
 ) -> Outcome {
     if kind == 6 {
-        return requests::evict_answer(table, nodes, answers, desks, place);
+        return calls::upkeep::evict_answer(table, nodes, answers, desks, place);
     }
-    requests::evict_node(table, nodes, answers, desks, place)
+    calls::upkeep::evict_node(table, nodes, answers, desks, place)
 }
 
 fn other(
@@ -86,15 +86,15 @@ fn other(
     place: u32,
 ) -> Outcome {
     if kind == 5 {
-        return steps::abandon(table, nodes, answers, desks, client);
+        return calls::desks::abandon(table, nodes, answers, desks, client);
     }
     if kind < 8 {
         return evict(table, nodes, answers, desks, kind, place);
     }
     if kind == 8 {
-        return requests::renew(table, nodes, answers, desks);
+        return calls::upkeep::renew(table, nodes, answers, desks);
     }
-    hall::Hall::open(table, nodes, answers, desks, place)
+    calls::opening::open(table, nodes, answers, desks, place)
 }
 
 fn called(
@@ -112,7 +112,7 @@ fn called(
         return begin(table, nodes, answers, desks, call, &asked);
     }
     if kind == 4 {
-        return steps::step(table, nodes, answers, desks, tray, client);
+        return calls::desks::step(table, nodes, answers, desks, tray, client);
     }
     other(table, nodes, answers, desks, kind, client, call.place)
 }

@@ -1,2 +1,3 @@
 pub mod WriteSteps
 pub mod Retiring
+pub mod PassedWrite

@@ -4,20 +4,20 @@ use mathlib.Core.Path.{_≡_, refl, sym, ap, ap₂, subst, _∙_}
 use mathlib.Core.Bool.{Bool, true, false, cond, not, _&&_, _||_}
 use mathlib.Core.List.{List, [], _∷_, _++_}
 use mathlib.Core.Option.{Option, none, some}
-use Prim.Native.Nat.{ℕ, zero, suc, _+_, _-_, _^_, _≤_, _<_}
+use Prim.Native.Nat.{ℕ, zero, suc, _+_, _-_, _≤_, _<_}
 use native.Mathlib.Numerals.{add-one}
 use native.Mathlib.Omega.{arith}
 use lib.Dec.{ltb}
-use lib.ListN.{length, getD, take, drop, set, length-set, length-take, drop-of-length-le}
+use lib.ListN.{length, getD, take, drop, set, length-set, drop-of-length-le}
 use lib.Seq.{drop-cons, take-suc-set}
 use borrow.Author.Tests.{ltb-true}
 use Rattle.lists.specs.Lists.{same, listed}
 use Rattle.laws.proofs.ListLaws.{ne-same, and-left, and-right, listed-snoc}
-use Rattle.query.specs.declared.Column.{Column}
 use Rattle.query.specs.Query.{Query, writeNode, writeCount}
+use Rattle.query.specs.Encoding.{columnsIn}
 use Rattle.query.specs.Shape.{maxColumns, narrow}
-use Rattle.query.proofs.NodeLists.{write-nodes-differ}
-use Rattle.query.proofs.EncodingLaws.{label-words-injective}
+use Rattle.query.proofs.NodeLists.{write-count-most, write-nodes-differ}
+use Rattle.query.proofs.EncodingLaws.{columns-length, label-words-injective}
 use Rattle.rules.specs.Layout.{maxRevision, lookRoom}
 use Rattle.rules.specs.Nodes.{Words, Store, pending, revision, nodePlace, isPresent, nodeOf, isPending}
 use Rattle.rules.specs.Nodes.{released, lifted, mayRetire, retired}
@@ -31,7 +31,6 @@ use Rattle.nodes.proofs.NodeSizes.{place-retired, retired-at, length-retired-at
 use Rattle.nodes.proofs.NodesKept.{keeps-retired-at}
 use Rattle.revisions.specs.EffectiveRevision.{one, tally}
 use Rattle.revisions.proofs.Retirements.{Apart, allRetirable, retiredEach, retired-tests}
-use Rattle.clients.proofs.ClientSound.{power-small}
 use Rattle.writing.specs.WriteContracts.{labelAt, labelsFrom, isFound, placesOf, takenOff, CanRetire, CanTakeOff}
 
 -- the labels from number j on, of the n from number i on
@@ -151,11 +150,10 @@ pub kept-all : (q : Query) (i : ℕ) (s : Store) (l₀ l : List ℕ) (j n : ℕ)
 kept-all q i s l₀ l j n x e = rw (← e) (x .are)
 
 -- at most 16 nodes
-pub few-nodes : (k : ℕ) (cols : List Column) (n : ℕ) → n ≤ writeCount (take k cols) → k ≤ maxColumns → n ≤ lookRoom
-unfolding writeCount
-few-nodes k cols n e h =
-    let l : length (take k cols) ≤ maxColumns = rw length-take (omega arith) in
-    let m : 2 ^ length (take k cols) ≤ lookRoom = power-small (length (take k cols)) (2 ^ length (take k cols)) refl l in
+pub few-nodes : (k m : ℕ) (vs : List ℕ) (n : ℕ) → n ≤ writeCount (columnsIn k m vs) → k ≤ maxColumns → n ≤ lookRoom
+few-nodes k m vs n e l =
+    let w : length (columnsIn k m vs) ≡ k = columns-length k m vs in
+    let most : writeCount (columnsIn k m vs) ≤ lookRoom = write-count-most (columnsIn k m vs) (omega arith) in
     omega arith
 
 -- ---- one taken off each

@@ -1,168 +1,158 @@
--- Laws of a write's steps: what a passed check tells of the client, and what each step leaves, in the terms of the code.
+-- Laws of a write's steps: what is known of a writer, and what each step leaves, in the terms of the code.
 -- Leans on rules and on the laws of clients, nodes, table and columns. Assumes nothing.
 use mathlib.Core.Path.{_≡_, refl, sym, ap, _∙_}
 use mathlib.Core.Bool.{Bool, true, false, cond, not}
-use mathlib.Core.List.{List, [], _∷_}
+use mathlib.Core.List.{List, [], _∷_, map}
 use mathlib.Core.Option.{Option, some}
 use Prim.Native.Nat.{ℕ, zero, suc, _+_, _-_, _^_, _≤_, _<_}
 use native.Mathlib.Omega.{arith}
 use lib.Dec.{eqb}
-use lib.ListN.{length, getD, take, drop}
-use lib.Seq.{length-take-le, drop-cons}
+use lib.ListN.{length, getD, take, drop, length-map}
+use lib.Seq.{drop-cons, take-take}
 use borrow.Author.Tests.{eq-eqb, ne-eqb, lt-ltb, le-ltb}
+use Rattle.lists.specs.Lists.{listed, padded}
+use Rattle.laws.proofs.ListLaws.{same-eq, take-padded}
 use Rattle.query.specs.declared.Column.{Column}
 use Rattle.query.specs.declared.Column.the-variants.{Is, Wildcard}
 use Rattle.query.specs.Query.{Query, Record, writeCount}
-use Rattle.query.specs.Encoding.{namesAll, recordOf}
+use Rattle.query.specs.Encoding.{recordOf, columnValue, keyWords, queryIn, isKey}
+use Rattle.query.specs.Shape.{Shape, maxColumns, narrow}
+use Rattle.query.proofs.EncodingLaws.{columns-length, query-in-length}
 use Rattle.rules.specs.declared.Outcome.{Outcome}
 use Rattle.rules.specs.declared.Outcome.the-variants.{Refused, Accepted, Ended, Full}
+use Rattle.rules.specs.Layout.{maxList, lookRoom}
 use Rattle.rules.specs.Table.{Change, insert, delete, effect}
 use Rattle.rules.specs.Nodes.{Words, Store, announced, retired}
 use Rattle.rules.specs.Work.{Write, writeLabels, writeIn, changeIn, stepsInAll}
-use Rattle.rules.specs.Client.{Client, kind, didChange, foundFull, idle, queryAt, writeAt, workAt, stepped, wrote}
-use Rattle.query.specs.Shape.{Shape, shapeOf, maxColumns, narrow}
-use Rattle.rules.specs.Layout.{maxList, lookRoom, inserts}
+use Rattle.rules.specs.Answers.{keyIn}
+use Rattle.rules.specs.Client.{Client, entryOf, didChange, foundFull, idle, queryAt, writeAt, stepped, wrote}
 use Rattle.rules.specs.Memory.{shapeIn, Mem, mem, recordsIn, withRecords, storeIn, withStore, clientIn, withClient}
 use Rattle.rules.specs.Outcome.{result, resultWith}
-use Rattle.rules.specs.Refusals.{columns, client}
+use Rattle.rules.specs.Refusals.{client}
 use Rattle.rules.specs.Steps.{nowAt, storeBack, announceResult, writeTableResult, endOf, raiseResult, writeResult}
 use Rattle.rules.specs.Calls.{releaseResult}
-use Rattle.rules.proofs.ClientLaws.{Busy, busy-of, announcements-at, steps-at, write-label-of}
-use Rattle.lists.specs.Lists.{listed, padded}
-use Rattle.laws.proofs.ListLaws.{length-padded, take-padded}
-use Rattle.columns.specs.declared.Taken.{Taken}
-use Rattle.columns.specs.ColumnContracts.{four, takenOf}
-use Rattle.columns.proofs.ColumnLoops.{taken-whole}
+use Rattle.rules.proofs.ClientLaws.{busy-key, announcement-count-of}
+use Rattle.columns.specs.ColumnContracts.{four}
+use Rattle.columns.proofs.ColumnLoops.{four-back}
 use Rattle.table.specs.declared.Inserted.{Inserted}
 use Rattle.table.specs.TableContracts
 use Rattle.table.specs.TableContracts.{insertedAs, isAdded, hadNoRoom, gone}
 use Rattle.table.proofs.TableLists.{added-changes, full-noRoom, gone-changes, delete-noRoom}
 use Rattle.nodes.specs.NodeContracts.{attempt, tried}
 use Rattle.nodes.proofs.NodePresent.{Went, went-well, went-not}
-use Rattle.clients.proofs.ClientSound.{Sound, sound-client, columns-back, length-query, power-small}
+use Rattle.clients.specs.declared.Held.{Held}
+use Rattle.clients.specs.ClientContracts.{heldQuery, writtenAt, Writer}
+use Rattle.clients.proofs.HeldLaws.{at-query, writer-announcements, writer-few, writer-label}
 use Rattle.writing.specs.declared.Report.{Report}
-use Rattle.writing.specs.WriteContracts.{Writer, stepAt, labelsAt, countAt, changeOf, report, reported}
+use Rattle.writing.specs.WriteContracts.{stepAt, labelsAt, countAt, heldChange, report, reported}
 use Rattle.writing.specs.WriteContracts.{raiseEnd, raiseLeft, labelAt, labelsFrom}
 
 -- ---- a part of a list, number by number
-listed-part : {A : Type 0} (f : ℕ → A) (l : List A) (d : A) → ((i : ℕ) → i < length l → getD l i d ≡ f i) → (i n : ℕ) → i + n ≤ length l
+listed-part : {A : Type 0} (f : ℕ → A) (l : List A) (d : A) → ((i : ℕ) → i < length l → f i ≡ getD l i d) → (i n : ℕ) → i + n ≤ length l
     → listed f i n ≡ take n (drop i l)
 unfolding listed
 listed-part f l d e i zero h = refl
 listed-part f l d e i (suc n) h =
     rw (drop-cons l i d (omega arith), e i (omega arith), listed-part f l d e (suc i) n (omega arith))
 
--- ---- what a passed check tells
-last-of-write : (sh : Shape) (c : Client) → (kind c ≡ 1 → ⊥)
-    → stepsInAll (workAt sh c) ≡ length (writeLabels (writeAt sh c)) + 1 + length (writeLabels (writeAt sh c))
-last-of-write sh c h = steps-at sh c ∙ rw (ne-eqb (kind c) 1 h, announcements-at sh c)
+-- ---- an insert's record stands in its key
+-- a query that names every column has its values for a record
+record-values : (q : Query) → map columnValue q ≡ recordOf q
+unfolding columnValue recordOf
+record-values [] = refl
+record-values (Is v ∷ q) = ap (λ (l : Record). v ∷ l) (record-values q)
+record-values (Wildcard ∷ q) = ap (λ (l : Record). 0 ∷ l) (record-values q)
 
-count-power : (q : Query) (k : ℕ) → length q ≡ k → writeCount q ≡ 2 ^ k
-unfolding writeCount
-count-power q k e = ap (λ (n : ℕ). 2 ^ n) e
+key-record : (q : Query) → length q ≤ maxColumns → take (length q) (take maxColumns (drop 1 (keyWords q))) ≡ recordOf q
+unfolding keyWords
+key-record q l =
+    let n : length (map columnValue q) ≡ length q = length-map q columnValue in
+    take-take (length q) maxColumns (padded 6 (map columnValue q)) l
+    ∙ ap (λ (m : ℕ). take m (padded 6 (map columnValue q))) (sym n)
+    ∙ take-padded 6 (map columnValue q)
+    ∙ record-values q
 
-module _ (s : List ℕ) (d k : ℕ) (w : Writer s d k) where
-  sound : Sound k (clientIn narrow s d)
-  sound = sound-client k (clientIn narrow s d) (w .most) (w .sound) (w .busy)
+record-in : (sh : Shape) (key : List ℕ) → sh .columns ≤ maxColumns → isKey sh key ≡ true
+    → take (sh .columns) (take maxColumns (drop 1 key)) ≡ recordOf (queryIn sh key)
+unfolding isKey
+record-in sh key l e =
+    let n : length (queryIn sh key) ≡ sh .columns = query-in-length sh key in
+    let f : key ≡ keyWords (queryIn sh key) = same-eq key _ e in
+    ap (λ (x : List ℕ). take (sh .columns) (take maxColumns (drop 1 x))) f
+    ∙ ap (λ (m : ℕ). take m (take maxColumns (drop 1 (keyWords (queryIn sh key))))) (sym n)
+    ∙ key-record (queryIn sh key) (omega arith)
 
-  busy : Busy (shapeOf k) (clientIn narrow s d)
-  busy = busy-of (shapeOf k) (clientIn narrow s d) (w .sound) (w .busy)
-
-  -- a write has 2^k nodes, at most 16, and has not made its last step yet
-  count-is : countAt k s d ≡ 2 ^ k
-  count-is =
-      announcements-at (shapeOf k) (clientIn narrow s d)
-      ∙ count-power (queryAt (shapeOf k) (clientIn narrow s d)) k (length-query k (clientIn narrow s d))
-
-  count-small : countAt k s d ≤ lookRoom
-  count-small = power-small k (countAt k s d) count-is (w .most)
-
-  step-most : stepAt s d ≤ countAt k s d + countAt k s d
-  step-most =
-      let a : stepAt s d < stepsInAll (workAt (shapeOf k) (clientIn narrow s d)) = sound .step in
-      let b = last-of-write (shapeOf k) (clientIn narrow s d) (w .writes) in
-      omega arith
-
-  pub step-small : stepAt s d ≤ maxList
-  step-small = omega (arith, step-most, count-small)
-
-  -- the count that the code reads
-  pub power-count : (p : ℕ) → p ≡ 2 ^ k → p ≡ countAt k s d
-  power-count p e = e ∙ sym count-is
-
-  module _ (cols : List Column) (f : cols ≡ four (queryAt (shapeOf k) (clientIn narrow s d))) where
-    -- an insert names every column
-    pub names-all : (x : ℕ) → x ≡ kind (clientIn narrow s d) → x ≡ inserts → namesAll (take k cols) ≡ true
-    names-all x e h = ap namesAll (columns-back k (clientIn narrow s d) cols f) ∙ sound .names (sym e ∙ h)
-
-    -- the nodes that the code's columns have are as many as the write's
-    count-of : writeCount (take k cols) ≡ countAt k s d
-    count-of = ap writeCount (columns-back k (clientIn narrow s d) cols f) ∙ sym (announcements-at (shapeOf k) (clientIn narrow s d))
-
-    -- and have its labels
-    label-is : (i : ℕ) → i < countAt k s d → getD (labelsAt k s d) i [] ≡ labelAt (take k cols) i
-    label-is i h =
-        let n = announcements-at (shapeOf k) (clientIn narrow s d) in
-        rw (columns-back k (clientIn narrow s d) cols f) (write-label-of (shapeOf k) (clientIn narrow s d) i busy (omega arith))
-
-    labels-are : (i n : ℕ) → i + n ≤ countAt k s d → labelsFrom (take k cols) i n ≡ take n (drop i (labelsAt k s d))
-    unfolding labelsFrom
-    labels-are i n h = listed-part (labelAt (take k cols)) (labelsAt k s d) [] label-is i n h
-
--- ---- what the code reads for a step, in the terms of the client's write: its columns, how many steps it has made, how many nodes it has
--- a mark, with the label of its node
-pub record Announce (s : List ℕ) (d k : ℕ) (p : Words) : Type 0 where
-  pub small : stepAt s d ≤ maxList
-  pub among : stepAt s d < countAt k s d
-  pub label : p ≡ getD (labelsAt k s d) (stepAt s d) []
-
+-- ---- what is known of a writer
 -- a raise, with the label of its node, and whether it is the last
-pub record Raise (s : List ℕ) (d k : ℕ) (cols : List Column) (made count : ℕ) : Type 0 where
-  pub past : countAt k s d < stepAt s d
+pub record Raise (h : Held) (s : List ℕ) (d count : ℕ) : Type 0 where
+  pub past : countAt s d < stepAt s d
   pub small : stepAt s d ≤ maxList
-  pub above : count + 1 ≤ made
+  pub above : count + 1 ≤ h .steps
   pub room : count + count ≤ maxList
-  pub fits : made - (count + 1) + 1 ≤ writeCount (take k cols)
-  pub label : labelsFrom (take k cols) (made - (count + 1)) 1 ≡ getD (labelsAt k s d) (stepAt s d - (countAt k s d + 1)) [] ∷ []
-  pub last : eqb made (count + count) ≡ eqb (stepAt s d) (countAt k s d + countAt k s d)
+  pub fits : h .steps - (count + 1) + 1 ≤ writeCount (heldQuery h)
+  pub label : labelsFrom (heldQuery h) (h .steps - (count + 1)) 1 ≡ getD (labelsAt s d) (stepAt s d - (countAt s d + 1)) [] ∷ []
+  pub last : eqb (h .steps) (count + count) ≡ eqb (stepAt s d) (countAt s d + countAt s d)
 
 -- a taking back, with the labels of the nodes that are marked
-pub record Release (s : List ℕ) (d k : ℕ) (cols : List Column) (made : ℕ) : Type 0 where
-  pub fits : 0 + made ≤ writeCount (take k cols)
-  pub labels : labelsFrom (take k cols) 0 made ≡ take (stepAt s d) (labelsAt k s d)
+pub record Release (h : Held) (s : List ℕ) (d : ℕ) : Type 0 where
+  pub fits : 0 + h .steps ≤ writeCount (heldQuery h)
+  pub labels : labelsFrom (heldQuery h) 0 (h .steps) ≡ take (stepAt s d) (labelsAt s d)
 
-module _
-    (s : List ℕ) (d k : ℕ) (w : Writer s d k) (cols : List Column) (f : cols ≡ four (queryAt (shapeOf k) (clientIn narrow s d)))
-    (made : ℕ) (e : made ≡ stepAt s d) where
-  pub announce-read : (p : Words) → p ≡ labelAt (take k cols) made → stepAt s d < countAt k s d → Announce s d k p
-  announce-read p g h = record {
-    small = step-small s d k w;
-    among = h;
-    label = g ∙ ap (labelAt (take k cols)) e ∙ sym (label-is s d k w cols f (stepAt s d) h);
-  }
+module _ {h : Held} {s : List ℕ} {d : ℕ} (w : Writer h s d) where
+  -- it has not made its last step yet
+  step-most : stepAt s d ≤ countAt s d + countAt s d
+  unfolding stepsInAll
+  step-most = let g = w .busy .going in omega arith
 
-  pub raise-read : (count : ℕ) → count ≡ 2 ^ k → countAt k s d < stepAt s d → Raise s d k cols made count
-  raise-read count g h =
-      let c : count ≡ countAt k s d = power-count s d k w count g in
-      let n : writeCount (take k cols) ≡ countAt k s d = count-of s d k w cols f in
-      let l : countAt k s d ≤ lookRoom = count-small s d k w in
-      let m : stepAt s d ≤ countAt k s d + countAt k s d = step-most s d k w in
-      let i : ℕ = stepAt s d - (countAt k s d + 1) in
-      let j : i < countAt k s d = omega arith in
+  pub step-small : stepAt s d ≤ maxList
+  step-small = omega (arith, step-most, writer-few w)
+
+  -- what it does to the table
+  record-held : take (h .columns) (h .values) ≡ recordOf (queryAt (shapeIn s) (clientIn narrow s d))
+  unfolding queryAt
+  record-held =
+      rw (w .held .columns, w .held .values) (record-in (shapeIn s) (keyIn (entryOf (clientIn narrow s d))) (w .busy .most) (busy-key (w .busy)))
+
+  pub held-change : heldChange h ≡ writtenAt s d .change
+  unfolding heldChange writeAt writeIn changeIn queryAt
+  held-change = rw (w .held .kind, record-held, at-query w)
+
+  -- its nodes by what was read: as many, and with the same labels
+  count-held : writeCount (heldQuery h) ≡ countAt s d
+  count-held = ap writeCount (at-query w) ∙ sym (announcement-count-of (w .busy))
+
+  labels-held : (i n : ℕ) → i + n ≤ countAt s d → labelsFrom (heldQuery h) i n ≡ take n (drop i (labelsAt s d))
+  unfolding labelsFrom
+  labels-held i n l = listed-part (labelAt (heldQuery h)) (labelsAt s d) [] (writer-label w) i n l
+
+  -- the label of the mark that is due
+  pub announce-label : (p : Words) → p ≡ labelAt (heldQuery h) (h .steps) → stepAt s d < countAt s d → p ≡ getD (labelsAt s d) (stepAt s d) []
+  announce-label p g l = g ∙ ap (labelAt (heldQuery h)) (w .held .steps) ∙ writer-label w (stepAt s d) l
+
+  pub raise-read : (count : ℕ) → count ≡ 2 ^ h .columns → countAt s d < stepAt s d → Raise h s d count
+  raise-read count g past =
+      let c : count ≡ countAt s d = writer-announcements w count g in
+      let e : h .steps ≡ stepAt s d = w .held .steps in
+      let n : writeCount (heldQuery h) ≡ countAt s d = count-held in
+      let l : countAt s d ≤ lookRoom = writer-few w in
+      let m : stepAt s d ≤ countAt s d + countAt s d = step-most in
+      let i : ℕ = stepAt s d - (countAt s d + 1) in
+      let j : i < countAt s d = omega arith in
       record {
-        past = h;
-        small = step-small s d k w;
+        past = past;
+        small = step-small;
         above = omega arith;
         room = omega arith;
         fits = omega arith;
-        label = rw (e, c) (labels-are s d k w cols f i 1 (omega arith) ∙ ap (take 1) (drop-cons (labelsAt k s d) i [] j));
+        label = rw (e, c) (labels-held i 1 (omega arith) ∙ ap (take 1) (drop-cons (labelsAt s d) i [] j));
         last = rw (e, c);
       }
 
-  pub release-read : stepAt s d ≤ countAt k s d → Release s d k cols made
-  release-read h =
-      let n : writeCount (take k cols) ≡ countAt k s d = count-of s d k w cols f in
-      record { fits = omega arith; labels = rw e (labels-are s d k w cols f 0 (stepAt s d) (omega arith)) }
+  pub release-read : stepAt s d ≤ countAt s d → Release h s d
+  release-read l =
+      let n : writeCount (heldQuery h) ≡ countAt s d = count-held in
+      let e : h .steps ≡ stepAt s d = w .held .steps in
+      record { fits = omega arith; labels = rw e (labels-held 0 (stepAt s d) (omega arith)) }
 
 -- ---- the steps
 module _ (t n a s y : List ℕ) (d : ℕ) (w : Write) (i : ℕ) (u : List ℕ) (st : Store) (v : List ℕ) where
@@ -257,59 +247,37 @@ table-done t n a s y d k w c i x v r h e f l m =
     rw (le-ltb i (length (writeLabels w)) (omega arith), eq-eqb i (length (writeLabels w)) h, ← e, m, l .0, l .1, f)
 
 -- ---- the table's change
--- a client's change, by the kind and the columns that the code reads
-change-at : (sh : Shape) (c : Client) → changeOf (kind c) (queryAt sh c) ≡ writeAt sh c .change
-unfolding changeOf writeAt writeIn changeIn queryAt
-change-at sh c = refl
+pub fit-wide : {n k : ℕ} {t : List ℕ} → n ≡ k → TableContracts.Fit k t → TableContracts.Fit n t
+fit-wide e f = rw e f
 
-pub change-is : (k : ℕ) (c : Client) (x : ℕ) (cols : List Column) → x ≡ kind c → cols ≡ four (queryAt (shapeOf k) c)
-    → changeOf x (take k cols) ≡ writeAt (shapeOf k) c .change
-change-is k c x cols e f = rw (columns-back k c cols f, e) (change-at (shapeOf k) c)
-
-length-record : (q : Query) → length (recordOf q) ≡ length q
-unfolding recordOf
-length-record [] = refl
-length-record (Is v ∷ q) = ap suc (length-record q)
-length-record (Wildcard ∷ q) = ap suc (length-record q)
-
--- what an insert takes of the columns is its record, of k numbers
-pub record Values (cols : List Column) (k : ℕ) (values : List ℕ) : Type 0 where
-  pub is : take k values ≡ recordOf (take k cols)
-  pub wide : length (recordOf (take k cols)) ≡ k
-  pub part : length (take k values) ≡ k
-  pub room : k ≤ length values
-
-pub values-are : (cols : List Column) (k : ℕ) (r : Taken) → r ≡ takenOf (take k cols) → namesAll (take k cols) ≡ true → k ≤ length cols → k ≤ maxColumns → Values cols k (r .values)
-values-are cols k r e h l m =
-    let rec : Record = recordOf (take k cols) in
-    let n : length rec ≡ k = length-record (take k cols) ∙ length-take-le k cols l in
-    let v : r .values ≡ padded 4 rec = ap (λ (x : Taken). x .values) (e ∙ taken-whole (take k cols) h) in
-    let f : take k (r .values) ≡ rec = ap (take k) v ∙ ap (λ (x : ℕ). take x (padded 4 rec)) (sym n) ∙ take-padded 4 rec in
-    let w : length (r .values) ≡ 4 = ap length v ∙ length-padded 4 rec (omega arith) in
-    record { is = f; wide = n; part = ap length f ∙ n; room = omega arith }
-
-pub fit-wide : (n k : ℕ) (t : List ℕ) → n ≡ k → TableContracts.Fit k t → TableContracts.Fit n t
-fit-wide n k t e f = rw e f
-
-pub said-insert : (rec r : Record) (k : ℕ) (t u : List ℕ) (x z : Inserted) → rec ≡ r → length r ≡ k
-    → (x ≡ insertedAs rec (recordsIn (length rec) t)) × (u ≡ withRecords (length rec) t (effect (insert rec) (recordsIn (length rec) t))) → x ≡ z
+pub said-insert : (r : Record) (k : ℕ) (t u : List ℕ) (x z : Inserted) → length r ≡ k
+    → (x ≡ insertedAs r (recordsIn (length r) t)) × (u ≡ withRecords (length r) t (effect (insert r) (recordsIn (length r) t))) → x ≡ z
     → (report (isAdded z) (hadNoRoom z) ≡ reported (insert r) (recordsIn k t)) × (u ≡ withRecords k t (effect (insert r) (recordsIn k t)))
 unfolding reported
-said-insert rec r k t u x z e l f g =
-    (rw (added-changes r (recordsIn k t), full-noRoom r (recordsIn k t), ← g, f .0, e, l), rw (f .1, e, l))
+said-insert r k t u x z l f g =
+    (rw (added-changes r (recordsIn k t), full-noRoom r (recordsIn k t), ← g, f .0, l), rw (f .1, l))
 
-module _ (x : ℕ) (q : Query) (k : ℕ) (t u : List ℕ) where
-  pub change-insert : (r : Report) → x ≡ 2
-      → (r ≡ reported (insert (recordOf q)) (recordsIn k t)) × (u ≡ withRecords k t (effect (insert (recordOf q)) (recordsIn k t)))
-      → (r ≡ reported (changeOf x q) (recordsIn k t)) × (u ≡ withRecords k t (effect (changeOf x q) (recordsIn k t)))
-  unfolding changeOf
-  change-insert r h e = rw (eq-eqb x 2 h) e
+module _ (h : Held) (t u : List ℕ) where
+  pub change-insert : (r : Report) → h .kind ≡ 2
+      → (let c = insert (take (h .columns) (h .values)) in
+      (r ≡ reported c (recordsIn (h .columns) t)) × (u ≡ withRecords (h .columns) t (effect c (recordsIn (h .columns) t))))
+      → (r ≡ reported (heldChange h) (recordsIn (h .columns) t))
+      × (u ≡ withRecords (h .columns) t (effect (heldChange h) (recordsIn (h .columns) t)))
+  unfolding heldChange
+  change-insert r x e = rw (eq-eqb (h .kind) 2 x) e
 
-  pub change-delete : (g : ℕ) → (x ≡ 2 → ⊥) → (g ≡ gone q (recordsIn k t)) × (u ≡ withRecords k t (effect (delete q) (recordsIn k t)))
-      → (report (not (eqb g 0)) false ≡ reported (changeOf x q) (recordsIn k t))
-      × (u ≡ withRecords k t (effect (changeOf x q) (recordsIn k t)))
-  unfolding changeOf reported
-  change-delete g h e = rw (ne-eqb x 2 h) (rw (gone-changes q (recordsIn k t), delete-noRoom q (recordsIn k t), e .0), e .1)
+  -- the delete's query comes as an array of columns
+  pub change-delete : (cols : List Column) (g : ℕ) → (h .kind ≡ 2 → ⊥) → cols ≡ four (heldQuery h)
+      → (let q = take (h .columns) cols in
+      (g ≡ gone q (recordsIn (h .columns) t)) × (u ≡ withRecords (h .columns) t (effect (delete q) (recordsIn (h .columns) t))))
+      → (report (not (eqb g 0)) false ≡ reported (heldChange h) (recordsIn (h .columns) t))
+      × (u ≡ withRecords (h .columns) t (effect (heldChange h) (recordsIn (h .columns) t)))
+  unfolding heldChange reported
+  change-delete cols g x f e =
+      let k : ℕ = h .columns in
+      let q : take k cols ≡ heldQuery h = ap (take k) f ∙ four-back k (heldQuery h) (columns-length k (h .marks) (h .values)) in
+      rw (ne-eqb (h .kind) 2 x)
+      (rw (gone-changes (heldQuery h) (recordsIn k t), delete-noRoom (heldQuery h) (recordsIn k t), e .0, q), rw (e .1, q))
 
 -- ---- a write's end
 module _ (c : Client) (b : Bool) (e : b ≡ foundFull c) where

@@ -4,60 +4,50 @@ use mathlib.Core.Path.{_≡_}
 use mathlib.Core.Bool.{Bool, true, false, cond}
 use mathlib.Core.List.{List, [], _∷_}
 use mathlib.Core.Option.{Option, none, some}
-use Prim.Native.Nat.{ℕ, _≤_, _<_}
+use Prim.Native.Nat.{ℕ, _<_}
 use lib.Dec.{eqb}
 use lib.ListN.{length, take}
 use Rattle.lists.specs.Lists.{listed}
 use Rattle.query.specs.Query.{Query, writeNode}
-use Rattle.query.specs.Encoding.{recordOf, labelWords}
+use Rattle.query.specs.Encoding.{labelWords}
+use Rattle.query.specs.Shape.{narrow}
 use Rattle.rules.specs.declared.Outcome.{Outcome}
 use Rattle.rules.specs.declared.Outcome.the-variants.{Accepted}
+use Rattle.rules.specs.Layout.{maxRevision, inserts}
 use Rattle.rules.specs.Table.{Table, Change, insert, delete, changes, noRoom}
 use Rattle.rules.specs.Nodes.{Words, Store, pending, revision, nodePlace, retired}
 use Rattle.rules.specs.Work.{writeLabels}
-use Rattle.rules.specs.Client.{Client, kind, steps, idle, isIdle, isBad, writeAt, stepped}
-use Rattle.query.specs.Shape.{shapeOf, maxColumns, narrow}
-use Rattle.rules.specs.Layout.{maxClients, maxRevision, clientsEnd, reads, inserts}
-use Rattle.rules.specs.Memory.{shapeIn, Mem, clientIn, storeIn}
+use Rattle.rules.specs.Client.{Client, steps, idle, stepped}
+use Rattle.rules.specs.Memory.{Mem, clientIn, storeIn}
 use Rattle.rules.specs.Outcome.{Result, StepResult}
 use Rattle.rules.specs.Steps.{writeResult, endOf}
 use Rattle.rules.specs.Calls.{releaseResult}
 use Rattle.nodes.specs.NodeContracts.{nodeAt, retiredAt}
+use Rattle.clients.specs.declared.Held.{Held}
+use Rattle.clients.specs.ClientContracts.{heldQuery, writtenAt}
 use Rattle.writing.specs.declared.Report.{Report}
-
--- what a passed check tells of the desks memory s and its client d, whose kind is that of a write
-pub record Writer (s : List ℕ) (d k : ℕ) : Type 0 where
-  pub columns : k ≡ shapeIn s .columns
-  pub least : 1 ≤ k
-  pub most : k ≤ maxColumns
-  pub below : d < maxClients
-  pub long : clientsEnd narrow ≤ length s
-  pub sound : isBad narrow (shapeOf k) (clientIn narrow s d) ≡ false
-  pub busy : isIdle narrow (clientIn narrow s d) ≡ false
-  pub writes : kind (clientIn narrow s d) ≡ reads → ⊥
 
 -- how many steps the write has made; the labels of its nodes, and how many there are
 abbrev pub stepAt : List ℕ → ℕ → ℕ
 stepAt s d = steps (clientIn narrow s d)
 
-abbrev pub labelsAt : ℕ → List ℕ → ℕ → List Words
-labelsAt k s d = writeLabels (writeAt (shapeOf k) (clientIn narrow s d))
+abbrev pub labelsAt : List ℕ → ℕ → List Words
+labelsAt s d = writeLabels (writtenAt s d)
 
-abbrev pub countAt : ℕ → List ℕ → ℕ → ℕ
-countAt k s d = length (labelsAt k s d)
+abbrev pub countAt : List ℕ → ℕ → ℕ
+countAt s d = length (labelsAt s d)
 
 -- what the next step of client d's write leaves
-abbrev pub stepOf : ℕ → Mem → List ℕ → ℕ → StepResult
-stepOf k m tray d = writeResult m tray d (writeAt (shapeOf k) (clientIn narrow (m .clients) d)) (stepAt (m .clients) d)
+abbrev pub stepOf : Mem → List ℕ → ℕ → StepResult
+stepOf m tray d = writeResult m tray d (writtenAt (m .clients) d) (stepAt (m .clients) d)
 
 -- what the taking back of its marks leaves
-abbrev pub backOf : ℕ → Mem → ℕ → Result
-backOf k m d =
-    releaseResult m d (retired narrow false (take (stepAt (m .clients) d) (labelsAt k (m .clients) d)) (storeIn narrow (m .nodes)))
+abbrev pub backOf : Mem → ℕ → Result
+backOf m d = releaseResult m d (retired narrow false (take (stepAt (m .clients) d) (labelsAt (m .clients) d)) (storeIn narrow (m .nodes)))
 
--- what a write of this kind to this query does to the table
-unfoldable pub changeOf : ℕ → Query → Change
-changeOf x q = cond (eqb x inserts) (insert (recordOf q)) (delete q)
+-- what a write does to the table, by what was read of its client
+unfoldable pub heldChange : Held → Change
+heldChange h = cond (eqb (h .kind) inserts) (insert (take (h .columns) (h .values))) (delete (heldQuery h))
 
 -- what a write's table step says of the table
 abbrev pub report : Bool → Bool → Report

@@ -1,25 +1,25 @@
 // The steps of a write at its client: a mark for each of its nodes, the table, a raise for each; and the taking back of its marks.
 // A raise and a taking back are the same removal of marks, with a lift and without: both call `retire`.
-// The rules stand in rules (Steps, Calls), what a function takes for granted in specs/WriteContracts.antt.
+// h is what the check has read of the client. The rules stand in rules (Steps, Calls), what a function takes for granted in
+// specs/WriteContracts.antt.
+use clients::Held;
 use hall::Hall;
 ghost use mathlib.Core.Path.{_≡_};
-ghost use mathlib.Core.Bool.{true};
 ghost use mathlib.Core.List.{List};
 ghost use Prim.Native.Nat.{ℕ, _≤_, _<_};
 ghost use lib.ListN.{take};
-ghost use Rattle.query.specs.Encoding.{namesAll, recordOf};
+ghost use Rattle.query.specs.Shape.{narrow};
+ghost use Rattle.rules.specs.Layout.{maxWord};
 ghost use Rattle.rules.specs.Table.{insert, effect};
 ghost use Rattle.rules.specs.Client.{idle};
-ghost use Rattle.query.specs.Shape.{narrow};
-ghost use Rattle.rules.specs.Layout.{maxWord, inserts};
 ghost use Rattle.rules.specs.Memory.{mem, recordsIn, withRecords, clientIn, withClient};
 ghost use Rattle.rules.specs.Outcome.{result, resultWith};
 ghost use Rattle.rules.specs.Steps.{endOf};
 ghost use Rattle.nodes.specs.NodeContracts;
 ghost use Rattle.clients.specs.ClientContracts;
+ghost use Rattle.clients.specs.ClientContracts.{Writer};
 ghost use Rattle.table.specs.TableContracts;
-ghost use Rattle.writing.specs.WriteContracts.{Writer, stepAt, countAt, stepOf, backOf, changeOf, reported, raiseEnd, raiseLeft};
-use query::Column;
+ghost use Rattle.writing.specs.WriteContracts.{stepAt, countAt, stepOf, backOf, heldChange, reported, raiseEnd, raiseLeft};
 use rules::Outcome;
 use table::Inserted;
 
@@ -33,15 +33,14 @@ struct Report {
 
 // ---- Marks
 // A mark at the write's next node. Refused where no node can be added or 12 writes are pending there.
-fn announce_step(nodes: &mut [u32], clients: &mut [u32], d: usize, k: usize) -> Outcome
-    requires { ⌜ Writer (now clients) d k ⌝ }
+fn announce_step(nodes: &mut [u32], clients: &mut [u32], d: usize, h: Held) -> Outcome
+    requires { ⌜ Writer h (now clients) d ⌝ }
     requires { ⌜ NodeContracts.Fit (now nodes) ⌝ }
-    requires { ⌜ stepAt (now clients) d < countAt k (now clients) d ⌝ }
-    ensures { λ r. ⌜ ((t a y : List ℕ) → resultWith r (mem t (now (nodes .exit)) a (now (clients .exit))) y ≡ stepOf k (mem t (now (nodes .entry)) a (now (clients .entry))) y d) ⌝ }
+    requires { ⌜ stepAt (now clients) d < countAt (now clients) d ⌝ }
+    ensures { λ r. ⌜ ((t a y : List ℕ) → resultWith r (mem t (now (nodes .exit)) a (now (clients .exit))) y ≡ stepOf (mem t (now (nodes .entry)) a (now (clients .entry))) y d) ⌝ }
 {
-    let cols = clients::columns_at(clients, d, k);
-    let made = clients::steps_of(clients, d);
-    let label = columns::labels::write_label(cols, k, made as usize);
+    let values = h.values;
+    let label = columns::labels::write_label(h.columns, h.marks, values, h.steps);
     if !nodes::announce(nodes, &label) {
         return Outcome::Refused(Hall::REFUSED_UNSOUND);
     }
@@ -50,14 +49,11 @@ fn announce_step(nodes: &mut [u32], clients: &mut [u32], d: usize, k: usize) -> 
 }
 
 // ---- The table
-// Puts the record of a query that names every column into the table.
-fn insert_record(table: &mut [u32], cols: [Column; Hall::COLUMN_SLOTS], k: usize) -> Report
+// Puts a record of k numbers into the table: the first k values.
+fn insert_record(table: &mut [u32], k: usize, values: [u32; Hall::COLUMN_SLOTS]) -> Report
     requires { ⌜ TableContracts.Fit k (now table) ⌝ }
-    requires { ⌜ namesAll (take k cols) ≡ true ⌝ }
-    ensures { λ r. ⌜ (r ≡ reported (insert (recordOf (take k cols))) (recordsIn k (now (table .entry)))) × (now (table .exit) ≡ withRecords k (now (table .entry)) (effect (insert (recordOf (take k cols))) (recordsIn k (now (table .entry))))) ⌝ }
+    ensures { λ r. ⌜ (r ≡ reported (insert (take k values)) (recordsIn k (now (table .entry)))) × (now (table .exit) ≡ withRecords k (now (table .entry)) (effect (insert (take k values)) (recordsIn k (now (table .entry))))) ⌝ }
 {
-    let taken = columns::take_record(cols, k);
-    let values = taken.values;
     let said = table::insert(table, &values[..k]);
     match said {
         Inserted::Added => Report {
@@ -75,15 +71,17 @@ fn insert_record(table: &mut [u32], cols: [Column; Hall::COLUMN_SLOTS], k: usize
     }
 }
 
-// Makes the change of a write of this kind.
-fn change(table: &mut [u32], kind: u32, cols: [Column; Hall::COLUMN_SLOTS], k: usize) -> Report
-    requires { ⌜ TableContracts.Fit k (now table) ⌝ }
-    requires { ⌜ (kind ≡ inserts → namesAll (take k cols) ≡ true) ⌝ }
-    ensures { λ r. ⌜ (r ≡ reported (changeOf kind (take k cols)) (recordsIn k (now (table .entry)))) × (now (table .exit) ≡ withRecords k (now (table .entry)) (effect (changeOf kind (take k cols)) (recordsIn k (now (table .entry))))) ⌝ }
+// Makes the change of the write of which h was read.
+fn change(table: &mut [u32], h: Held) -> Report
+    requires { ⌜ TableContracts.Fit (h .columns) (now table) ⌝ }
+    ensures { λ r. ⌜ (r ≡ reported (heldChange h) (recordsIn (h .columns) (now (table .entry)))) × (now (table .exit) ≡ withRecords (h .columns) (now (table .entry)) (effect (heldChange h) (recordsIn (h .columns) (now (table .entry))))) ⌝ }
 {
-    if kind == Hall::INSERTS {
-        return insert_record(table, cols, k);
+    let k = h.columns;
+    let values = h.values;
+    if h.kind == Hall::INSERTS {
+        return insert_record(table, k, values);
     }
+    let cols = columns::keys::columns_in(k, h.marks, &values);
     let gone = table::delete(table, k, cols);
     Report {
         changed: gone != 0,
@@ -92,15 +90,13 @@ fn change(table: &mut [u32], kind: u32, cols: [Column; Hall::COLUMN_SLOTS], k: u
 }
 
 // The table step: the change is made, and the client keeps whether the table changed and whether it was full.
-fn write_table_step(table: &mut [u32], clients: &mut [u32], d: usize, k: usize) -> Outcome
-    requires { ⌜ Writer (now clients) d k ⌝ }
-    requires { ⌜ TableContracts.Fit k (now table) ⌝ }
-    requires { ⌜ stepAt (now clients) d ≡ countAt k (now clients) d ⌝ }
-    ensures { λ r. ⌜ ((n a y : List ℕ) → resultWith r (mem (now (table .exit)) n a (now (clients .exit))) y ≡ stepOf k (mem (now (table .entry)) n a (now (clients .entry))) y d) ⌝ }
+fn write_table_step(table: &mut [u32], clients: &mut [u32], d: usize, h: Held) -> Outcome
+    requires { ⌜ Writer h (now clients) d ⌝ }
+    requires { ⌜ TableContracts.Fit (h .columns) (now table) ⌝ }
+    requires { ⌜ stepAt (now clients) d ≡ countAt (now clients) d ⌝ }
+    ensures { λ r. ⌜ ((n a y : List ℕ) → resultWith r (mem (now (table .exit)) n a (now (clients .exit))) y ≡ stepOf (mem (now (table .entry)) n a (now (clients .entry))) y d) ⌝ }
 {
-    let cols = clients::columns_at(clients, d, k);
-    let kind = clients::kind_of(clients, d);
-    let said = change(table, kind, cols, k);
+    let said = change(table, h);
     clients::set_wrote(clients, d, said.changed, said.full);
     Outcome::Accepted
 }
@@ -133,20 +129,18 @@ fn after_raise(clients: &mut [u32], d: usize, last: bool) -> Outcome
 }
 
 // A raise at the write's next node. Refused where the node is missing, has no pending write or cannot be raised.
-fn raise_step(nodes: &mut [u32], clients: &mut [u32], d: usize, k: usize) -> Outcome
-    requires { ⌜ Writer (now clients) d k ⌝ }
+fn raise_step(nodes: &mut [u32], clients: &mut [u32], d: usize, h: Held) -> Outcome
+    requires { ⌜ Writer h (now clients) d ⌝ }
     requires { ⌜ NodeContracts.Fit (now nodes) ⌝ }
-    requires { ⌜ countAt k (now clients) d < stepAt (now clients) d ⌝ }
-    ensures { λ r. ⌜ ((t a y : List ℕ) → resultWith r (mem t (now (nodes .exit)) a (now (clients .exit))) y ≡ stepOf k (mem t (now (nodes .entry)) a (now (clients .entry))) y d) ⌝ }
+    requires { ⌜ countAt (now clients) d < stepAt (now clients) d ⌝ }
+    ensures { λ r. ⌜ ((t a y : List ℕ) → resultWith r (mem t (now (nodes .exit)) a (now (clients .exit))) y ≡ stepOf (mem t (now (nodes .entry)) a (now (clients .entry))) y d) ⌝ }
 {
-    let cols = clients::columns_at(clients, d, k);
-    let made = clients::steps_of(clients, d);
-    let count = columns::keys::power(k);
-    let number = made - (count + 1);
-    if !retire::retire(nodes, cols, k, number as usize, 1, true) {
+    let count = columns::keys::power(h.columns) as usize;
+    let number = h.steps - (count + 1);
+    if !retire::retire(nodes, h, number, 1, true) {
         return Outcome::Refused(Hall::REFUSED_UNSOUND);
     }
-    after_raise(clients, d, made == count + count)
+    after_raise(clients, d, h.steps == count + count)
 }
 
 // ---- The next step
@@ -156,35 +150,32 @@ pub fn write_step(
     nodes: &mut [u32],
     clients: &mut [u32],
     d: usize,
-    k: usize,
+    h: Held,
 ) -> Outcome
-    requires { ⌜ Writer (now clients) d k ⌝ }
+    requires { ⌜ Writer h (now clients) d ⌝ }
     requires { ⌜ NodeContracts.Fit (now nodes) ⌝ }
-    requires { ⌜ TableContracts.Fit k (now table) ⌝ }
-    ensures { λ r. ⌜ ((a y : List ℕ) → resultWith r (mem (now (table .exit)) (now (nodes .exit)) a (now (clients .exit))) y ≡ stepOf k (mem (now (table .entry)) (now (nodes .entry)) a (now (clients .entry))) y d) ⌝ }
+    requires { ⌜ TableContracts.Fit (h .columns) (now table) ⌝ }
+    ensures { λ r. ⌜ ((a y : List ℕ) → resultWith r (mem (now (table .exit)) (now (nodes .exit)) a (now (clients .exit))) y ≡ stepOf (mem (now (table .entry)) (now (nodes .entry)) a (now (clients .entry))) y d) ⌝ }
 {
-    let made = clients::steps_of(clients, d);
-    let count = columns::keys::power(k);
-    if made < count {
-        return announce_step(nodes, clients, d, k);
+    let count = columns::keys::power(h.columns) as usize;
+    if h.steps < count {
+        return announce_step(nodes, clients, d, h);
     }
-    if made == count {
-        return write_table_step(table, clients, d, k);
+    if h.steps == count {
+        return write_table_step(table, clients, d, h);
     }
-    raise_step(nodes, clients, d, k)
+    raise_step(nodes, clients, d, h)
 }
 
 // ---- The taking back of marks
 // Takes back the marks of a write before its table step; the client is idle then. Refused where one of them is not there.
-pub fn release_all(nodes: &mut [u32], clients: &mut [u32], d: usize, k: usize) -> Outcome
-    requires { ⌜ Writer (now clients) d k ⌝ }
+pub fn release_all(nodes: &mut [u32], clients: &mut [u32], d: usize, h: Held) -> Outcome
+    requires { ⌜ Writer h (now clients) d ⌝ }
     requires { ⌜ NodeContracts.Fit (now nodes) ⌝ }
-    requires { ⌜ stepAt (now clients) d ≤ countAt k (now clients) d ⌝ }
-    ensures { λ r. ⌜ ((t a : List ℕ) → result r (mem t (now (nodes .exit)) a (now (clients .exit))) ≡ backOf k (mem t (now (nodes .entry)) a (now (clients .entry))) d) ⌝ }
+    requires { ⌜ stepAt (now clients) d ≤ countAt (now clients) d ⌝ }
+    ensures { λ r. ⌜ ((t a : List ℕ) → result r (mem t (now (nodes .exit)) a (now (clients .exit))) ≡ backOf (mem t (now (nodes .entry)) a (now (clients .entry))) d) ⌝ }
 {
-    let cols = clients::columns_at(clients, d, k);
-    let made = clients::steps_of(clients, d);
-    if !retire::retire(nodes, cols, k, 0, made as usize, false) {
+    if !retire::retire(nodes, h, 0, h.steps, false) {
         return Outcome::Refused(Hall::REFUSED_UNSOUND);
     }
     clients::set_idle(clients, d);

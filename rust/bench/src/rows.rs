@@ -6,6 +6,7 @@ use crate::rng::Rng;
 use crate::side::{Act, Asked, Kind, Reply, ACCEPTED};
 use twin::answers::Entry;
 use twin::layout::*;
+use twin::query::Label;
 
 pub struct Row {
     pub group: &'static str,
@@ -269,7 +270,7 @@ pub fn wholes() -> Vec<Row> {
     (1..=4).for_each(|k| whole_reads(&mut rows, k, all_named(k), "all columns named"));
     whole_reads(&mut rows, 4, naming(4, 0b1000), "column 4 named");
     (1..=4).for_each(|k| whole_writes(&mut rows, k));
-    light_reads(&mut rows);
+    light_halls(&mut rows);
     rows
 }
 
@@ -284,6 +285,11 @@ fn whole_reads(rows: &mut Vec<Row>, k: usize, asked: Asked, text: &str) {
 }
 
 fn whole_writes(rows: &mut Vec<Row>, k: usize) {
+    whole_writes_in(rows, k, "", |own| full(k).with_nodes(NODES, own, NODES - own.len()));
+}
+
+/// An insert and a delete of k columns in the hall that is made around their nodes.
+fn whole_writes_in(rows: &mut Vec<Row>, k: usize, text: &str, around: impl Fn(&[Label]) -> Hall) {
     let mut values = record(k, MIDDLE);
     if k == 1 {
         // with one column the place in the middle has to be left free
@@ -293,19 +299,16 @@ fn whole_writes(rows: &mut Vec<Row>, k: usize) {
     }
     let spaced = |i| if k == 1 { [2 * record(1, i)[0], 0, 0, 0] } else { record(k, i) };
     let asked = Asked::new(&values.map(Some)[..k]);
-    let hall = |asked, n| {
-        let own = write_labels(k, asked);
-        full(k).with_records(n, spaced).with_nodes(NODES, &own, NODES - own.len())
-    };
+    let hall = |asked, n| around(&write_labels(k, asked)).with_records(n, spaced);
     let insert = Act::Whole(Kind::Insert, CLIENT, asked);
-    row(rows, "whole insert", &format!("k {k}, middle of 2,047"), hall(asked, RECORDS - 1), insert, CHANGED);
+    row(rows, "whole insert", &format!("k {k}{text}, middle of 2,047"), hall(asked, RECORDS - 1), insert, CHANGED);
     let there = Asked::new(&spaced(MIDDLE).map(Some)[..k]);
     let delete = Act::Whole(Kind::Delete, CLIENT, there);
-    row(rows, "whole delete", &format!("k {k}, 1 of 2,048"), hall(there, RECORDS), delete, CHANGED);
+    row(rows, "whole delete", &format!("k {k}{text}, 1 of 2,048"), hall(there, RECORDS), delete, CHANGED);
 }
 
-/// The same reads in a hall with few nodes and answers.
-fn light_reads(rows: &mut Vec<Row>) {
+/// The same reads and writes in a hall with few nodes and answers.
+fn light_halls(rows: &mut Vec<Row>) {
     let asked = all_named(4);
     let own = read_labels(4, asked);
     let hall = Hall::opened(4).with_records(RECORDS, |i| record(4, i)).with_nodes(96, &own, 96 - own.len());
@@ -314,4 +317,7 @@ fn light_reads(rows: &mut Vec<Row>) {
     let read = Act::Whole(Kind::Read, CLIENT, asked);
     row(rows, "whole read", "k 4, 96 nodes, 12 answers, filed", filed, read, from_file(1));
     row(rows, "whole read", "k 4, 96 nodes, 12 answers, from the table", old, read, from_table(1));
+    whole_writes_in(rows, 4, ", 96 nodes, 12 answers", |own| {
+        Hall::opened(4).with_nodes(96, own, 96 - own.len()).with_answers(12, None)
+    });
 }

@@ -1,53 +1,69 @@
--- `checks::at_client` meets its contract: one law for each way out. Assumes nothing.
+-- `checks::at_client` meets its contract: one law for each way out; the client is read where it is there. Assumes nothing.
 use mathlib.Core.Path.{sym, _∙_}
 use native.Mathlib.Omega.{arith}
-use Rattle.checks.proofs.CheckCodes.{client-unsound, client-none, client-bad, client-idle, client-busy}
-use Rattle.rules.proofs.PassedChecks.{long, sound}
-use Rattle.checks.proofs.SoundMemories.{columns-range, client-fit}
+use Rattle.rules.specs.Layout.{refusedUnsound, refusedNoClient}
+use Rattle.rules.specs.Sound.{Sound}
+use Rattle.rules.specs.Memory.{mem}
+use Rattle.rules.proofs.PassedChecks.{sound}
+use Rattle.checks.proofs.CheckCodes.{refused-with, client-unsound, client-none, client-there}
+use Rattle.checks.proofs.SoundMemories.{client-fit}
+use borrow.Author.Needs.{needs}
 use Rattle.checks.proofs.at_client.Statement.{statement}
 use Rattle.checks.proofs.at_client.Tie as tie
 
 is-unsound-requires : tie.Need-is-unsound-requires
 is-unsound-requires c κs = c .before .before .before .before .pre
 
+refused-requires : tie.Need-refused-requires
+refused-requires c κs = search needs
+
 returns : tie.Need-returns
-returns c = client-unsound _ _ (sym (c .if1 .taken) ∙ c .before .is-unsound .ensures)
+returns c = let i = c .before in refused-with refusedUnsound (c .refused .ensures) (λ z. omega arith) (client-unsound _ _ (sym (i .if1 .taken) ∙ i .before .is-unsound .ensures))
+
+refused-requires-2 : tie.Need-refused-requires-2
+refused-requires-2 c κs = search needs
 
 returns-2 : tie.Need-returns-2
-returns-2 c = client-none _ _ (sym (c .before .if1 .left) ∙ c .before .before .is-unsound .ensures) (c .if2 .taken)
+returns-2 c =
+    let i = c .before in
+    refused-with refusedNoClient (c .refused2 .ensures) (λ z. omega arith)
+    (client-none _ _ (sym (i .before .if1 .left) ∙ i .before .before .is-unsound .ensures) (i .if2 .taken))
 
-shared-slice-read-k : tie.Need-shared-slice-read-k
-shared-slice-read-k c = omega (arith, long _ _ (c .before .before .before .before .before .before .before .before .pre))
+-- the memories are sound where the client is there
+abbrev start : tie.Else2 → tie.Start
+start c =
+    let u = c .before .before in
+    u .before .before .before .before .before
 
-cast-k : tie.Need-cast-k
-cast-k c = omega (arith, columns-range _ (sound _ (c .before .before .before .before .before .before .before .before .pre) (sym (sym (c .before .before .if1 .left) ∙ c .before .before .before .is-unsound .ensures))))
+good : (c : tie.Else2) → let a = start c .args in Sound (mem (a .table .now) (a .nodes .now) (a .answers .now) (a .clients .now))
+good c = let i = c .before in sound _ (start c .pre) (sym (sym (i .if1 .left) ∙ i .before .is-unsound .ensures))
 
-is-bad-requires : tie.Need-is-bad-requires
-is-bad-requires c κs = (client-fit _ (sound _ (c .before .before .before .before .before .before .before .before .pre) (sym (sym (c .before .before .if1 .left) ∙ c .before .before .before .is-unsound .ensures))) _ (c .before .if2 .left), columns-range _ (sound _ (c .before .before .before .before .before .before .before .before .pre) (sym (sym (c .before .before .if1 .left) ∙ c .before .before .before .is-unsound .ensures))))
+read-requires : tie.Need-read-requires
+read-requires c κs = client-fit _ (good c) _ (c .if2 .left)
+
+client-code-requires : tie.Need-client-code-requires
+client-code-requires c κs =
+    let g = good (c .before) in
+    (client-fit _ g _ (c .before .if2 .left), (c .read .ensures, omega (arith, g .most, c .read .ensures .columns)))
 
 returns-3 : tie.Need-returns-3
-returns-3 c = client-bad _ _ (sym (c .before .before .before .before .if1 .left) ∙ c .before .before .before .before .before .is-unsound .ensures) (c .before .before .before .if2 .left) (sym (c .if3 .taken) ∙ c .before .is-bad .ensures)
-
-kind-of-requires : tie.Need-kind-of-requires
-kind-of-requires c κs = client-fit _ (sound _ (c .before .before .before .before .before .before .before .before .before .before .pre) (sym (sym (c .before .before .before .before .if1 .left) ∙ c .before .before .before .before .before .is-unsound .ensures))) _ (c .before .before .before .if2 .left)
-
-returns-4 : tie.Need-returns-4
-returns-4 c = client-idle _ _ (sym (c .before .before .before .before .before .before .if1 .left) ∙ c .before .before .before .before .before .before .before .is-unsound .ensures) (c .before .before .before .before .before .if2 .left) (sym (c .before .before .if3 .left) ∙ c .before .before .before .is-bad .ensures) _ (c .before .kind-of .ensures) (c .if4 .taken)
-
-returns-5 : tie.Need-returns-5
-returns-5 c = client-busy _ _ (sym (c .before .before .before .before .before .before .if1 .left) ∙ c .before .before .before .before .before .before .before .is-unsound .ensures) (c .before .before .before .before .before .if2 .left) (sym (c .before .before .if3 .left) ∙ c .before .before .before .is-bad .ensures) _ (c .before .kind-of .ensures) (c .if4 .left)
+returns-3 c =
+    let r = c .before in
+    let i = r .before in
+    record {
+      code = client-there _ _ (sym (i .before .if1 .left) ∙ i .before .before .is-unsound .ensures) (i .if2 .left) _ (c .client-code .ensures);
+      held = λ z. r .read .ensures;
+    }
 
 pub at-client-spec : {M : Type 1} → statement M
 at-client-spec =
     tie.close
     (tie.spec
     is-unsound-requires
+    refused-requires
     returns
+    refused-requires-2
     returns-2
-    shared-slice-read-k
-    cast-k
-    is-bad-requires
-    returns-3
-    kind-of-requires
-    returns-4
-    returns-5)
+    read-requires
+    client-code-requires
+    returns-3)

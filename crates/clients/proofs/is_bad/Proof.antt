@@ -1,53 +1,73 @@
 -- `clients::is_bad` meets its contract: one law for each way out. Assumes nothing.
 use mathlib.Core.Path.{sym, _∙_}
-use Rattle.clients.proofs.ClientSound.{bad-none, bad-kind, bad-key, bad-insert, bad-step, bad-length}
+use Prim.Native.Nat.{_^_, _<_}
+use borrow.Author.Tests.{not-false}
+use Rattle.clients.proofs.HeldLaws.{held-marks}
+use Rattle.clients.proofs.ClientSound.{bad-none, bad-kind, bad-key, bad-insert, bad-step, bad-length, key-held, insert-held, steps-held}
 use borrow.Author.Needs.{needs}
 use Rattle.clients.proofs.is_bad.Statement.{statement}
 use Rattle.clients.proofs.is_bad.Tie as tie
+use Rattle.clients.proofs.bad_insert.Reads as bad-insert-reads
+use Rattle.clients.proofs.bad_key.Reads as bad-key-reads
+use Rattle.clients.proofs.bad_length.Reads as bad-length-reads
+use Rattle.clients.proofs.is_idle.Reads as is-idle-reads
+use Rattle.clients.proofs.steps_in_all.Reads as steps-in-all-reads
 
-kind-of-requires : tie.Need-kind-of-requires
-kind-of-requires c κs = search needs
+-- the arguments, from behind the key's test
+abbrev start : tie.Else3 → tie.Start
+start c =
+    let k = c .before .before .before in
+    k .before .before .before .before
 
 is-idle-requires : tie.Need-is-idle-requires
 is-idle-requires c κs = search needs
 
 returns : tie.Need-returns
-returns c = bad-none _ _ _ (c .is-idle .ensures) (sym (c .before .before .kind-of .ensures) ∙ c .before .if1 .taken)
+returns c = let p = c .before .before .before .before .pre in bad-none _ _ _ (c .is-idle .ensures) (sym (p .1 .0 .kind) ∙ c .before .if1 .taken)
 
 returns-2 : tie.Need-returns-2
-returns-2 c = bad-kind _ _ _ (c .before .before .kind-of .ensures) (c .before .if1 .left) (c .if2 .taken)
+returns-2 c = let p = c .before .before .before .before .before .pre in bad-kind _ _ _ (p .1 .0 .kind) (c .before .before .if1 .left) (c .if2 .taken)
 
 bad-key-requires : tie.Need-bad-key-requires
 bad-key-requires c κs = search needs
 
 returns-3 : tie.Need-returns-3
 returns-3 c =
-    let x = c .before .before in
-    bad-key _ _ _ (x .before .before .kind-of .ensures) (x .before .if1 .left) (x .if2 .left) _ (c .before .bad-key .ensures) (c .if3 .taken)
+    let k = c .before .before in
+    let x = k .before .before in
+    let p = x .before .before .before .pre in
+    bad-key _ _ _ (p .1 .0 .kind) (x .if1 .left) (k .if2 .left) _ (key-held (p .1 .0) (c .before .bad-key .ensures)) (c .if3 .taken)
 
-columns-at-requires : tie.Need-columns-at-requires
-columns-at-requires c κs = search needs
+-- behind the key's test the marks are those of the hall's columns
+marked : (c : tie.Else3) → start c .args .h .marks < 2 ^ start c .args .h .columns
+marked c =
+    let p = start c .pre in
+    held-marks (p .0) (p .1 .0) (p .1 .1) (not-false _ (sym (key-held (p .1 .0) (c .before .bad-key .ensures)) ∙ c .if3 .left))
 
 bad-insert-requires : tie.Need-bad-insert-requires
-bad-insert-requires c κs = search needs
+bad-insert-requires c κs = (search needs, marked c)
 
 returns-4 : tie.Need-returns-4
 returns-4 c =
-    let k = c .before .before .before in
-    let x = k .before .before in
-    bad-insert _ _ _ (x .before .before .kind-of .ensures) (x .before .if1 .left) (x .if2 .left) _ (k .before .bad-key .ensures) (k .if3 .left)
-    _ (c .before .before .columns-at .ensures) _ (c .before .bad-insert .ensures) (c .if4 .taken)
+    let t = c .before .before in
+    let k = t .before .before in
+    let p = start t .pre in
+    bad-insert _ _ _ (p .1 .0 .kind) (k .before .before .if1 .left) (k .if2 .left) _ (key-held (p .1 .0) (t .before .bad-key .ensures)) (t .if3 .left)
+    _ (insert-held (p .1 .0) (p .1 .1) (c .before .bad-insert .ensures)) (c .if4 .taken)
 
-bad-step-requires : tie.Need-bad-step-requires
-bad-step-requires c κs = search needs
+steps-in-all-requires : tie.Need-steps-in-all-requires
+steps-in-all-requires c κs = (search needs, marked (c .before .before))
 
 returns-5 : tie.Need-returns-5
 returns-5 c =
-    let b = c .before .before in
-    let k = b .before .before .before in
-    let x = k .before .before in
-    bad-step _ _ _ (x .before .before .kind-of .ensures) (x .before .if1 .left) (x .if2 .left) _ (k .before .bad-key .ensures) (k .if3 .left)
-    _ (b .before .before .columns-at .ensures) _ (b .before .bad-insert .ensures) (b .if4 .left) _ (c .before .bad-step .ensures) (c .if5 .taken)
+    let n = c .before .before in
+    let b = n .before in
+    let t = b .before .before in
+    let k = t .before .before in
+    let p = start t .pre in
+    bad-step _ _ _ (p .1 .0 .kind) (k .before .before .if1 .left) (k .if2 .left) _ (key-held (p .1 .0) (t .before .bad-key .ensures)) (t .if3 .left)
+    _ (insert-held (p .1 .0) (p .1 .1) (b .before .bad-insert .ensures)) (b .if4 .left)
+    _ _ (steps-held (p .1 .0) (p .1 .1) (n .steps-in-all .ensures)) (p .1 .0 .steps) (c .if5 .taken)
 
 bad-length-requires : tie.Need-bad-length-requires
 bad-length-requires c κs = search needs
@@ -55,27 +75,27 @@ bad-length-requires c κs = search needs
 returns-6 : tie.Need-returns-6
 returns-6 c =
     let e = c .before in
-    let b = e .before .before in
-    let k = b .before .before .before in
-    let x = k .before .before in
-    bad-length _ _ _ (x .before .before .kind-of .ensures) (x .before .if1 .left) (x .if2 .left) _ (k .before .bad-key .ensures) (k .if3 .left)
-    _ (b .before .before .columns-at .ensures) _ (b .before .bad-insert .ensures) (b .if4 .left) _ _ (e .before .bad-step .ensures) (e .if5 .left)
-    (c .bad-length .ensures)
+    let n = e .before .before in
+    let b = n .before in
+    let t = b .before .before in
+    let k = t .before .before in
+    let p = start t .pre in
+    bad-length _ _ _ (p .1 .0 .kind) (k .before .before .if1 .left) (k .if2 .left) _ (key-held (p .1 .0) (t .before .bad-key .ensures)) (t .if3 .left)
+    _ (insert-held (p .1 .0) (p .1 .1) (b .before .bad-insert .ensures)) (b .if4 .left)
+    _ _ (steps-held (p .1 .0) (p .1 .1) (n .steps-in-all .ensures)) (p .1 .0 .steps) (e .if5 .left) _ (c .bad-length .ensures)
 
 pub is-bad-spec : {M : Type 1} → statement M
 is-bad-spec =
     tie.close
     (tie.spec
-    kind-of-requires
     is-idle-requires
     returns
     returns-2
     bad-key-requires
     returns-3
-    columns-at-requires
     bad-insert-requires
     returns-4
-    bad-step-requires
+    steps-in-all-requires
     returns-5
     bad-length-requires
     returns-6)

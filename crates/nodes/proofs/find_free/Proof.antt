@@ -1,8 +1,9 @@
 -- `nodes::find_free` meets its contract. Invariant: every node before place i has a pending write. Assumes nothing.
+use mathlib.Core.Path.{sym, _∙_}
 use Prim.Native.Nat.{_-_, _≤_}
 use borrow.Author.Needs.{needs}
 use Rattle.rules.specs.Nodes.{isFree, oldestFree}
-use Rattle.nodes.proofs.NodeScans.{Past, scan-start, scan-found, scan-next, scan-none, free-test, busy-test}
+use Rattle.nodes.proofs.NodeScans.{Past, scan-start, scan-found, scan-next, scan-none}
 use Rattle.nodes.proofs.find_free.Statement.{statement}
 use Rattle.nodes.proofs.find_free.Tie as tie
 
@@ -21,26 +22,14 @@ cast-n c = search needs
 loop-holds : tie.Need-loop-holds Inv-loop μ-loop
 loop-holds c = (search needs, scan-start _ _)
 
-mul-if1 : tie.Need-mul-if1 Inv-loop μ-loop
-mul-if1 c = search needs
-
-add-if1 : tie.Need-add-if1 Inv-loop μ-loop
-add-if1 c = search needs
-
-add-if1-2 : tie.Need-add-if1-2 Inv-loop μ-loop
-add-if1-2 c = search needs
-
-mul-if1-2 : tie.Need-mul-if1-2 Inv-loop μ-loop
-mul-if1-2 c = search needs
-
-shared-slice-read-if1 : tie.Need-shared-slice-read-if1 Inv-loop μ-loop
-shared-slice-read-if1 c = search needs
+is-free-requires : tie.Need-is-free-requires Inv-loop μ-loop
+is-free-requires c κs = search needs
 
 returns : tie.Need-returns Inv-loop μ-loop
 unfolding oldestFree
 returns c =
     let l = c .before .before .before in
-    scan-found _ _ _ (l .loop .inv .1) (search needs) (free-test _ (l .loop .i) (search needs) (c .if1 .taken))
+    scan-found _ _ _ (l .loop .inv .1) (search needs) (sym (c .before .is-free .ensures) ∙ c .if1 .taken)
 
 add-i : tie.Need-add-i Inv-loop μ-loop
 add-i c = search needs
@@ -51,7 +40,7 @@ loop-less c = search needs
 loop-again : tie.Need-loop-again Inv-loop μ-loop
 loop-again c =
     let l = c .before .before .before in
-    (search needs, scan-next _ _ _ (l .loop .inv .1) (search needs) (busy-test _ (l .loop .i) (search needs) (c .if1 .left)))
+    (search needs, scan-next _ _ _ (l .loop .inv .1) (search needs) (sym (c .before .is-free .ensures) ∙ c .if1 .left))
 
 returns-2 : tie.Need-returns-2 Inv-loop μ-loop
 unfolding oldestFree
@@ -66,11 +55,7 @@ find-free-spec =
     shared-slice-read-n
     cast-n
     loop-holds
-    mul-if1
-    add-if1
-    add-if1-2
-    mul-if1-2
-    shared-slice-read-if1
+    is-free-requires
     returns
     add-i
     loop-less

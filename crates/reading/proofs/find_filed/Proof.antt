@@ -5,10 +5,6 @@ use Rattle.reading.proofs.Filing.{found-pending, found-search}
 use borrow.Author.Needs.{needs}
 use Rattle.reading.proofs.find_filed.Statement.{statement}
 use Rattle.reading.proofs.find_filed.Tie as tie
-use Rattle.answers.proofs.fetch.Reads as fetch-reads
-use Rattle.clients.proofs.entry.Reads as entry-reads
-use Rattle.clients.proofs.saw_pending.Reads as saw-pending-reads
-use Rattle.clients.proofs.steps_of.Reads as steps-of-reads
 
 saw-pending-requires : tie.Need-saw-pending-requires
 saw-pending-requires c κs = search needs
@@ -20,25 +16,16 @@ cast-result : tie.Need-cast-result
 cast-result c = search needs
 
 returns : tie.Need-returns
-returns c = found-pending _ _ _ _ _ (c .before .before .saw-pending .ensures) (c .before .if1 .taken) refl
-
-steps-of-requires : tie.Need-steps-of-requires
-steps-of-requires c κs = search needs
-
-cast-n : tie.Need-cast-n
-cast-n c = search needs
+returns c = found-pending _ _ _ _ _ _ (c .before .before .saw-pending .ensures) (c .before .if1 .taken) refl
 
 entry-requires : tie.Need-entry-requires
 entry-requires c κs = search needs
 
 fetch-requires : tie.Need-fetch-requires
-fetch-requires c κs = (search needs, (entry-length _ _ _ (c .before .before .before .before .before .before .pre .client) (c .entry .ensures), search needs))
+fetch-requires c κs = let p = c .before .before .before .before .before .pre in (search needs, (entry-length _ _ _ (p .client) (c .entry .ensures), search needs))
 
 returns-2 : tie.Need-returns-2
-returns-2 c =
-    let s = c .before .before in
-    let w = s .before .before in
-    found-search _ _ _ _ _ _ _ (w .saw-pending .ensures) (s .before .if1 .left) (s .steps-of .ensures) (c .before .entry .ensures) (c .fetch .ensures)
+returns-2 c = found-search _ _ _ _ _ _ _ (c .before .before .before .saw-pending .ensures) (c .before .before .if1 .left) (c .before .entry .ensures) (c .fetch .ensures)
 
 pub find-filed-spec : {M : Type 1} → statement M
 find-filed-spec =
@@ -48,8 +35,6 @@ find-filed-spec =
     shared-slice-read-result
     cast-result
     returns
-    steps-of-requires
-    cast-n
     entry-requires
     fetch-requires
     returns-2)

@@ -1,14 +1,16 @@
 -- `reading::gather_list` meets its contract: what `gather` leaves in the part that is lent to it. Assumes nothing.
+use native.Mathlib.Omega.{arith}
+use Rattle.clients.proofs.HeldLaws.{at-few}
 use Rattle.reading.proofs.Listing.{gather-count, gather-left}
 use borrow.Author.Needs.{needs}
 use Rattle.reading.proofs.gather_list.Statement.{statement}
 use Rattle.reading.proofs.gather_list.Tie as tie
-use Rattle.clients.proofs.columns_at.Reads as columns-at-reads
-use Rattle.clients.proofs.list_at.Reads as list-at-reads
-use Rattle.table.proofs.gather.Reads as gather-reads
 
-columns-at-requires : tie.Need-columns-at-requires
-columns-at-requires c κs = search needs
+slice-aggregate-columns-in : tie.Need-slice-aggregate-columns-in
+slice-aggregate-columns-in c = search needs
+
+columns-in-requires : tie.Need-columns-in-requires
+columns-in-requires c κs = let r = c .before .before .before .before .pre .read in (at-few r, omega (arith, at-few r, slice-aggregate-columns-in c))
 
 list-at-requires : tie.Need-list-at-requires
 list-at-requires c κs = search needs
@@ -38,17 +40,18 @@ returns : tie.Need-returns
 returns c =
     let g = c .before .before in
     let l = g .before .before in
-    let p = l .before .before .before .before .before .pre in
-    let e = l .before .columns-at .ensures in (
-      gather-count _ _ _ _ (p .read) (p .fit) _ _ e (g .gather .ensures .0),
-      gather-left _ _ _ _ (p .read) (p .fit) _ _ _ (l .list-at .ensures) e (g .gather .ensures .1),
+    let e = l .before .columns-in .ensures in
+    let p = l .before .before .before .before .before .before .pre in (
+      gather-count (p .read) _ (p .fit) _ _ e (g .gather .ensures .0),
+      gather-left (p .read) _ (p .fit) _ _ _ (l .list-at .ensures) e (g .gather .ensures .1),
     )
 
 pub gather-list-spec : {M : Type 1} → statement M
 gather-list-spec =
     tie.close
     (tie.spec
-    columns-at-requires
+    slice-aggregate-columns-in
+    columns-in-requires
     list-at-requires
     add-end
     mul-gather

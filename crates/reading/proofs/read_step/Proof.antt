@@ -1,20 +1,21 @@
 -- `reading::read_step` meets its contract: what the step that is due ensures. Assumes nothing.
+use native.Mathlib.Omega.{arith}
+use Rattle.clients.proofs.HeldLaws.{at-few, at-marks, reader-looks}
 use Rattle.reading.proofs.ReadClient.{few-steps}
 use borrow.Author.Needs.{needs}
 use Rattle.reading.proofs.read_step.Statement.{statement}
 use Rattle.reading.proofs.read_step.Tie as tie
 
-looks-of-requires : tie.Need-looks-of-requires
-looks-of-requires c κs = search needs
-
-steps-of-requires : tie.Need-steps-of-requires
-steps-of-requires c κs = search needs
-
-cast-step : tie.Need-cast-step
-cast-step c = search needs
+look-count-requires : tie.Need-look-count-requires
+look-count-requires c κs = let r = c .before .before .before .before .before .pre .read in (at-few r, at-marks r)
 
 look-step-requires : tie.Need-look-step-requires
-look-step-requires c κs = search needs
+look-step-requires c κs =
+    let l = c .before .before .before .before in
+    let p = l .before .before .before .before .before .before .pre in
+    let e = reader-looks (p .read) _ (l .look-count .ensures) in
+    let s = p .read .held .steps in
+    record { read = p .read; fit = p .nodes; step = omega (arith, c .before .before .if1 .taken) }
 
 same-length : tie.Need-same-length
 same-length c = search needs
@@ -26,7 +27,12 @@ returns : tie.Need-returns
 returns c = c .before .before .before .before .look-step .ensures _ _ _
 
 fetch-step-requires : tie.Need-fetch-step-requires
-fetch-step-requires c κs = search needs
+fetch-step-requires c κs =
+    let l = c .before .before .before .before .before .before .before in
+    let p = l .before .before .before .before .before .before .pre in
+    let e = reader-looks (p .read) _ (l .look-count .ensures) in
+    let s = p .read .held .steps in
+    record { read = p .read; fit = p .fit; short = p .short; room = search needs; step = omega (arith, c .before .before .before .if2 .taken) }
 
 same-length-3 : tie.Need-same-length-3
 same-length-3 c = search needs
@@ -44,7 +50,12 @@ add-if3 : tie.Need-add-if3
 add-if3 c = search needs
 
 table-step-requires : tie.Need-table-step-requires
-table-step-requires c κs = search needs
+table-step-requires c κs =
+    let l = c .before .before .before .before .before .before .before .before in
+    let p = l .before .before .before .before .before .before .pre in
+    let e = reader-looks (p .read) _ (l .look-count .ensures) in
+    let s = p .read .held .steps in
+    record { read = p .read; fit = p .listed; room = search needs; step = omega (arith, c .before .before .if3 .taken) }
 
 same-length-6 : tie.Need-same-length-6
 same-length-6 c = search needs
@@ -56,7 +67,15 @@ returns-3 : tie.Need-returns-3
 returns-3 c = c .before .before .before .before .table-step .ensures _ _
 
 file-step-requires : tie.Need-file-step-requires
-file-step-requires c κs = let b = few-steps _ _ _ (c .before .before .before .before .before .before .before .before .before .before .before .before .before .before .before .pre .read) in search needs
+file-step-requires c κs =
+    let x = c .before .before .before in
+    let y = x .before .before in
+    let z = y .before .before in
+    let l = z .before .before in
+    let p = l .before .before .before .before .before .before .pre in
+    let e = reader-looks (p .read) _ (l .look-count .ensures) in
+    let s = p .read .held .steps in
+    record { read = p .read; fit = p .fit; room = search needs; step = omega (arith, few-steps (p .read), x .if3 .left, y .if2 .left, z .if1 .left) }
 
 same-length-8 : tie.Need-same-length-8
 same-length-8 c = search needs
@@ -74,9 +93,7 @@ pub read-step-spec : {M : Type 1} → statement M
 read-step-spec =
     tie.close
     (tie.spec
-    looks-of-requires
-    steps-of-requires
-    cast-step
+    look-count-requires
     look-step-requires
     same-length
     same-length-2

@@ -1,18 +1,13 @@
 -- `reading::table_step` meets its contract: too long, kept for the file step, or given at once. Assumes nothing.
 use native.Mathlib.Omega.{arith}
-use lib.ListN.{length-take}
-use Rattle.rules.proofs.ClientLaws.{list-room}
-use Rattle.reading.proofs.ReadClient.{made-small}
-use Rattle.reading.proofs.Listing.{steps-kept, table-long, table-held, table-given}
+use Rattle.clients.proofs.HeldLaws.{at-few, at-steps}
+use Rattle.reading.proofs.Listing.{steps-kept, held-short, table-long, table-held, table-given}
 use borrow.Author.Needs.{needs}
 use Rattle.reading.proofs.table_step.Statement.{statement}
 use Rattle.reading.proofs.table_step.Tie as tie
-use Rattle.clients.proofs.list_at.Reads as list-at-reads
-use Rattle.clients.proofs.saw_pending.Reads as saw-pending-reads
-use Rattle.clients.proofs.set_idle.Reads as set-idle-reads
-use Rattle.clients.proofs.set_list.Reads as set-list-reads
-use Rattle.reading.proofs.gather_list.Reads as gather-list-reads
-use Rattle.words.proofs.write.Reads as write-reads
+
+saw-pending-requires : tie.Need-saw-pending-requires
+saw-pending-requires c κs = search needs
 
 gather-list-requires : tie.Need-gather-list-requires
 gather-list-requires c κs = search needs
@@ -27,62 +22,41 @@ returns : tie.Need-returns
 returns c =
     let t = c .before .before .before .before in
     let g = t .before .before .before in
-    let p = g .before .before .before .before .before .pre in
-    table-long _ _ _ _ (p .read) (p .fit) _ _ (g .gather-list .ensures .0) (g .gather-list .ensures .1) (p .step) _ _ (t .if1 .taken) (c .before .before .set-idle .ensures)
-
-saw-pending-requires : tie.Need-saw-pending-requires
-saw-pending-requires c κs = search needs
+    let l = g .gather-list .ensures in
+    let p = g .before .before .before .before .before .before .before .pre in
+    table-long (p .read) _ (p .fit) _ _ (l .0) (l .1) _ (t .if1 .taken) (c .before .before .set-idle .ensures) (p .step) _
 
 set-list-requires : tie.Need-set-list-requires
 set-list-requires c κs =
-    let g = c .before .before .before .before .before .before .before in
-    let p = g .before .before .before .before .before .pre in
-    let s = steps-kept _ _ _ _ (p .read) (p .fit) _ _ (g .gather-list .ensures .0) (g .gather-list .ensures .1) in
-    (search needs, (search needs, (search needs, (search needs, omega (arith, made-small _ _ _ (p .read), s)))))
+    let g = c .before .before .before .before in
+    let l = g .gather-list .ensures in
+    let p = g .before .before .before .before .before .before .before .pre in
+    let s = steps-kept (p .read) _ (p .fit) _ _ (l .0) (l .1) in
+    (search needs, (search needs, (p .fit .columns .0, (at-few (p .read), omega (arith, at-steps (p .read), s)))))
 
 same-length-2 : tie.Need-same-length-2
 same-length-2 c = search needs
 
 returns-2 : tie.Need-returns-2
 returns-2 c =
-    let t = c .before .before .before .before in
-    let g = t .before .before .before .before .before .before in
-    let p = g .before .before .before .before .before .pre in
-    table-held _ _ _ _ (p .read) (p .fit) _ _ (g .gather-list .ensures .0) (g .gather-list .ensures .1) (p .step) _ _ (t .before .before .before .if1 .left) _
-    (t .before .saw-pending .ensures) (t .if2 .taken) (c .before .before .set-list .ensures)
+    let t = c .before .before .before in
+    let g = t .before .before .before .before .before in
+    let l = g .gather-list .ensures in
+    let p = g .before .before .before .before .before .before .before .pre in
+    table-held (p .read) _ (p .fit) _ _ (l .0) (l .1) _ (t .before .before .if1 .left) (t .set-list .ensures) (p .step) _ _ (g .before .before .saw-pending .ensures) (c .if2 .taken)
 
-list-at-requires : tie.Need-list-at-requires
-list-at-requires c κs = search needs
-
-mul-end : tie.Need-mul-end
-mul-end c = let e = c .before .before .before .before in omega (arith, list-room _ _ (e .if1 .left) (e .before .before .before .before .before .before .before .before .pre .read .most))
-
-add-end : tie.Need-add-end
-add-end c = let e = c .before .before .before .before in omega (arith, list-room _ _ (e .if1 .left) (e .before .before .before .before .before .before .before .before .pre .read .most))
-
-mul-write : tie.Need-mul-write
-mul-write c = search needs
-
-sub-write : tie.Need-sub-write
-sub-write c = search needs
-
-part-write-start : tie.Need-part-write-start
-part-write-start c = search needs
-
-part-write-end : tie.Need-part-write-end
-part-write-end c = let e = c .before .before .before .before .before .before in omega (arith, list-room _ _ (e .if1 .left) (e .before .before .before .before .before .before .before .before .pre .read .most))
-
-write-requires : tie.Need-write-requires
-write-requires c κs =
-    let e = c .before .before .before .before .before .before .before in
-    let p = e .before .before .before .before .before .before .before .before .pre in
-    rw length-take (omega (arith, list-room _ _ (e .if1 .left) (p .read .most)))
-
-set-idle-requires-2 : tie.Need-set-idle-requires-2
-set-idle-requires-2 c κs = search needs
-
-cast-t31 : tie.Need-cast-t31
-cast-t31 c = search needs
+answer-held-requires : tie.Need-answer-held-requires
+answer-held-requires c κs =
+    let t = c .before .before .before .before .before in
+    let g = t .before .before .before .before .before in
+    let l = g .gather-list .ensures in
+    let p = g .before .before .before .before .before .before .before .pre in
+    record {
+      client = search needs;
+      few = at-few (p .read);
+      short = held-short (p .read) _ (p .fit) _ _ (l .0) (l .1) _ (t .before .before .if1 .left) (t .set-list .ensures);
+      room = search needs;
+    }
 
 same-length-3 : tie.Need-same-length-3
 same-length-3 c = search needs
@@ -92,36 +66,27 @@ same-length-4 c = search needs
 
 returns-3 : tie.Need-returns-3
 returns-3 c =
-    let w = c .before .before .before .before .before .before in
-    let l = w .before .before .before .before in
-    let e = l .before .before .before .before in
-    let g = e .before .before .before in
-    let p = g .before .before .before .before .before .pre in
-    table-given _ _ _ _ (p .read) (p .fit) _ _ (g .gather-list .ensures .0) (g .gather-list .ensures .1) (p .step) _ _ (e .if1 .left) _ _ _
-    (l .list-at .ensures) (l .before .before .saw-pending .ensures) (l .before .if2 .left) (w .write .ensures) (c .before .before .set-idle2 .ensures)
+    let a = c .before .before .before .before in
+    let t = a .before .before .before .before .before .before in
+    let g = t .before .before .before .before .before in
+    let l = g .gather-list .ensures in
+    let p = g .before .before .before .before .before .before .before .pre in
+    let o = a .answer-held .ensures in
+    table-given (p .read) _ (p .fit) _ _ (l .0) (l .1) _ (t .before .before .if1 .left) (t .set-list .ensures) (p .step) _ _ (g .before .before .saw-pending .ensures) (a .before .before .before .if2 .left) _ _ _ (o .0) (o .1 .0) (o .1 .1)
 
 pub table-step-spec : {M : Type 1} → statement M
 table-step-spec =
     tie.close
     (tie.spec
+    saw-pending-requires
     gather-list-requires
     set-idle-requires
     same-length
     returns
-    saw-pending-requires
     set-list-requires
     same-length-2
     returns-2
-    list-at-requires
-    mul-end
-    add-end
-    mul-write
-    sub-write
-    part-write-start
-    part-write-end
-    write-requires
-    set-idle-requires-2
-    cast-t31
+    answer-held-requires
     same-length-3
     same-length-4
     returns-3)

@@ -6,93 +6,77 @@ use borrow.Author.Needs.{needs}
 use Rattle.writing.proofs.raise_step.Statement.{statement}
 use Rattle.writing.proofs.raise_step.Tie as tie
 
-columns-at-requires : tie.Need-columns-at-requires
-columns-at-requires c κs = search needs
-
-steps-of-requires : tie.Need-steps-of-requires
-steps-of-requires c κs = search needs
-
 power-requires : tie.Need-power-requires
 power-requires c κs = search needs
 
--- what was read of the client
-abbrev start : tie.After-power → tie.Start
-start c = c .before .before .before .before .before .before .before
+cast-count : tie.Need-cast-count
+cast-count c = search needs
 
-read : (c : tie.After-power)
-    → let cols = c .before .before .before .columns-at .result in
-    Raise (start c .args .clients .now) (start c .args .d) (start c .args .k) cols (c .before .steps-of .result) (c .power .result)
-read c =
-    let cols = c .before .before .before .columns-at .ensures in
-    raise-read _ _ _ (start c .pre .0) _ cols _ (c .before .steps-of .ensures) _ (c .power .ensures) (start c .pre .1 .1)
+-- what is known of the raise that is due
+abbrev start : tie.After-power → tie.Start
+start c = c .before .before .before
+
+read : (c : tie.After-power) → Raise (start c .args .h) (start c .args .clients .now) (start c .args .d) (c .power .result)
+read c = raise-read (start c .pre .0) _ (c .power .ensures) (start c .pre .1 .1)
 
 add-number : tie.Need-add-number
 add-number c = let r = read c in omega arith
 
 sub-number : tie.Need-sub-number
-sub-number c = let r = read c in omega arith
-
-cast-retire : tie.Need-cast-retire
-cast-retire c = search needs
+sub-number c = let r = read (c .before) in omega arith
 
 retire-requires : tie.Need-retire-requires
-retire-requires c κs = let r = read (c .before) in (search needs, (search needs, r .fits))
+retire-requires c κs = let r = read (c .before .before) in (search needs, (search needs, r .fits))
 
 same-length : tie.Need-same-length
 same-length c = search needs
 
-same-length-2 : tie.Need-same-length-2
-same-length-2 c = search needs
-
 returns : tie.Need-returns
 returns c =
     let made = c .before .before .before in
-    let r = read (made .before .before) in
+    let r = read (made .before .before .before) in
     λ t a y. raise-refused t _ a _ y _ _ _ _ _ _ (r .label) (made .retire .ensures) (r .past) (not-true _ (c .if1 .taken))
 
 add-after-raise : tie.Need-add-after-raise
 add-after-raise c =
     let made = c .before .before .before .before in
-    let r = read (made .before .before) in
+    let r = read (made .before .before .before) in
     omega arith
 
 after-raise-requires : tie.Need-after-raise-requires
 after-raise-requires c κs =
-    let made = c .before .before .before .before in
-    let r = read (made .before .before) in
+    let made = c .before .before .before .before .before in
+    let r = read (made .before .before .before) in
     (search needs, omega arith)
+
+same-length-2 : tie.Need-same-length-2
+same-length-2 c = search needs
 
 same-length-3 : tie.Need-same-length-3
 same-length-3 c = search needs
 
-same-length-4 : tie.Need-same-length-4
-same-length-4 c = search needs
-
 returns-2 : tie.Need-returns-2
 returns-2 c =
-    let passed = c .before .before .before .before in
+    let raised = c .before .before in
+    let passed = raised .before .before .before in
     let made = passed .before .before .before in
-    let r = read (made .before .before) in
+    let r = read (made .before .before .before) in
     let went = not-false _ (passed .if1 .left) in
-    let left = c .before .before .after-raise .ensures in
-    λ t a y. raise-done t _ a _ y _ _ _ _ _ _ (r .label) (made .retire .ensures) (r .past) went _ _ _ (r .last) left
+    λ t a y. raise-done t _ a _ y _ _ _ _ _ _ (r .label) (made .retire .ensures) (r .past) went _ _ _ (r .last) (raised .after-raise .ensures)
 
 pub raise-step-spec : {M : Type 1} → statement M
 raise-step-spec =
     tie.close
     (tie.spec
-    columns-at-requires
-    steps-of-requires
     power-requires
+    cast-count
     add-number
     sub-number
-    cast-retire
     retire-requires
     same-length
-    same-length-2
     returns
     add-after-raise
     after-raise-requires
+    same-length-2
     same-length-3
-    same-length-4
     returns-2)

@@ -1,6 +1,6 @@
 -- `columns::labels::write_label` meets its contract, by `write-node`. Assumes nothing.
 use borrow.Author.Needs.{needs}
-use Rattle.columns.proofs.LabelLoops.{write-words}
+use Rattle.columns.proofs.LabelLaws.{write-words}
 use Rattle.columns.proofs.labels.write_label.Statement.{statement}
 use Rattle.columns.proofs.labels.write_label.Tie as tie
 

@@ -3,12 +3,12 @@
 use mathlib.Core.Path.{_≡_, refl}
 use Prim.Native.Nat.{_-_, _≤_}
 use native.Mathlib.Omega.{arith}
-use lib.ListN.{take}
 use Rattle.laws.proofs.TestLaws.{clash}
 use Rattle.rules.specs.Nodes.{retired}
 use Rattle.rules.specs.Memory.{storeIn}
 use Rattle.query.specs.Shape.{narrow}
 use Rattle.revisions.proofs.Retirements.{allRetirable}
+use Rattle.clients.specs.ClientContracts.{heldQuery}
 use Rattle.writing.specs.WriteContracts.{labelsFrom, isFound}
 use Rattle.writing.proofs.Retiring.{rest, test-start, test-next, test-stop, test-end, spot-there, spot-missing}
 use Rattle.writing.proofs.Retiring.{Kept, kept-none, kept-more, kept-all, few-nodes}
@@ -17,22 +17,22 @@ use Rattle.writing.proofs.retire.can_retire.Statement.{statement}
 use Rattle.writing.proofs.retire.can_retire.Tie as tie
 
 abbrev Inv-loop : tie.InvT-loop
-Inv-loop nodes cols k from n lift places₀ j₀ places j =
+Inv-loop nodes h from n lift places₀ values j₀ places j =
     (j ≤ n)
-    × ((isFound (retired narrow lift (labelsFrom (take k cols) from n) (storeIn narrow nodes))
-    ≡ allRetirable lift (rest (take k cols) from n j) (storeIn narrow nodes))
-    × Kept (take k cols) from (storeIn narrow nodes) places₀ places j)
+    × ((isFound (retired narrow lift (labelsFrom (heldQuery h) from n) (storeIn narrow nodes))
+    ≡ allRetirable lift (rest (heldQuery h) from n j) (storeIn narrow nodes))
+    × Kept (heldQuery h) from (storeIn narrow nodes) places₀ places j)
 
 abbrev μ-loop : tie.MeasureT-loop
-μ-loop nodes cols k from n lift places₀ j₀ places j = n - j
+μ-loop nodes h from n lift places₀ values j₀ places j = n - j
 
 loop-holds : tie.Need-loop-holds Inv-loop μ-loop
-loop-holds c = (search needs, (test-start _ _ _ _ _ (c .before .before .pre .0 .1 .1), kept-none _ _ _ _))
+loop-holds c = (search needs, (test-start _ _ _ _ _ (c .before .before .before .pre .0 .1 .1), kept-none _ _ _ _))
 
 add-write-label : tie.Need-add-write-label Inv-loop μ-loop
 add-write-label c =
-    let p = c .before .before .before .before .pre .0 .1 in
-    omega (arith, few-nodes _ _ _ (p .1) (p .0))
+    let start = c .before .before .before .before .before in
+    omega (arith, few-nodes _ _ _ _ (start .pre .0 .1 .1) (start .pre .0 .1 .0))
 
 write-label-requires : tie.Need-write-label-requires Inv-loop μ-loop
 write-label-requires c κs = search needs
@@ -92,7 +92,8 @@ same-length-2 c = c .before .loop .inv .1 .1 .size
 returns-2 : tie.Need-returns-2 Inv-loop μ-loop
 returns-2 c =
     let l = c .before .loop in
-    let e : l .j ≡ c .before .before .before .before .args .n = omega arith in
+    let start = c .before .before .before .before .before in
+    let e : l .j ≡ start .args .n = omega arith in
     (test-end _ _ _ _ _ _ _ (l .inv .1 .0) (c .loop-test .left), λ z. kept-all _ _ _ _ _ _ _ (l .inv .1 .1) e)
 
 pub can-retire-spec : {M : Type 1} → statement M

@@ -16,7 +16,7 @@ slice-aggregate-can-retire c = search needs
 can-retire-requires : tie.Need-can-retire-requires
 can-retire-requires c κs =
     let p = c .before .before .before .pre in
-    (p, omega (arith, few-nodes _ _ _ (p .1 .1) (p .1 .0)))
+    (p, omega (arith, few-nodes _ _ _ _ (p .1 .1) (p .1 .0)))
 
 same-length : tie.Need-same-length
 same-length c = search needs
@@ -27,10 +27,10 @@ returns c =
     took-none _ _ (sym (tested .0) ∙ not-true _ (c .if1 .taken))
 
 -- the nodes are no more than the places
-few : (c : tie.After-can-retire) → c .before .before .before .before .args .n ≤ length (c .can-retire .last .1 .1 .1 .1 .1 .1 .0)
+few : (c : tie.After-can-retire) → c .before .before .before .before .args .n ≤ length (c .can-retire .last .1 .1 .1 .1 .1 .0)
 few c =
     let p = c .before .before .before .before .pre in
-    omega (arith, few-nodes _ _ _ (p .1 .1) (p .1 .0), c .can-retire .kept .1 .1 .1 .1 .1 .1 .0)
+    omega (arith, few-nodes _ _ _ _ (p .1 .1) (p .1 .0), c .can-retire .kept .1 .1 .1 .1 .1 .0)
 
 array-share-prefix-places : tie.Need-array-share-prefix-places
 array-share-prefix-places c = few (c .before .before .before)

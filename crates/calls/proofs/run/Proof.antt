@@ -1,0 +1,273 @@
+-- `calls::run` meets its contract: each arm is the call that its value stands for. Assumes nothing.
+use Rattle.rules.specs.History.{callResult}
+use Rattle.calls.specs.CallValues.{callOf, trayAfter, withTray, ran}
+use Rattle.calls.proofs.CallLaws.{without-tray}
+use borrow.Author.Needs.{needs}
+use Rattle.calls.proofs.run.Statement.{statement}
+use Rattle.calls.proofs.run.Tie as tie
+
+enum-known-call : tie.Need-enum-known-call
+enum-known-call c = search needs
+
+begin-read-requires : tie.Need-begin-read-requires
+begin-read-requires c κs = search needs
+
+enum-known-call-2 : tie.Need-enum-known-call-2
+enum-known-call-2 c = search needs
+
+begin-insert-requires : tie.Need-begin-insert-requires
+begin-insert-requires c κs = search needs
+
+enum-known-call-3 : tie.Need-enum-known-call-3
+enum-known-call-3 c = search needs
+
+begin-delete-requires : tie.Need-begin-delete-requires
+begin-delete-requires c κs = search needs
+
+enum-known-call-4 : tie.Need-enum-known-call-4
+enum-known-call-4 c = search needs
+
+step-requires : tie.Need-step-requires
+step-requires c κs = search needs
+
+enum-known-call-5 : tie.Need-enum-known-call-5
+enum-known-call-5 c = search needs
+
+abandon-requires : tie.Need-abandon-requires
+abandon-requires c κs = search needs
+
+enum-known-call-6 : tie.Need-enum-known-call-6
+enum-known-call-6 c = search needs
+
+evict-answer-requires : tie.Need-evict-answer-requires
+evict-answer-requires c κs = search needs
+
+enum-known-call-7 : tie.Need-enum-known-call-7
+enum-known-call-7 c = search needs
+
+evict-node-requires : tie.Need-evict-node-requires
+evict-node-requires c κs = search needs
+
+enum-told : tie.Need-enum-told
+enum-told c = search needs
+
+renew-requires : tie.Need-renew-requires
+renew-requires c κs = search needs
+
+same-length : tie.Need-same-length
+same-length c = search needs
+
+same-length-2 : tie.Need-same-length-2
+same-length-2 c = search needs
+
+same-length-3 : tie.Need-same-length-3
+same-length-3 c = search needs
+
+same-length-4 : tie.Need-same-length-4
+same-length-4 c = search needs
+
+returns : tie.Need-returns
+unfolding ran withTray callOf trayAfter callResult
+returns c =
+    let b = c .before .before .before .before .before .before .before .before in
+    let k = b .before .before .before .before .before .before in
+    rw (k .call .given .1) (without-tray _ (b .begin-read .ensures))
+
+same-length-5 : tie.Need-same-length-5
+same-length-5 c = search needs
+
+same-length-6 : tie.Need-same-length-6
+same-length-6 c = search needs
+
+same-length-7 : tie.Need-same-length-7
+same-length-7 c = search needs
+
+same-length-8 : tie.Need-same-length-8
+same-length-8 c = search needs
+
+returns-2 : tie.Need-returns-2
+unfolding ran withTray callOf trayAfter callResult
+returns-2 c =
+    let b = c .before .before .before .before .before .before .before .before in
+    let k = b .before .before .before .before .before .before in
+    rw (k .call2 .given .1) (without-tray _ (b .begin-insert .ensures))
+
+same-length-9 : tie.Need-same-length-9
+same-length-9 c = search needs
+
+same-length-10 : tie.Need-same-length-10
+same-length-10 c = search needs
+
+same-length-11 : tie.Need-same-length-11
+same-length-11 c = search needs
+
+same-length-12 : tie.Need-same-length-12
+same-length-12 c = search needs
+
+returns-3 : tie.Need-returns-3
+unfolding ran withTray callOf trayAfter callResult
+returns-3 c =
+    let b = c .before .before .before .before .before .before .before .before in
+    let k = b .before .before .before .before .before .before in
+    rw (k .call3 .given .1) (without-tray _ (b .begin-delete .ensures))
+
+same-length-13 : tie.Need-same-length-13
+same-length-13 c = search needs
+
+same-length-14 : tie.Need-same-length-14
+same-length-14 c = search needs
+
+same-length-15 : tie.Need-same-length-15
+same-length-15 c = search needs
+
+same-length-16 : tie.Need-same-length-16
+same-length-16 c = search needs
+
+same-length-17 : tie.Need-same-length-17
+same-length-17 c = search needs
+
+returns-4 : tie.Need-returns-4
+unfolding ran withTray callOf trayAfter callResult
+returns-4 c =
+    let t = c .before .before in
+    let b = t .before .before .before .before .before .before .before .before in
+    let k = b .before .before .before .before .before .before .before in
+    rw (k .call4 .given .1) (b .step .ensures)
+
+same-length-18 : tie.Need-same-length-18
+same-length-18 c = search needs
+
+same-length-19 : tie.Need-same-length-19
+same-length-19 c = search needs
+
+same-length-20 : tie.Need-same-length-20
+same-length-20 c = search needs
+
+same-length-21 : tie.Need-same-length-21
+same-length-21 c = search needs
+
+returns-5 : tie.Need-returns-5
+unfolding ran withTray callOf trayAfter callResult
+returns-5 c =
+    let b = c .before .before .before .before .before .before .before .before in
+    let k = b .before .before .before .before .before .before in
+    rw (k .call5 .given .1) (without-tray _ (b .abandon .ensures))
+
+same-length-22 : tie.Need-same-length-22
+same-length-22 c = search needs
+
+same-length-23 : tie.Need-same-length-23
+same-length-23 c = search needs
+
+same-length-24 : tie.Need-same-length-24
+same-length-24 c = search needs
+
+same-length-25 : tie.Need-same-length-25
+same-length-25 c = search needs
+
+returns-6 : tie.Need-returns-6
+unfolding ran withTray callOf trayAfter callResult
+returns-6 c =
+    let b = c .before .before .before .before .before .before .before .before in
+    let k = b .before .before .before .before .before .before in
+    rw (k .call6 .given .1) (without-tray _ (b .evict-answer .ensures))
+
+same-length-26 : tie.Need-same-length-26
+same-length-26 c = search needs
+
+same-length-27 : tie.Need-same-length-27
+same-length-27 c = search needs
+
+same-length-28 : tie.Need-same-length-28
+same-length-28 c = search needs
+
+same-length-29 : tie.Need-same-length-29
+same-length-29 c = search needs
+
+returns-7 : tie.Need-returns-7
+unfolding ran withTray callOf trayAfter callResult
+returns-7 c =
+    let b = c .before .before .before .before .before .before .before .before in
+    let k = b .before .before .before .before .before .before in
+    rw (k .call7 .given .1) (without-tray _ (b .evict-node .ensures))
+
+same-length-30 : tie.Need-same-length-30
+same-length-30 c = search needs
+
+same-length-31 : tie.Need-same-length-31
+same-length-31 c = search needs
+
+same-length-32 : tie.Need-same-length-32
+same-length-32 c = search needs
+
+same-length-33 : tie.Need-same-length-33
+same-length-33 c = search needs
+
+returns-8 : tie.Need-returns-8
+unfolding ran withTray callOf trayAfter callResult
+returns-8 c =
+    let b = c .before .before .before .before .before .before .before .before in
+    let k = b .before .before .before .before .before in
+    rw (k .enum-told .given .1) (without-tray _ (b .renew .ensures))
+
+pub run-spec : {M : Type 1} → statement M
+run-spec =
+    tie.close
+    (tie.spec
+    enum-known-call
+    begin-read-requires
+    enum-known-call-2
+    begin-insert-requires
+    enum-known-call-3
+    begin-delete-requires
+    enum-known-call-4
+    step-requires
+    enum-known-call-5
+    abandon-requires
+    enum-known-call-6
+    evict-answer-requires
+    enum-known-call-7
+    evict-node-requires
+    enum-told
+    renew-requires
+    same-length
+    same-length-2
+    same-length-3
+    same-length-4
+    returns
+    same-length-5
+    same-length-6
+    same-length-7
+    same-length-8
+    returns-2
+    same-length-9
+    same-length-10
+    same-length-11
+    same-length-12
+    returns-3
+    same-length-13
+    same-length-14
+    same-length-15
+    same-length-16
+    same-length-17
+    returns-4
+    same-length-18
+    same-length-19
+    same-length-20
+    same-length-21
+    returns-5
+    same-length-22
+    same-length-23
+    same-length-24
+    same-length-25
+    returns-6
+    same-length-26
+    same-length-27
+    same-length-28
+    same-length-29
+    returns-7
+    same-length-30
+    same-length-31
+    same-length-32
+    same-length-33
+    returns-8)

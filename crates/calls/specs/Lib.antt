@@ -1,0 +1,2 @@
+pub mod CallValues
+pub mod CallContracts

@@ -1,0 +1,160 @@
+-- The number at each way out of a begin's checks, and the key that a begin hands on. Leans on the rules' Refusals and Work, and on the laws of
+-- columns. Assumes nothing.
+use mathlib.Core.Path.{_≡_, refl, sym, ap, _∙_}
+use mathlib.Core.Bool.{Bool, true, false, cond, not, _&&_}
+use mathlib.Core.List.{List}
+use Prim.Native.Nat.{ℕ, _*_, _≤_, _<_}
+use native.Mathlib.Omega.{arith}
+use lib.Dec.{eqb}
+use lib.ListN.{length, getD, take}
+use borrow.Author.Tests.{eqb-true, eq-eqb, ne-eqb, not-true, not-false}
+use Rattle.laws.proofs.ListLaws.{and-left}
+use Rattle.laws.proofs.TestLaws.{byTest}
+use Rattle.query.specs.declared.Column.{Column}
+use Rattle.query.specs.Query.{naming}
+use Rattle.query.specs.Encoding.{queryOf, isQuery, namesAll, recordOf, keyWords}
+use Rattle.query.specs.Shape.{Shape, shapeOf, maxColumns, narrow}
+use Rattle.query.proofs.EncodingLaws.{is-query-length}
+use Rattle.columns.specs.declared.Taken.{Taken}
+use Rattle.columns.specs.ColumnContracts.{four, takenOf}
+use Rattle.columns.proofs.ColumnLoops.{four-back}
+use Rattle.columns.proofs.TakeLoop.{taken-key}
+use Rattle.rules.specs.Layout.{columnsOffset, reads, inserts, refusedShort, refusedColumns, refusedTaken, refusedIdle, refusedWorn}
+use Rattle.rules.specs.Table.{target}
+use Rattle.rules.specs.Work.{keyOf, askKey, Request, readOf, insertOf, deleteOf, isWrite, askOf, workOf, faultOf}
+use Rattle.rules.specs.Nodes.{isWorn}
+use Rattle.rules.specs.Client.{isIdle, isBad}
+use Rattle.rules.specs.Memory.{Mem, storeIn}
+use Rattle.rules.specs.Refusals.{shape, client, isShort, isUnsound, noClient, atClient, beginCode}
+use Rattle.rules.proofs.PassedChecks.{insert-good, begin-passed}
+use Rattle.checks.specs.declared.Begun.{Begun}
+use Rattle.checks.specs.CheckContracts.{requestOf, Asked, deskCode, BeginFound}
+
+-- ---- What arrives
+-- one that is turned down, or that a hall of too many columns would not keep, needs no key
+pub keyless-as : {r : Begun} {sh : Shape} {x : Request} (n : ℕ) → r .code ≡ n → n ≡ faultOf sh x → (faultOf sh x ≡ 0 → sh .columns ≤ maxColumns → ⊥) → Asked r sh x
+keyless-as n e f h = record { code = e ∙ f; key = λ z l. absurd (h z l) }
+
+pub too-many : {r : Begun} {k : ℕ} {x : Request} (n : ℕ) → r .code ≡ n → n ≡ faultOf (shapeOf k) x → maxColumns < k → Asked r (shapeOf k) x
+too-many n e f h = keyless-as n e f (λ z l. omega arith)
+
+-- an insert, which is a query of the hall
+module _ (k : ℕ) (a : List ℕ) (q : isQuery (shapeOf k) a ≡ true) (t : Taken) (e : t ≡ takenOf (queryOf a)) where
+  pub insert-code : t .code ≡ faultOf (shapeOf k) (insertOf a)
+  unfolding faultOf
+  insert-code = ap (λ (x : Taken). x .code) e ∙ rw q
+
+  pub insert-key : (key : List ℕ) → k ≤ maxColumns → key ≡ keyWords (naming (take k (t .values))) → faultOf (shapeOf k) (insertOf a) ≡ 0
+      → key ≡ keyOf (workOf (shapeOf k) (insertOf a))
+  unfolding keyOf workOf target
+  insert-key key l f z =
+      taken-key (queryOf a) k t key e (is-query-length (shapeOf k) a q) l (insert-good (shapeOf k) a z .1) f
+
+pub insert-asked : (k : ℕ) (a : List ℕ) (q : isQuery (shapeOf k) a ≡ true) (t : Taken) → t ≡ takenOf (queryOf a)
+    → {r : Begun} → r .code ≡ t .code → k ≤ maxColumns → r .key ≡ keyWords (naming (take k (t .values))) → Asked r (shapeOf k) (insertOf a)
+insert-asked k a q t e c l f = record { code = c ∙ insert-code k a q t e; key = λ z m. insert-key k a q t e _ l f z }
+
+-- by the number of its kind
+of-insert : (x : ℕ) (a : List ℕ) → x ≡ inserts → requestOf x a ≡ insertOf a
+of-insert x a e = rw (ne-eqb x reads (λ z. omega arith), eq-eqb x inserts e)
+
+pub asked-insert : {r : Begun} {k : ℕ} (x : ℕ) (a : List ℕ) → x ≡ inserts → Asked r (shapeOf k) (insertOf a) → Asked r (shapeOf k) (requestOf x a)
+asked-insert x a e h = rw (of-insert x a e) h
+
+module _ (k x : ℕ) (a : List ℕ) where
+  named-or-not : (b c : Bool) → b ≡ false → cond (b && c) 0 refusedColumns ≡ refusedColumns
+  named-or-not b c e = rw e
+
+  pub fault-query : (r : Bool) → r ≡ isQuery (shapeOf k) a → not r ≡ true → refusedColumns ≡ faultOf (shapeOf k) (requestOf x a)
+  unfolding faultOf
+  fault-query r e h =
+      let f : isQuery (shapeOf k) a ≡ false = sym e ∙ not-true r h in
+      byTest (eqb x reads) (λ y. rw (y, f)) (λ y. byTest (eqb x inserts) (λ z. rw (y, z, f)) (λ z. rw (y, z, f)))
+
+  module _ (q : isQuery (shapeOf k) a ≡ true) (n : x ≡ inserts → ⊥) where
+    pub fault-plain : 0 ≡ faultOf (shapeOf k) (requestOf x a)
+    unfolding faultOf
+    fault-plain = byTest (eqb x reads) (λ y. rw (y, q)) (λ y. rw (y, ne-eqb x inserts n, q))
+
+    pub plain-asked : {r : Begun} (cols : List Column) → cols ≡ four (queryOf a) → r .code ≡ 0 → r .key ≡ keyWords (take k cols)
+        → Asked r (shapeOf k) (requestOf x a)
+    unfolding keyOf workOf askKey askOf target
+    plain-asked cols e c f =
+        let g : take k cols ≡ queryOf a = ap (take k) e ∙ four-back k (queryOf a) (is-query-length (shapeOf k) a q) in
+        let w : keyOf (workOf (shapeOf k) (requestOf x a)) ≡ keyWords (queryOf a) =
+        byTest (eqb x reads) (λ y. rw y) (λ y. rw (y, ne-eqb x inserts n)) in
+        record { code = c ∙ fault-plain; key = λ z l. f ∙ ap keyWords g ∙ sym w }
+
+  pub is-query : (r : Bool) → r ≡ isQuery (shapeOf k) a → not r ≡ false → isQuery (shapeOf k) a ≡ true
+  is-query r e h = sym e ∙ not-false r h
+
+  pub asked-short : isQuery (shapeOf k) a ≡ true → k ≤ maxColumns → length a ≤ 2 * maxColumns
+  unfolding isQuery
+  asked-short q l = let e = eqb-true (length a) (2 * k) (and-left _ _ q) in omega arith
+
+  pub reads-only : x ≡ reads → isWrite (requestOf x a) ≡ false
+  unfolding isWrite
+  reads-only h = rw (eq-eqb x reads h)
+
+  pub writes-only : (x ≡ reads → ⊥) → isWrite (requestOf x a) ≡ true
+  unfolding isWrite
+  writes-only h = byTest (eqb x inserts) (λ i. rw (ne-eqb x reads h, i)) (λ i. rw (ne-eqb x reads h, i))
+
+-- ---- What a client is found to be decides the rest, but for the last test
+begin-found : (u n b i : Bool) (r : ℕ)
+    → cond u 3 (cond n 4 (cond b 3 (cond (not i) 5 r)))
+    ≡ cond (eqb (cond u 3 (cond n 4 (cond b 3 (cond i 6 0)))) 0) 5
+    (cond (eqb (cond u 3 (cond n 4 (cond b 3 (cond i 6 0)))) 6) r (cond u 3 (cond n 4 (cond b 3 (cond i 6 0)))))
+begin-found true n b i r = refl
+begin-found false true b i r = refl
+begin-found false false true i r = refl
+begin-found false false false true r = refl
+begin-found false false false false r = refl
+
+module _ (m : Mem) (d : ℕ) (r : Request) (n : ℕ) (f : n ≡ atClient m d) where
+  desk-rest : cond (eqb n 0) refusedTaken (cond (eqb n refusedIdle) (cond (isWrite r && isWorn narrow (shape m) (storeIn narrow (m .nodes))) refusedWorn 0) n) ≡ deskCode m d r
+  unfolding deskCode atClient
+  desk-rest = rw f
+      (sym (begin-found (isUnsound m) (noClient d) (isBad narrow (shape m) (client m d)) (isIdle narrow (client m d))
+      (cond (isWrite r && isWorn narrow (shape m) (storeIn narrow (m .nodes))) refusedWorn 0)))
+
+  pub desk-busy : n ≡ 0 → refusedTaken ≡ deskCode m d r
+  desk-busy h = rw h at desk-rest
+
+  pub desk-other : (n ≡ 0 → ⊥) → (n ≡ refusedIdle → ⊥) → n ≡ deskCode m d r
+  desk-other h g = rw (ne-eqb n 0 h, ne-eqb n refusedIdle g) at desk-rest
+
+  module _ (g : n ≡ refusedIdle) where
+    desk-free : cond (isWrite r && isWorn narrow (shape m) (storeIn narrow (m .nodes))) refusedWorn 0 ≡ deskCode m d r
+    desk-free = rw g at desk-rest
+
+    pub desk-read : isWrite r ≡ false → 0 ≡ deskCode m d r
+    desk-read h = rw h at desk-free
+
+    pub desk-worn : isWrite r ≡ true → true ≡ isWorn narrow (shape m) (storeIn narrow (m .nodes)) → refusedWorn ≡ deskCode m d r
+    desk-worn h w = rw (h, ← w) at desk-free
+
+    pub desk-write : isWrite r ≡ true → false ≡ isWorn narrow (shape m) (storeIn narrow (m .nodes)) → 0 ≡ deskCode m d r
+    desk-write h w = rw (h, ← w) at desk-free
+
+-- ---- All of a begin
+module _ (m : Mem) (d : ℕ) (x : Request) where
+  turned-down : {r : Begun} → r .code ≡ beginCode m d x → (r .code ≡ 0 → ⊥) → BeginFound r m d x
+  turned-down e h = record { code = e; key = λ z. absurd (h (e ∙ z)) }
+
+  pub begin-short : {r : Begun} → r .code ≡ refusedShort → true ≡ isShort narrow (shape m) m → BeginFound r m d x
+  unfolding beginCode
+  begin-short e s = turned-down (e ∙ rw (← s)) (λ z. omega arith)
+
+  -- r: what arrives, taken
+  module _ (s : false ≡ isShort narrow (shape m) m) {r : Begun} (q : Asked r (shape m) x) where
+    pub begin-fault : (r .code ≡ 0 → ⊥) → BeginFound r m d x
+    unfolding beginCode
+    begin-fault h = turned-down (q .code ∙ rw (← s, ne-eqb (faultOf (shape m) x) 0 (λ z. h (q .code ∙ z)))) h
+
+    pub begin-desk : r .code ≡ 0 → {t : Begun} → t .code ≡ deskCode m d x → t .key ≡ r .key → BeginFound t m d x
+    unfolding beginCode deskCode
+    begin-desk z e f = record {
+      code = e ∙ rw (← s, eq-eqb (faultOf (shape m) x) 0 (sym (q .code) ∙ z));
+      key = λ y. f ∙ q .key (sym (q .code) ∙ z) (begin-passed m d x (unfold beginCode in y) .memories .most);
+    }
