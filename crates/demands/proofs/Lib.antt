@@ -13,3 +13,9 @@ pub mod Steady
 pub mod WriteEffects
 pub mod Seen
 pub mod CorollariesHold
+pub mod WorksBegun
+pub mod OneWorkHolds
+pub mod OpenWritesHold
+pub mod RefusalRowsHold
+pub mod UnalteredMemories
+pub mod Demand1Holds

@@ -65,7 +65,7 @@ pub accepted-at : (h : History) (n : ℕ) → n < length (h .calls) → accepted
 unfolding acceptedAt
 accepted-at h n l = ap isAccepted (sym (number-at h n)) ∙ transition-accepted (stateOf (memAt h n)) (transition-at h n l)
 
-work-ends : (sh : Shape) (tray : List ℕ) (o : Outcome) → isEnd (responseIn sh tray o) ≡ endsWork o
+pub work-ends : (sh : Shape) (tray : List ℕ) (o : Outcome) → isEnd (responseIn sh tray o) ≡ endsWork o
 unfolding isEnd responseIn endsWork
 work-ends sh tray (Refused n) = refl
 work-ends sh tray Accepted = refl

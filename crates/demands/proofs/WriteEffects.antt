@@ -110,7 +110,7 @@ trace-table : (h : History) (n j : ℕ) → n ≤ length (h .calls) → j ≤ n 
 trace-table h n j l m =
     tabs-are (shapeAt h) (logTo h n) j (let k = length-log h n in omega arith) ∙ ap (plainTable (shapeAt h)) (take-log h j n m) ∙ plain-table h j (omega arith)
 
-result-end : (h : History) (e : ℕ) (o : Outcome) → resultAt h e .out ≡ o → responseAt h e ≡ responseIn (shape (memAt h e)) (resultAt h e .tray) o
+pub result-end : (h : History) (e : ℕ) (o : Outcome) → resultAt h e .out ≡ o → responseAt h e ≡ responseIn (shape (memAt h e)) (resultAt h e .tray) o
 unfolding responseAt responseOf
 result-end h e o i = ap (responseIn (shape (memAt h e)) (resultAt h e .tray)) i
 

@@ -49,7 +49,7 @@ use Rattle.refinement.proofs.StepFrame.{stepsAt, entryAt, client-at, by
 
 -- ---- Begins
 -- what a request asks or writes is of the hall
-request-fits : (sh : Shape) (r : Request) → faultOf sh r ≡ 0 → WorkFits sh (workOf sh r)
+pub request-fits : (sh : Shape) (r : Request) → faultOf sh r ≡ 0 → WorkFits sh (workOf sh r)
 unfolding workOf askOf
 request-fits sh (readOf a) e = record { shape = refl; columns = is-query-length sh a (read-good sh a e) }
 request-fits sh (insertOf a) e =

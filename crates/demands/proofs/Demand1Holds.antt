@@ -1,0 +1,303 @@
+-- Demand 1: of any memories and any arguments, every call leaves each memory unaltered past its least length, and all of them where it is
+-- refused. Leans on UnalteredMemories, on rules' PassedChecks and on refinement's RefusedCalls. Assumes nothing.
+use mathlib.Core.Path.{_≡_, refl, ap}
+use mathlib.Core.Bool.{Bool, true, false, cond, not, _&&_}
+use mathlib.Core.List.{List, []}
+use mathlib.Core.Option.{Option, none, some}
+use Prim.Native.Nat.{ℕ, _+_, _*_, _≤_, _<_}
+use native.Mathlib.Omega.{arith}
+use lib.Dec.{eqb, ltb}
+use lib.ListN.{length, getD, length-take, length-drop}
+use borrow.Author.Tests.{ltb-true, eqb-true, eqb-false, leb-true}
+use Rattle.laws.proofs.TestLaws.{byTest, clash}
+use Rattle.laws.proofs.ListLaws.{length-without, and-right}
+use Rattle.laws.proofs.RowLaws.{wide-nil, wide-keep, wide-without, wide-at, length-flat}
+use Rattle.query.specs.Query.{lies}
+use Rattle.query.specs.Shape.{narrow, Shape, shapeOf}
+use Rattle.rules.specs.Layout.{maxClients, listRoom, trayLeast, entryWidth, clientWidth}
+use Rattle.rules.specs.declared.Outcome.{Outcome}
+use Rattle.rules.specs.declared.Outcome.the-variants.{Refused, Accepted, Answered, Long, Ended, Full}
+use Rattle.rules.specs.Table.{listOf}
+use Rattle.rules.specs.Work.{Ask, Value, ofRecords, valueOf, mayAnswer, readLabels, Write, writeLabels, Work, asking, writing, Request, workOf}
+use Rattle.rules.specs.Nodes.{Words, Store, store}
+use Rattle.rules.specs.Answers.{Entry, valueIn, listIn}
+use Rattle.rules.specs.Client.{steps, sawPending, foundFull, entryOf}
+use Rattle.rules.specs.Memory.{Mem, storeIn, answersIn, opened, renewed}
+use Rattle.rules.specs.Outcome.{Result, resultWith, number}
+use Rattle.rules.specs.Refusals.{form, shape, columns, client, badColumns, isShort, openCode, beginCode, stepCode, abandonCode, evictAnswerCode, evictNodeCode, renewCode}
+use Rattle.rules.specs.Steps.{nowAt, answered, lookResult, fetchResult, tableResult, fileResult, readResult, announceResult, writeTableResult, endOf, raiseResult, writeResult, progressOf, progress}
+use Rattle.rules.specs.Calls.{unless, openResult, beginResult, stepResult, releaseResult, abandonedOf, abandoned, abandonResult, evictAnswerResult, evictNodeResult, renewResult}
+use Rattle.rules.specs.History.{Call, begin, step, abandon, evictAnswer, evictNode, renew, untrayed, callResult, isAccepted}
+use Rattle.rules.specs.Sound.{Sound, Busy}
+use Rattle.rules.proofs.PassedChecks.{open-passed, begin-passed, step-passed, abandon-passed, evict-answer-passed, evict-node-passed, renew-passed}
+use Rattle.rules.proofs.WorkLaws.{read-label-wide, write-label-wide}
+use Rattle.rules.proofs.ClientLaws.{list-room}
+use Rattle.records.proofs.RecordWrites.{of-width, effect-wide, effect-few}
+use Rattle.refinement.proofs.ClientPhases.{fits-at, begun-left}
+use Rattle.refinement.proofs.OthersRefined.{request-fits}
+use Rattle.refinement.proofs.ClientParts.{length-entry}
+use Rattle.refinement.proofs.MemoryReads.{length-nodes, length-answers}
+use Rattle.refinement.proofs.AnswersRefined.{wide-filed, length-filed}
+use Rattle.refinement.proofs.RefusedCalls.{begin-low, step-low, abandon-low, evict-answer-low, evict-node-low, renew-low}
+use Rattle.demands.specs.Demand1.{Unaltered, Leaves, trayOf, Demand1}
+use Rattle.demands.proofs.UnalteredMemories.{unaltered-same, unaltered-then, unaltered-written, unaltered-set, unaltered-cleared, unaltered-store, unaltered-answers}
+use Rattle.demands.proofs.UnalteredMemories.{AllUnaltered, all-same, all-now, all-store, all-filed, all-table, sized-in, wide-held, wide-filed-in}
+use Rattle.demands.proofs.UnalteredMemories.{AllSized, sized-evict, sized-ensured, sized-announced, sized-retired, stepped-wide, noted-wide, wrote-wide, holding-wide, idle-wide}
+
+-- ---- A refused call
+pub refused-leaves : (sh : Shape) (m : Mem) (tray : List ℕ) (n : ℕ) → n ≤ 11 → (n ≡ 0 → ⊥) → Leaves narrow sh m tray (resultWith (Refused n) m tray)
+unfolding number
+refused-leaves sh m tray n h ne = record {
+  table = unaltered-same _ _;
+  nodes = unaltered-same _ _;
+  answers = unaltered-same _ _;
+  clients = unaltered-same _ _;
+  tray = unaltered-same _ _;
+  refused = λ e. (refl, refl);
+  numbers = λ k e. let z : n ≡ k = ap number e in (omega arith, omega arith);
+}
+
+-- ---- A call that goes on
+isRefused : Outcome → Bool
+isRefused (Refused n) = true
+isRefused Accepted = false
+isRefused (Answered n b) = false
+isRefused Long = false
+isRefused (Ended b) = false
+isRefused Full = false
+
+-- an outcome that is no refusal
+abbrev Went : Outcome → Type 0
+Went o = (isAccepted (number o) ≡ true) × (isRefused o ≡ false)
+
+is-refused : (o : Outcome) (n : ℕ) → o ≡ Refused n → isRefused o ≡ true
+unfolding isRefused
+is-refused o n e = rw e
+
+went-leaves : (sh : Shape) (m n : Mem) (tray t : List ℕ) (o : Outcome) → Went o → AllUnaltered sh m n → Unaltered trayLeast tray t → Leaves narrow sh m tray (resultWith o n t)
+went-leaves sh m n tray t o w a b = record {
+  table = a .table;
+  nodes = a .nodes;
+  answers = a .answers;
+  clients = a .clients;
+  tray = b;
+  refused = λ e. clash (w .0) e;
+  numbers = λ k e. clash (is-refused o k e) (w .1);
+}
+
+accepted-went : Went Accepted
+unfolding isAccepted number isRefused
+accepted-went = (refl, refl)
+
+accepted-leaves : (sh : Shape) (m n : Mem) (tray : List ℕ) → AllUnaltered sh m n → Leaves narrow sh m tray (resultWith Accepted n tray)
+accepted-leaves sh m n tray a = went-leaves sh m n tray tray Accepted accepted-went a (unaltered-same _ _)
+
+unless-leaves : (sh : Shape) (m : Mem) (code : ℕ) (x : Result) → code ≤ 11 → (code ≡ 0 → Leaves narrow sh m [] (untrayed x)) → Leaves narrow sh m [] (untrayed (unless code m x))
+unfolding unless untrayed
+unless-leaves sh m code x l g =
+    byTest (eqb code 0)
+    (λ e. rw e (g (eqb-true code 0 e)))
+    (λ e. rw e (refused-leaves sh m [] code l (eqb-false code 0 e)))
+
+-- ---- Opening
+open-low : (short bad : Bool) → cond short 1 (cond bad 2 0) ≤ 11
+open-low true bad = omega arith
+open-low false true = omega arith
+open-low false false = omega arith
+
+pub open-leaves : (m : Mem) (k : ℕ) → Leaves narrow (shapeOf k) m [] (untrayed (openResult m k))
+unfolding openResult openCode untrayed opened
+open-leaves m k = unless-leaves (shapeOf k) m (openCode m k) _ (open-low (isShort narrow (shapeOf k) m) (badColumns k)) (λ e.
+    let l = open-passed m k e .0 in
+    accepted-leaves (shapeOf k) m _ [] (record {
+      table = unaltered-cleared 8200 (m .table) (l .table);
+      nodes = unaltered-then (unaltered-cleared 8200 (m .nodes) (l .nodes)) (unaltered-set 8200 _ 0 1 (omega arith));
+      answers = unaltered-cleared 10000 (m .answers) (l .answers);
+      clients = unaltered-then (unaltered-cleared 2000 (m .clients) (l .clients)) (unaltered-set 2000 _ 0 k (omega arith));
+    }))
+
+-- ---- Begins
+pub begin-leaves : (m : Mem) (d : ℕ) (r : Request) → Leaves narrow (shape m) m [] (untrayed (beginResult m d r))
+unfolding beginResult untrayed
+begin-leaves m d r = unless-leaves (shape m) m (beginCode m d r) _ (begin-low m d r) (λ e.
+    let b = begin-passed m d r e in
+    let w = begun-left (shape m) (b .memories .least) (b .memories .most) (workOf (shape m) r) (request-fits (shape m) r (b .good)) in
+    accepted-leaves (shape m) m _ [] (all-now (shape m) m m d _ (all-same (shape m) m) (b .memories .long .clients) (b .below) (w .wide)))
+
+-- ---- A step of a busy client
+module _ (m : Mem) (s : Sound m) (tray : List ℕ) (room : trayLeast ≤ length tray) (d : ℕ) (low : d < maxClients) where
+  -- the client becomes c after another change
+  now : (n : Mem) (c : List ℕ) → AllUnaltered (shape m) m n → length c ≡ clientWidth narrow → AllUnaltered (shape m) m (nowAt n d c)
+  now n c a w = all-now (shape m) m n d c a (s .long .clients) low w
+
+  unsound-leaves : Leaves narrow (shape m) m tray (resultWith (Refused 3) m tray)
+  unsound-leaves = refused-leaves (shape m) m tray 3 (omega arith) (λ e. omega arith)
+
+  answered-leaves : (n : Mem) (v : Value) (cached : Bool) → AllUnaltered (shape m) m n → length (v .numbers) ≤ listRoom → Leaves narrow (shape m) m tray (answered n tray d v cached)
+  unfolding answered isAccepted number isRefused
+  answered-leaves n v cached a h =
+      went-leaves (shape m) m _ tray _ (Answered (v .count) cached) (refl, refl) (now n _ a idle-wide) (unaltered-written 128 tray 0 (v .numbers) (omega arith) room)
+
+  -- what an entry keeps has no more numbers than it has room for
+  entry-list : (e : Entry) → length e ≡ entryWidth narrow → length (valueIn narrow (shape m) e .numbers) ≤ listRoom
+  unfolding valueIn listIn
+  entry-list e w = rw (length-take, length-drop) (omega arith)
+
+  module _ {w : Work} (b : Busy narrow (shape m) (client m d) w) where
+    look-leaves : (j : ℕ) (p : Words) (o : Option Store) → AllSized o → Leaves narrow (shape m) m tray (lookResult m tray d j p o)
+    unfolding lookResult
+    look-leaves j p none z = unsound-leaves
+    look-leaves j p (some t) z = accepted-leaves (shape m) m _ tray (now _ _ (all-store m t s z) (noted-wide (client m d) (b .wide) j _ _))
+
+    fetch-leaves : (i : ℕ) → Leaves narrow (shape m) m tray (fetchResult m tray d i)
+    unfolding fetchResult
+    fetch-leaves i =
+        let es : List Entry = answersIn narrow (m .answers) in
+        byTest (not (sawPending (client m d)) && ltb i (length es))
+        (λ e. rw e (answered-leaves m _ true (all-same (shape m) m)
+        (entry-list (getD es i []) (wide-at (entryWidth narrow) es i (wide-filed-in m s .0) (ltb-true i (length es) (and-right (not (sawPending (client m d))) _ e))))))
+        (λ e. rw e (accepted-leaves (shape m) m _ tray (now m _ (all-same (shape m) m) (stepped-wide (client m d) (b .wide)))))
+
+    table-leaves : (x : Ask) (v : Value) → length (v .numbers) ≡ v .count * columns m → Leaves narrow (shape m) m tray (tableResult m tray d x v)
+    unfolding tableResult mayAnswer isAccepted number isRefused
+    table-leaves x v l =
+        byTest (mayAnswer x v)
+        (λ t.
+        let h = list-room (v .count) (columns m) (leb-true _ _ t) (s .most) in
+        rw t (byTest (sawPending (client m d))
+        (λ u. rw u (answered-leaves m v false (all-same (shape m) m) (omega arith)))
+        (λ u. rw u (accepted-leaves (shape m) m _ tray (now m _ (all-same (shape m) m) (holding-wide (client m d) (b .wide) (shape m) v (omega arith)))))))
+        (λ t. rw t (went-leaves (shape m) m _ tray tray Long (refl, refl) (now m _ (all-same (shape m) m) idle-wide) (unaltered-same _ _)))
+
+    file-leaves : Leaves narrow (shape m) m tray (fileResult m tray d (entryOf (client m d)))
+    unfolding fileResult
+    file-leaves =
+        let e : Entry = entryOf (client m d) in
+        let wide = length-entry (client m d) (b .wide) in
+        let es = wide-filed-in m s in
+        answered-leaves _ _ false (all-filed m _ s (wide-filed e _ (es .0) wide) (length-filed e _ (es .1))) (entry-list e wide)
+
+    announce-leaves : (o : Option Store) → AllSized o → Leaves narrow (shape m) m tray (announceResult m tray d o)
+    unfolding announceResult
+    announce-leaves none z = unsound-leaves
+    announce-leaves (some t) z = accepted-leaves (shape m) m _ tray (now _ _ (all-store m t s z) (stepped-wide (client m d) (b .wide)))
+
+    end-went : Went (endOf (client m d))
+    unfolding endOf isAccepted number isRefused
+    end-went = byTest (foundFull (client m d)) (λ e. rw e (refl, refl)) (λ e. rw e (refl, refl))
+
+    raise-leaves : (isLast : Bool) (o : Option Store) → AllSized o → Leaves narrow (shape m) m tray (raiseResult m tray d isLast o)
+    unfolding raiseResult
+    raise-leaves isLast none z = unsound-leaves
+    raise-leaves false (some t) z = accepted-leaves (shape m) m _ tray (now _ _ (all-store m t s z) (stepped-wide (client m d) (b .wide)))
+    raise-leaves true (some t) z = went-leaves (shape m) m _ tray tray (endOf (client m d)) end-went (now _ _ (all-store m t s z) idle-wide) (unaltered-same _ _)
+
+  read-leaves : {x : Ask} → Busy narrow (shape m) (client m d) (asking x) → Leaves narrow (shape m) m tray (readResult m tray d x (steps (client m d)))
+  unfolding readResult valueOf ofRecords listOf
+  read-leaves {x} b =
+      let i : ℕ = steps (client m d) in
+      let n : ℕ = length (readLabels x) in
+      let f = fits-at (shape m) (client m d) (b .work) in
+      let few : length (x .query) ≤ 4 = (let a = f .columns in let c = s .most in omega arith) in
+      byTest (ltb i n)
+      (λ t. rw t (look-leaves b i _ _ (sized-ensured _ _ (read-label-wide x i few (ltb-true i n t)) (sized-in m s))))
+      (λ t. rw t (byTest (eqb i n)
+      (λ u. rw u (fetch-leaves b _))
+      (λ u. rw u (byTest (eqb i (n + 1))
+      (λ v. rw v (table-leaves b x _ (length-flat (columns m) _ (wide-keep (columns m) (lies (x .query)) _ (wide-held m s .0)))))
+      (λ v. rw v (file-leaves b))))))
+
+  write-table-leaves : {w : Write} → Busy narrow (shape m) (client m d) (writing w) → Leaves narrow (shape m) m tray (writeTableResult m tray d (w .change))
+  unfolding writeTableResult
+  write-table-leaves {w} b =
+      let f = fits-at (shape m) (client m d) (b .work) in
+      let r = wide-held m s in
+      accepted-leaves (shape m) m _ tray
+      (now _ _
+      (all-table m _ s (effect-wide (columns m) (w .change) _ (of-width (columns m) (w .change) (f .columns)) (r .0)) (effect-few (w .change) _ (r .1)))
+      (wrote-wide (client m d) (b .wide) _ _))
+
+  write-leaves : {w : Write} → Busy narrow (shape m) (client m d) (writing w) → Leaves narrow (shape m) m tray (writeResult m tray d w (steps (client m d)))
+  unfolding writeResult
+  write-leaves {w} b =
+      let i : ℕ = steps (client m d) in
+      let n : ℕ = length (writeLabels w) in
+      let f = fits-at (shape m) (client m d) (b .work) in
+      byTest (ltb i n)
+      (λ t. rw t (announce-leaves b _ (sized-announced _ _ (write-label-wide w i (let a = f .columns in let c = s .most in omega arith) (ltb-true i n t)) (sized-in m s))))
+      (λ t. rw t (byTest (eqb i n)
+      (λ u. rw u (write-table-leaves b))
+      (λ u. rw u (raise-leaves b _ _ (sized-retired true _ _ (sized-in m s))))))
+
+  progress-leaves : (w : Work) → Busy narrow (shape m) (client m d) w → Leaves narrow (shape m) m tray (progressOf m tray d w)
+  unfolding progressOf
+  progress-leaves (asking x) b = read-leaves b
+  progress-leaves (writing w) b = write-leaves b
+
+pub step-leaves : (m : Mem) (tray : List ℕ) (d : ℕ) → Leaves narrow (shape m) m tray (stepResult m tray d)
+unfolding stepResult progress
+step-leaves m tray d =
+    byTest (eqb (stepCode m tray d) 0)
+    (λ e. let p = step-passed m tray d (eqb-true (stepCode m tray d) 0 e) in rw e (progress-leaves m (p .1 .0) tray (p .0) d (p .1 .1) _ (p .1 .2)))
+    (λ e. rw e (refused-leaves (shape m) m tray (stepCode m tray d) (step-low m tray d) (eqb-false (stepCode m tray d) 0 e)))
+
+-- ---- Abandonings
+release-leaves : (m : Mem) (d : ℕ) (o : Option Store) → Sound m → d < maxClients → AllSized o → Leaves narrow (shape m) m [] (untrayed (releaseResult m d o))
+unfolding releaseResult untrayed
+release-leaves m d none s h z = refused-leaves (shape m) m [] 3 (omega arith) (λ e. omega arith)
+release-leaves m d (some t) s h z = accepted-leaves (shape m) m _ [] (all-now (shape m) m _ d _ (all-store m t s z) (s .long .clients) h idle-wide)
+
+abandoned-leaves : (m : Mem) (d : ℕ) (w : Work) → Sound m → d < maxClients → Leaves narrow (shape m) m [] (untrayed (abandonedOf m d w))
+unfolding abandonedOf untrayed
+abandoned-leaves m d (asking x) s h = accepted-leaves (shape m) m _ [] (all-now (shape m) m m d _ (all-same (shape m) m) (s .long .clients) h idle-wide)
+abandoned-leaves m d (writing w) s h = release-leaves m d _ s h (sized-retired false _ _ (sized-in m s))
+
+pub abandon-leaves : (m : Mem) (d : ℕ) → Leaves narrow (shape m) m [] (untrayed (abandonResult m d))
+unfolding abandonResult abandoned
+abandon-leaves m d = unless-leaves (shape m) m (abandonCode m d) _ (abandon-low m d) (λ e.
+    let p = abandon-passed m d e .0 in abandoned-leaves m d _ (p .0) (p .1))
+
+-- ---- Evictions and renewals
+pub evict-answer-leaves : (m : Mem) (i : ℕ) → Leaves narrow (shape m) m [] (untrayed (evictAnswerResult m i))
+unfolding evictAnswerResult untrayed
+evict-answer-leaves m i = unless-leaves (shape m) m (evictAnswerCode m i) _ (evict-answer-low m i) (λ e.
+    let p = evict-answer-passed m i e in
+    let es : List Entry = answersIn narrow (m .answers) in
+    let w = wide-filed-in m (p .0) in
+    let n = length-answers (m .answers) in
+    let h = p .1 in
+    let k = w .1 in
+    let l = length-without i es (omega arith) in
+    accepted-leaves (shape m) m _ [] (all-filed m _ (p .0) (wide-without (entryWidth narrow) i es (w .0)) (omega arith)))
+
+pub evict-node-leaves : (m : Mem) (i : ℕ) → Leaves narrow (shape m) m [] (untrayed (evictNodeResult m i))
+unfolding evictNodeResult untrayed
+evict-node-leaves m i = unless-leaves (shape m) m (evictNodeCode m i) _ (evict-node-low m i) (λ e.
+    let p = evict-node-passed m i e in
+    let n = length-nodes (m .nodes) in
+    let h = p .1 in
+    accepted-leaves (shape m) m _ [] (all-store m _ (p .0) (sized-evict i (storeIn narrow (m .nodes)) (omega arith) (sized-in m (p .0)) .0)))
+
+pub renew-leaves : (m : Mem) → Leaves narrow (shape m) m [] (untrayed (renewResult m))
+unfolding renewResult untrayed renewed
+renew-leaves m = unless-leaves (shape m) m (renewCode m) _ (renew-low m) (λ e.
+    let s = renew-passed m e .0 in
+    accepted-leaves (shape m) m _ [] (record {
+      table = unaltered-same _ _;
+      nodes = unaltered-store (m .nodes) (store 1 []) (s .long .nodes) (s .nodes) (record { wide = wide-nil 8; few = omega arith });
+      answers = unaltered-answers m [] s (wide-nil (entryWidth narrow)) (omega arith);
+      clients = unaltered-same _ _;
+    }))
+
+-- ---- All calls
+pub call-leaves : (m : Mem) (c : Call) → Leaves (form m) (shape m) m (trayOf c) (callResult m c)
+unfolding callResult trayOf
+call-leaves m (begin d r) = begin-leaves m d r
+call-leaves m (step d tray) = step-leaves m tray d
+call-leaves m (abandon d) = abandon-leaves m d
+call-leaves m (evictAnswer i) = evict-answer-leaves m i
+call-leaves m (evictNode i) = evict-node-leaves m i
+call-leaves m renew = renew-leaves m
+
+pub demand-1 : Demand1
+demand-1 = record { opening = open-leaves; calls = call-leaves }

@@ -1,0 +1,410 @@
+-- The number that a call returns is that of the first row of its refusals that applies, which is the smallest that applies; where none does it
+-- is 0, 12 or 13. Leans on rules' definitions and laws alone. Assumes nothing.
+use mathlib.Core.Path.{_≡_, refl, sym, ap, _∙_}
+use mathlib.Core.Bool.{Bool, true, false, cond, not, _&&_, _||_}
+use mathlib.Core.List.{List, [], _∷_, _++_}
+use mathlib.Core.Logic.{_⊎_, inl, inr}
+use mathlib.Core.Option.{Option, none, some}
+use Prim.Native.Nat.{ℕ, _+_, _≤_}
+use native.Mathlib.Omega.{arith}
+use lib.Dec.{eqb, ltb, leb}
+use lib.ListN.{length}
+use borrow.Author.Tests.{not-true, leb-true, ltb-true, eqb-true, ne-eqb}
+use Rattle.lists.specs.Lists.{In, here, there}
+use Rattle.laws.proofs.TestLaws.{byTest, clash, or-false}
+use Rattle.laws.proofs.ListLaws.{and-left, and-right}
+use Rattle.query.specs.Encoding.{isQuery, namesAll, queryOf}
+use Rattle.query.specs.Shape.{Shape, narrow}
+use Rattle.rules.specs.Layout.{trayLeast, refusedColumns}
+use Rattle.rules.specs.Work.{Ask, Value, readLabels, mayAnswer, Write, writeLabels, Work, asking, writing, Request, readOf, insertOf, deleteOf, isWrite, faultOf}
+use Rattle.rules.specs.Nodes.{Words, Store, isWorn}
+use Rattle.rules.specs.Client.{steps, sawPending, foundFull, isIdle, isBad, workAt}
+use Rattle.rules.specs.Memory.{Mem, storeIn, answersIn}
+use Rattle.rules.specs.Outcome.{Result, number}
+use Rattle.rules.specs.Refusals.{shape, client, isShort, isUnsound, noClient, isCommitted}
+use Rattle.rules.specs.Refusals.{openCode, beginCode, atClient, stepCode, abandonCode, evictAnswerCode, evictNodeCode, renewCode}
+use Rattle.rules.specs.Steps.{answered, lookResult, fetchResult, tableResult, fileResult, readResult, announceResult, writeTableResult, endOf, raiseResult, writeResult, progressOf, progress}
+use Rattle.rules.specs.Calls.{unless, openResult, beginResult, stepResult, releaseResult, abandonedOf, abandoned, abandonResult, evictAnswerResult, evictNodeResult, renewResult}
+use Rattle.rules.specs.History.{Call, begin, step, abandon, evictAnswer, evictNode, renew, untrayed, callResult, isAccepted}
+use Rattle.rules.proofs.WorkLaws.{write-labels-some}
+use Rattle.demands.specs.RefusalRows.{Row, firstOf, someApplies, isThere, isBusy, isNone, nodesStepped, nodesReleased, isLongAt, isFullAt}
+use Rattle.demands.specs.RefusalRows.{openRows, beginRows, stepRows, endRows, abandonRows, evictAnswerRows, evictNodeRows, renewRows, rowsOf, endsOf, Gives, RefusalRows, Smallest, SmallestGiven}
+
+-- ---- The first of two lists of rows
+first-refused : (a b : List Row) → someApplies a ≡ true → firstOf (a ++ b) ≡ firstOf a
+unfolding firstOf someApplies
+first-refused [] b e = clash e refl
+first-refused (r ∷ a) b e =
+    byTest (r .applies) (λ t. rw t) (λ t. rw t (first-refused a b (rw t at e)))
+
+first-accepted : (a b : List Row) → someApplies a ≡ false → firstOf (a ++ b) ≡ firstOf b
+unfolding firstOf someApplies
+first-accepted [] b e = refl
+first-accepted (r ∷ a) b e = let o = or-false (r .applies) (someApplies a) e in rw (o .0) (first-accepted a b (o .1))
+
+-- ---- The smallest
+-- every row that applies has a number of at least n
+data Above (n : ℕ) : List Row → Type 0 where
+  end : Above n []
+  more : {r : Row} {rs : List Row} → (r .applies ≡ true → n ≤ r .number) → Above n rs → Above n (r ∷ rs)
+
+-- of two rows that apply the later has no smaller number
+data Rising : List Row → Type 0 where
+  done : Rising []
+  rise : {r : Row} {rs : List Row} → (r .applies ≡ true → Above (r .number) rs) → Rising rs → Rising (r ∷ rs)
+
+above-in : {n : ℕ} {rs : List Row} (r : Row) → Above n rs → In r rs → r .applies ≡ true → n ≤ r .number
+above-in r (more h k) (here i) e = rw i (h (rw i at e))
+above-in r (more h k) (there i) e = above-in r k i e
+
+first-least : {rs : List Row} → Rising rs → (s : Row) → In s rs → s .applies ≡ true → firstOf rs ≤ s .number
+unfolding firstOf
+first-least (rise {r} h k) s (here i) e = let l : r .applies ≡ true = rw i at e in rw (i, l) (omega arith)
+first-least (rise {r} h k) s (there i) e =
+    byTest (r .applies)
+    (λ t. rw t (above-in s (h t) i e))
+    (λ t. rw t (first-least k s i e))
+
+-- every row, whether it applies or not, has a number of at least n
+numbersFrom : ℕ → List Row → Bool
+numbersFrom n [] = true
+numbersFrom n (r ∷ rs) = leb n (r .number) && numbersFrom n rs
+
+from : (n : ℕ) (rs : List Row) → numbersFrom n rs ≡ true → Above n rs
+unfolding numbersFrom
+from n [] e = end
+from n (r ∷ rs) e = more (λ a. leb-true _ _ (and-left (leb n (r .number)) _ e)) (from n rs (and-right (leb n (r .number)) _ e))
+
+over : (n : ℕ) (r : Row) (rs : List Row) → leb n (r .number) ≡ true → Above n rs → Above n (r ∷ rs)
+over n r rs e h = more (λ a. leb-true _ _ e) h
+
+-- ---- Refusals
+-- no row of a list stands for a call that is accepted
+refusing : List Row → Bool
+refusing [] = true
+refusing (r ∷ rs) = not (isAccepted (r .number)) && refusing rs
+
+first-refusing : (rs : List Row) → refusing rs ≡ true → someApplies rs ≡ true → isAccepted (firstOf rs) ≡ false
+unfolding refusing firstOf someApplies
+first-refusing [] h e = clash e refl
+first-refusing (r ∷ rs) h e =
+    byTest (r .applies)
+    (λ t. rw t (not-true _ (and-left (not (isAccepted (r .number))) _ h)))
+    (λ t. rw t (first-refusing rs (and-right (not (isAccepted (r .number))) _ h) (rw t at e)))
+
+-- ---- All of it
+gives : (a b : List Row) (n : ℕ) → n ≡ firstOf (a ++ b) → refusing a ≡ true → isAccepted (firstOf b) ≡ true → Gives a b n
+gives a b n e g k = record {
+  first = e;
+  accepted =
+      byTest (someApplies a)
+      (λ t. rw (t, e, first-refused a b t) (first-refusing a g t))
+      (λ t. rw (t, e, first-accepted a b t) k);
+}
+
+smallest : (rs : List Row) (n : ℕ) → n ≡ firstOf rs → Rising rs → Smallest rs n
+smallest rs n e h r i a = rw e (first-least h r i a)
+
+-- ---- Calls whose code is what they return
+unless-number : (code : ℕ) (m : Mem) (x : Result) → number (x .out) ≡ 0 → number (unless code m x .out) ≡ code
+unfolding unless number
+unless-number code m x e = byTest (eqb code 0) (λ t. rw t (e ∙ sym (eqb-true code 0 t))) (λ t. rw t)
+
+none-zero : isAccepted (firstOf []) ≡ true
+unfolding isAccepted firstOf
+none-zero = refl
+
+-- ---- Opening
+open-first : (m : Mem) (k : ℕ) → number (openResult m k .out) ≡ firstOf (openRows m k)
+unfolding openResult openCode openRows firstOf number
+open-first m k = unless-number (openCode m k) m _ refl
+
+open-rising : (m : Mem) (k : ℕ) → Rising (openRows m k)
+unfolding openRows numbersFrom
+open-rising m k = rise (λ e. from _ _ refl) (rise (λ e. from _ _ refl) done)
+
+pub open-gives : (m : Mem) (k : ℕ) → Gives (openRows m k) [] (number (openResult m k .out))
+unfolding openRows refusing isAccepted
+open-gives m k = gives (openRows m k) [] _ (open-first m k) refl none-zero
+
+-- ---- Begins
+fault-cases : (sh : Shape) (r : Request) → (faultOf sh r ≡ 0) ⊎ (faultOf sh r ≡ refusedColumns)
+unfolding faultOf
+fault-cases sh (readOf a) = byTest (isQuery sh a) (λ e. rw e (inl refl)) (λ e. rw e (inr refl))
+fault-cases sh (insertOf a) = byTest (isQuery sh a && namesAll (queryOf a)) (λ e. rw e (inl refl)) (λ e. rw e (inr refl))
+fault-cases sh (deleteOf a) = byTest (isQuery sh a) (λ e. rw e (inl refl)) (λ e. rw e (inr refl))
+
+-- a code after what begins was judged by itself
+after-fault : (f rest : ℕ) → (f ≡ 0) ⊎ (f ≡ refusedColumns) → cond (not (eqb f 0)) f rest ≡ cond (eqb f refusedColumns) refusedColumns rest
+after-fault f rest (inl e) = rw e
+after-fault f rest (inr e) = rw e
+
+-- a code at the called client; the rows say that it is there
+at-called : (gone bad idle : Bool) (n rest : ℕ)
+    → cond gone 4 (cond bad 3 (cond idle n rest)) ≡ cond gone 4 (cond (not gone && bad) 3 (cond (not gone && idle) n rest))
+at-called true bad idle n rest = refl
+at-called false bad idle n rest = refl
+
+begin-first : (m : Mem) (d : ℕ) (r : Request) → number (beginResult m d r .out) ≡ firstOf (beginRows m d r ++ [])
+unfolding beginResult beginCode beginRows firstOf number
+begin-first m d r =
+    unless-number (beginCode m d r) m _ refl
+    ∙ rw (at-called (noClient d) (isBad narrow (shape m) (client m d)) (not (isIdle narrow (client m d))) 5 (cond (isWrite r && isWorn narrow (shape m) (storeIn narrow (m .nodes))) 10 0))
+    (ap (λ (n : ℕ). cond (isShort narrow (shape m) m) 1 n) (after-fault (faultOf (shape m) r) _ (fault-cases (shape m) r)))
+
+-- two rows that do not apply together
+not-there : {A : Type 0} (gone x : Bool) → gone ≡ true → not gone && x ≡ true → A
+not-there gone x e f = clash f (rw e)
+
+not-busy : {A : Type 0} (gone idle x : Bool) → idle ≡ true → (not gone && not idle) && x ≡ true → A
+not-busy gone idle x e f = clash (and-right (not gone) (not idle) (and-left (not gone && not idle) x f)) (rw e)
+
+begin-rising : (m : Mem) (d : ℕ) (r : Request) → Rising (beginRows m d r ++ [])
+unfolding beginRows numbersFrom
+begin-rising m d r =
+    rise (λ e. from _ _ refl)
+    (rise (λ e. from _ _ refl)
+    (rise (λ e. from _ _ refl)
+    -- 4, and 3 of the desk
+    (rise (λ e. more (λ a. not-there (noClient d) _ e a) (from _ _ refl))
+    (rise (λ e. from _ _ refl)
+    (rise (λ e. from _ _ refl)
+    (rise (λ e. from _ _ refl) done))))))
+
+pub begin-gives : (m : Mem) (d : ℕ) (r : Request) → Gives (beginRows m d r) [] (number (beginResult m d r .out))
+unfolding beginRows refusing isAccepted
+begin-gives m d r = gives (beginRows m d r) [] _ (begin-first m d r) refl none-zero
+
+-- ---- Evictions and renewals
+evict-answer-first : (m : Mem) (i : ℕ) → number (evictAnswerResult m i .out) ≡ firstOf (evictAnswerRows m i ++ [])
+unfolding evictAnswerResult evictAnswerCode evictAnswerRows firstOf number
+evict-answer-first m i = unless-number (evictAnswerCode m i) m _ refl
+
+evict-answer-rising : (m : Mem) (i : ℕ) → Rising (evictAnswerRows m i ++ [])
+unfolding evictAnswerRows numbersFrom
+evict-answer-rising m i = rise (λ e. from _ _ refl) (rise (λ e. from _ _ refl) (rise (λ e. from _ _ refl) done))
+
+pub evict-answer-gives : (m : Mem) (i : ℕ) → Gives (evictAnswerRows m i) [] (number (evictAnswerResult m i .out))
+unfolding evictAnswerRows refusing isAccepted
+evict-answer-gives m i = gives (evictAnswerRows m i) [] _ (evict-answer-first m i) refl none-zero
+
+evict-node-first : (m : Mem) (i : ℕ) → number (evictNodeResult m i .out) ≡ firstOf (evictNodeRows m i ++ [])
+unfolding evictNodeResult evictNodeCode evictNodeRows firstOf number
+evict-node-first m i = unless-number (evictNodeCode m i) m _ refl
+
+evict-node-rising : (m : Mem) (i : ℕ) → Rising (evictNodeRows m i ++ [])
+unfolding evictNodeRows numbersFrom
+evict-node-rising m i = rise (λ e. from _ _ refl) (rise (λ e. from _ _ refl) (rise (λ e. from _ _ refl) (rise (λ e. from _ _ refl) done)))
+
+pub evict-node-gives : (m : Mem) (i : ℕ) → Gives (evictNodeRows m i) [] (number (evictNodeResult m i .out))
+unfolding evictNodeRows refusing isAccepted
+evict-node-gives m i = gives (evictNodeRows m i) [] _ (evict-node-first m i) refl none-zero
+
+renew-first : (m : Mem) → number (renewResult m .out) ≡ firstOf (renewRows m ++ [])
+unfolding renewResult renewCode renewRows firstOf number
+renew-first m = unless-number (renewCode m) m _ refl
+
+renew-rising : (m : Mem) → Rising (renewRows m ++ [])
+unfolding renewRows numbersFrom
+renew-rising m = rise (λ e. from _ _ refl) (rise (λ e. from _ _ refl) (rise (λ e. from _ _ refl) done))
+
+pub renew-gives : (m : Mem) → Gives (renewRows m) [] (number (renewResult m .out))
+unfolding renewRows refusing isAccepted
+renew-gives m = gives (renewRows m) [] _ (renew-first m) refl none-zero
+
+-- ---- Steps
+-- what a step of a read returns
+look-number : (m : Mem) (tray : List ℕ) (d j : ℕ) (p : Words) (o : Option Store) → number (lookResult m tray d j p o .out) ≡ cond (isNone o) 3 0
+unfolding lookResult number isNone
+look-number m tray d j p none = refl
+look-number m tray d j p (some s) = refl
+
+fetch-number : (m : Mem) (tray : List ℕ) (d i : ℕ) → number (fetchResult m tray d i .out) ≡ 0
+unfolding fetchResult answered number
+fetch-number m tray d i =
+    byTest (not (sawPending (client m d)) && ltb i (length (answersIn narrow (m .answers)))) (λ e. rw e) (λ e. rw e)
+
+table-number : (m : Mem) (tray : List ℕ) (d : ℕ) (x : Ask) (v : Value) → number (tableResult m tray d x v .out) ≡ cond (not (mayAnswer x v)) 12 0
+unfolding tableResult answered number
+table-number m tray d x v =
+    byTest (mayAnswer x v)
+    (λ e. rw e (byTest (sawPending (client m d)) (λ t. rw t) (λ t. rw t)))
+    (λ e. rw e)
+
+-- the number of work under way, by the rows that are behind its desk's
+abbrev underWay : Mem → ℕ → Work → ℕ → ℕ
+underWay m d w i = cond (isNone (nodesStepped m w i)) 3 (cond (isLongAt m w i) 12 (cond (isFullAt (client m d) w i) 13 0))
+
+read-number : (m : Mem) (tray : List ℕ) (d : ℕ) (x : Ask) (i : ℕ) → number (readResult m tray d x i .out) ≡ underWay m d (asking x) i
+unfolding readResult nodesStepped isLongAt isFullAt isNone fileResult answered number
+read-number m tray d x i =
+    let n : ℕ = length (readLabels x) in
+    byTest (ltb i n)
+    (λ t. let l = ltb-true i n t in rw (t, ne-eqb i (n + 1) (λ e. omega arith)) (look-number m tray d i _ _))
+    (λ t. rw t (byTest (eqb i n)
+    (λ u. let l = eqb-true i n u in rw (u, ne-eqb i (n + 1) (λ e. omega arith)) (fetch-number m tray d _))
+    (λ u. rw u (byTest (eqb i (n + 1)) (λ v. rw v (table-number m tray d x _)) (λ v. rw v)))))
+
+-- of a write
+announce-number : (m : Mem) (tray : List ℕ) (d : ℕ) (o : Option Store) → number (announceResult m tray d o .out) ≡ cond (isNone o) 3 0
+unfolding announceResult number isNone
+announce-number m tray d none = refl
+announce-number m tray d (some s) = refl
+
+raise-number : (m : Mem) (tray : List ℕ) (d : ℕ) (isLast : Bool) (o : Option Store)
+    → number (raiseResult m tray d isLast o .out) ≡ cond (isNone o) 3 (cond (isLast && foundFull (client m d)) 13 0)
+unfolding raiseResult endOf number isNone
+raise-number m tray d isLast none = refl
+raise-number m tray d false (some s) = refl
+raise-number m tray d true (some s) = byTest (foundFull (client m d)) (λ e. rw e) (λ e. rw e)
+
+write-number : (m : Mem) (tray : List ℕ) (d : ℕ) (w : Write) (i : ℕ) → number (writeResult m tray d w i .out) ≡ underWay m d (writing w) i
+unfolding writeResult nodesStepped isLongAt isFullAt isNone writeTableResult number
+write-number m tray d w i =
+    let n : ℕ = length (writeLabels w) in
+    let some-nodes = write-labels-some w in
+    byTest (ltb i n)
+    (λ t. let l = ltb-true i n t in rw (t, ne-eqb i (n + n) (λ e. omega arith)) (announce-number m tray d _))
+    (λ t. rw t (byTest (eqb i n)
+    (λ u. let l = eqb-true i n u in rw (u, ne-eqb i (n + n) (λ e. omega arith)))
+    (λ u. rw u (raise-number m tray d (eqb i (n + n)) _))))
+
+progress-number : (m : Mem) (tray : List ℕ) (d : ℕ) (w : Work) → number (progressOf m tray d w .out) ≡ underWay m d w (steps (client m d))
+unfolding progressOf
+progress-number m tray d (asking x) = read-number m tray d x (steps (client m d))
+progress-number m tray d (writing w) = write-number m tray d w (steps (client m d))
+
+-- a code of a step, and what comes behind it; the rows say that the desk is there and busy
+stepping : (short unsound gone bad idle node long full : Bool) (n : ℕ) → n ≡ cond node 3 (cond long 12 (cond full 13 0))
+    → cond (eqb (cond short 1 (cond unsound 3 (cond gone 4 (cond bad 3 (cond idle 6 0))))) 0) n (cond short 1 (cond unsound 3 (cond gone 4 (cond bad 3 (cond idle 6 0)))))
+    ≡ cond short 1 (cond unsound 3 (cond gone 4 (cond (not gone && bad) 3 (cond (not gone && idle) 6
+    (cond ((not gone && not idle) && node) 3 (cond ((not gone && not idle) && long) 12 (cond ((not gone && not idle) && full) 13 0)))))))
+stepping true unsound gone bad idle node long full n e = refl
+stepping false true gone bad idle node long full n e = refl
+stepping false false true bad idle node long full n e = refl
+stepping false false false true idle node long full n e = refl
+stepping false false false false true node long full n e = refl
+stepping false false false false false node long full n e = e
+
+step-number : (m : Mem) (tray : List ℕ) (d : ℕ) → number (stepResult m tray d .out) ≡ cond (eqb (stepCode m tray d) 0) (number (progress m tray d .out)) (stepCode m tray d)
+unfolding stepResult number
+step-number m tray d = byTest (eqb (stepCode m tray d) 0) (λ e. rw e) (λ e. rw e)
+
+step-first : (m : Mem) (tray : List ℕ) (d : ℕ) → number (stepResult m tray d .out) ≡ firstOf (stepRows m tray d ++ endRows m d)
+unfolding stepCode atClient progress stepRows endRows firstOf
+step-first m tray d =
+    step-number m tray d
+    ∙ stepping (isShort narrow (shape m) m || ltb (length tray) trayLeast) (isUnsound m) (noClient d) (isBad narrow (shape m) (client m d)) (isIdle narrow (client m d)) _ _ _ _
+    (progress-number m tray d (workAt (shape m) (client m d)))
+
+step-rising : (m : Mem) (tray : List ℕ) (d : ℕ) → Rising (stepRows m tray d ++ endRows m d)
+unfolding stepRows endRows numbersFrom
+step-rising m tray d =
+    rise (λ e. from _ _ refl)
+    (rise (λ e. from _ _ refl)
+    -- 4, and 3 of the desk and of a node
+    (rise (λ e. more (λ a. not-there (noClient d) _ e a) (over _ _ _ refl (more (λ a. not-there (noClient d) _ e (and-left _ _ a)) (from _ _ refl))))
+    (rise (λ e. from _ _ refl)
+    -- 6, and 3 of a node
+    (rise (λ e. more (λ a. not-busy (noClient d) (isIdle narrow (client m d)) _ (and-right (isThere d) _ e) a) (from _ _ refl))
+    (rise (λ e. from _ _ refl)
+    (rise (λ e. from _ _ refl)
+    (rise (λ e. from _ _ refl) done)))))))
+
+ends-accepted : (long full : Bool) → isAccepted (cond long 12 (cond full 13 0)) ≡ true
+unfolding isAccepted
+ends-accepted true full = refl
+ends-accepted false true = refl
+ends-accepted false false = refl
+
+step-accepted : (m : Mem) (d : ℕ) → isAccepted (firstOf (endRows m d)) ≡ true
+unfolding endRows firstOf
+step-accepted m d =
+    let w : Work = workAt (shape m) (client m d) in
+    let i : ℕ = steps (client m d) in
+    ends-accepted (isBusy m d && isLongAt m w i) (isBusy m d && isFullAt (client m d) w i)
+
+pub step-gives : (m : Mem) (tray : List ℕ) (d : ℕ) → Gives (stepRows m tray d) (endRows m d) (number (stepResult m tray d .out))
+unfolding stepRows refusing isAccepted
+step-gives m tray d = gives (stepRows m tray d) (endRows m d) _ (step-first m tray d) refl (step-accepted m d)
+
+-- ---- Abandonings
+release-number : (m : Mem) (d : ℕ) (o : Option Store) → number (releaseResult m d o .out) ≡ cond (isNone o) 3 0
+unfolding releaseResult number isNone
+release-number m d none = refl
+release-number m d (some s) = refl
+
+abandoned-number : (m : Mem) (d : ℕ) (w : Work) → number (abandonedOf m d w .out) ≡ cond (isNone (nodesReleased m w (steps (client m d)))) 3 0
+unfolding abandonedOf nodesReleased isNone number
+abandoned-number m d (asking x) = refl
+abandoned-number m d (writing w) = release-number m d _
+
+-- a code of an abandoning, and what comes behind it
+abandoning : (short unsound gone bad idle committed node : Bool) (n at code : ℕ) → n ≡ cond node 3 0
+    → at ≡ cond unsound 3 (cond gone 4 (cond bad 3 (cond idle 6 0)))
+    → code ≡ cond short 1 (cond (not (eqb at 0)) at (cond committed 7 0))
+    → cond (eqb code 0) n code
+    ≡ cond short 1 (cond unsound 3 (cond gone 4 (cond (not gone && bad) 3 (cond (not gone && idle) 6
+    (cond ((not gone && not idle) && committed) 7 (cond ((not gone && not idle) && (not committed && node)) 3 0))))))
+abandoning true unsound gone bad idle committed node n at code e f g = rw g
+abandoning false true gone bad idle committed node n at code e f g = rw (g, f)
+abandoning false false true bad idle committed node n at code e f g = rw (g, f)
+abandoning false false false true idle committed node n at code e f g = rw (g, f)
+abandoning false false false false true committed node n at code e f g = rw (g, f)
+abandoning false false false false false true node n at code e f g = rw (g, f)
+abandoning false false false false false false node n at code e f g = rw (g, f) e
+
+abandon-number : (m : Mem) (d : ℕ) → number (abandonResult m d .out) ≡ cond (eqb (abandonCode m d) 0) (number (abandoned m d .out)) (abandonCode m d)
+unfolding abandonResult unless number
+abandon-number m d = byTest (eqb (abandonCode m d) 0) (λ e. rw e) (λ e. rw e)
+
+abandon-first : (m : Mem) (d : ℕ) → number (abandonResult m d .out) ≡ firstOf (abandonRows m d ++ [])
+unfolding abandonCode atClient abandoned abandonRows firstOf
+abandon-first m d =
+    abandon-number m d
+    ∙ abandoning (isShort narrow (shape m) m) (isUnsound m) (noClient d) (isBad narrow (shape m) (client m d)) (isIdle narrow (client m d))
+    (isCommitted (shape m) (client m d)) _ _ (atClient m d) (abandonCode m d) (abandoned-number m d (workAt (shape m) (client m d))) refl refl
+
+abandon-rising : (m : Mem) (d : ℕ) → Rising (abandonRows m d ++ [])
+unfolding abandonRows numbersFrom
+abandon-rising m d =
+    rise (λ e. from _ _ refl)
+    (rise (λ e. from _ _ refl)
+    -- 4, and 3 of the desk and of a node
+    (rise (λ e. more (λ a. not-there (noClient d) _ e a)
+    (over _ _ _ refl (over _ _ _ refl (more (λ a. not-there (noClient d) _ e (and-left _ _ a)) end))))
+    (rise (λ e. from _ _ refl)
+    -- 6, and 3 of a node
+    (rise (λ e. over _ _ _ refl (more (λ a. not-busy (noClient d) (isIdle narrow (client m d)) _ (and-right (isThere d) _ e) a) end))
+    -- 7, and 3 of a node
+    (rise (λ e. more (λ a. not-there (isCommitted (shape m) (client m d)) _ (and-right (isBusy m d) _ e) (and-right (isBusy m d) _ a)) end)
+    (rise (λ e. from _ _ refl) done))))))
+
+pub abandon-gives : (m : Mem) (d : ℕ) → Gives (abandonRows m d) [] (number (abandonResult m d .out))
+unfolding abandonRows refusing isAccepted
+abandon-gives m d = gives (abandonRows m d) [] _ (abandon-first m d) refl none-zero
+
+-- ---- All calls
+pub call-gives : (m : Mem) (c : Call) → Gives (rowsOf m c) (endsOf m c) (number (callResult m c .out))
+unfolding rowsOf endsOf callResult untrayed
+call-gives m (begin d r) = begin-gives m d r
+call-gives m (step d tray) = step-gives m tray d
+call-gives m (abandon d) = abandon-gives m d
+call-gives m (evictAnswer i) = evict-answer-gives m i
+call-gives m (evictNode i) = evict-node-gives m i
+call-gives m renew = renew-gives m
+
+pub call-smallest : (m : Mem) (c : Call) → Smallest (rowsOf m c ++ endsOf m c) (number (callResult m c .out))
+unfolding rowsOf endsOf callResult untrayed
+call-smallest m (begin d r) = smallest _ _ (begin-first m d r) (begin-rising m d r)
+call-smallest m (step d tray) = smallest _ _ (step-first m tray d) (step-rising m tray d)
+call-smallest m (abandon d) = smallest _ _ (abandon-first m d) (abandon-rising m d)
+call-smallest m (evictAnswer i) = smallest _ _ (evict-answer-first m i) (evict-answer-rising m i)
+call-smallest m (evictNode i) = smallest _ _ (evict-node-first m i) (evict-node-rising m i)
+call-smallest m renew = smallest _ _ (renew-first m) (renew-rising m)
+
+pub refusal-rows : RefusalRows
+refusal-rows = record { opening = open-gives; calls = call-gives }
+
+pub smallest-given : SmallestGiven
+smallest-given = record { opening = λ m k. smallest _ _ (open-first m k) (open-rising m k); calls = call-smallest }

@@ -1,0 +1,49 @@
+-- Demand 1, about the definitions that the calls' contracts cite: what any call, the opening too, does to memories of any contents with any
+-- arguments. Leans on rules' Calls and History. Definitions only. Assumes nothing.
+use mathlib.Core.Path.{_≡_}
+use mathlib.Core.Bool.{false}
+use mathlib.Core.List.{List, []}
+use Prim.Native.Nat.{ℕ, _≤_}
+use lib.ListN.{length, drop}
+use Rattle.query.specs.Shape.{Form, narrow, Shape, shapeOf}
+use Rattle.rules.specs.declared.Outcome.the-variants.{Refused}
+use Rattle.rules.specs.Layout.{tableLeast, nodesLeast, answersLeast, clientsLeast, trayLeast, refusedShort, refusedOccupied}
+use Rattle.rules.specs.Memory.{Mem}
+use Rattle.rules.specs.Outcome.{StepResult, number}
+use Rattle.rules.specs.Refusals.{form, shape}
+use Rattle.rules.specs.Calls.{openResult}
+use Rattle.rules.specs.History.{Call, begin, step, abandon, evictAnswer, evictNode, renew, untrayed, callResult, isAccepted}
+
+-- "past the stated length it is unaltered": after is what a call has left of a memory, or of the tray, whose least length this is
+pub record Unaltered (least : ℕ) (before after : List ℕ) : Type 0 where
+  pub size : length after ≡ length before
+  pub past : drop least after ≡ drop least before
+
+-- what a call returned and left (x), by what it was lent: the memories m, whose least lengths are those of a hall of this form and shape,
+-- and a tray
+pub record Leaves (f : Form) (sh : Shape) (m : Mem) (lent : List ℕ) (x : StepResult) : Type 0 where
+  -- "Every memory lent to the controller, .. past the stated length it is unaltered."
+  pub table : Unaltered tableLeast (m .table) (x .mem .table)
+  pub nodes : Unaltered (nodesLeast f) (m .nodes) (x .mem .nodes)
+  pub answers : Unaltered (answersLeast f sh) (m .answers) (x .mem .answers)
+  pub clients : Unaltered (clientsLeast f sh) (m .clients) (x .mem .clients)
+  pub tray : Unaltered trayLeast lent (x .tray)
+  -- "Refusals 1 to 11 alter nothing": a call that is not accepted ("A call is accepted if it returns 0, 12 or 13.") leaves all as it was
+  pub refused : isAccepted (number (x .out)) ≡ false → (x .mem ≡ m) × (x .tray ≡ lent)
+  -- and what a call is refused with is 1 to 11
+  pub numbers : (n : ℕ) → x .out ≡ Refused n → (refusedShort ≤ n) × (n ≤ refusedOccupied)
+
+-- "tray | for a step only": the tray that a call is lent
+unfoldable pub trayOf : Call → List ℕ
+trayOf (begin d r) = []
+trayOf (step d tray) = tray
+trayOf (abandon d) = []
+trayOf (evictAnswer i) = []
+trayOf (evictNode i) = []
+trayOf renew = []
+
+-- "with any contents and any arguments", "no call trusts its caller": any memories, any arguments, every call. The opening goes by the shape
+-- that it is asked for, every other call by the form and shape that the desks memory tells.
+pub record Demand1 : Type 0 where
+  pub opening : (m : Mem) (k : ℕ) → Leaves narrow (shapeOf k) m [] (untrayed (openResult m k))
+  pub calls : (m : Mem) (c : Call) → Leaves (form m) (shape m) m (trayOf c) (callResult m c)
