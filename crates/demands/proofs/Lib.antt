@@ -19,3 +19,4 @@ pub mod OpenWritesHold
 pub mod RefusalRowsHold
 pub mod UnalteredMemories
 pub mod Demand1Holds
+pub mod NeverUnsoundHolds

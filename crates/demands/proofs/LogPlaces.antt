@@ -97,7 +97,7 @@ stepped-same sh d (evictAnswer j) a = refl
 stepped-same sh d (evictNode j) a = refl
 stepped-same sh d renew a = refl
 
-stepped-at : (h : History) (d n : ℕ) → n < length (h .calls)
+pub stepped-at : (h : History) (d n : ℕ) → n < length (h .calls)
     → stepped d (callOf (shapeAt h) (callAt h n)) (responseAt h n) ≡ cond (isStepAt d (callAt h n) && acceptedAt h n) 1 0
 stepped-at h d n l =
     stepped-same (shapeAt h) d (callAt h n) (responseAt h n) ∙ ap (λ b. cond (isStepAt d (callAt h n) && b) 1 0) (sym (accepted-at h n l))

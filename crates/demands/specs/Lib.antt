@@ -6,3 +6,4 @@ pub mod Demand2
 pub mod Corollaries
 pub mod OneWork
 pub mod OpenWrites
+pub mod NeverUnsound

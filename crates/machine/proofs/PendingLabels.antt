@@ -53,7 +53,7 @@ abbrev pub Owed : State → Words → Type 0
 Owed s p = (d : ℕ) × (d < maxClients) × (0 < tally p (owes (s .clients d)))
 
 -- ---- Tallies
-tally-append : (q : Words) (ps rs : List Words) → tally q (ps ++ rs) ≡ tally q ps + tally q rs
+pub tally-append : (q : Words) (ps rs : List Words) → tally q (ps ++ rs) ≡ tally q ps + tally q rs
 unfolding tally
 tally-append q [] rs = omega arith
 tally-append q (p ∷ ps) rs = let a = tally-append q ps rs in omega arith
@@ -72,7 +72,7 @@ tally-drop q ps i l = ap (tally q) (drop-cons ps i [] l)
 pub take-whole : (q : Words) (ps : List Words) (i : ℕ) → length ps ≤ i → tally q (take i ps) ≡ tally q ps
 take-whole q ps i l = ap (tally q) (take-all i ps l)
 
-one-self : (p : Words) → one p p ≡ 1
+pub one-self : (p : Words) → one p p ≡ 1
 unfolding one
 one-self p = rw (same-refl p) refl
 

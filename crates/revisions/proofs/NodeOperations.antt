@@ -293,7 +293,7 @@ may-pending c p s e = ltb-true 0 (pendingOf s p) (sym (pending-pending-of p s) �
 abbrev pub RetiredTo : Bool → List Words → Store → Store → Type 0
 RetiredTo c ps s t = Retired c ps s t × AllRows (t .nodes) × (length (t .nodes) ≡ length (s .nodes))
 
-released-ok : (p : Words) (s : Store) → NoDup (s .nodes) → AllRows (s .nodes) → 0 < pendingOf s p → RetiredTo false (p ∷ []) s (released p s)
+pub released-ok : (p : Words) (s : Store) → NoDup (s .nodes) → AllRows (s .nodes) → 0 < pendingOf s p → RetiredTo false (p ∷ []) s (released p s)
 unfolding released tally lifts
 released-ok p s d r l =
     let h = pending-present p s l in

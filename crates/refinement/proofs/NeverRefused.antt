@@ -1,0 +1,303 @@
+-- Memories that a history leaves: they fit, and their state keeps the invariant and has headroom. On them no call returns 3, every step of a
+-- busy desk with room in the tray is accepted, and what a call leaves is such again. Leans on SoundCodes, Refinement and machine's
+-- Headroom, and on revisions' OperationsGo and RevisionBounds. Assumes nothing.
+use mathlib.Core.Path.{_≡_, refl, _∙_}
+use mathlib.Core.Option.{Option, none, some, IsSome}
+use mathlib.Core.Bool.{Bool, true, false, not, _&&_}
+use mathlib.Core.List.{List, [], _∷_}
+use Prim.Native.Nat.{ℕ, _+_, _-_, _≤_, _<_}
+use native.Mathlib.Omega.{arith}
+use lib.Dec.{eqb, ltb}
+use lib.ListN.{length, getD, take}
+use borrow.Author.Tests.{ltb-true, ltb-false, eqb-true, eqb-false, eq-eqb}
+use Rattle.laws.proofs.TestLaws.{byTest, clash}
+use Rattle.query.specs.Shape.{narrow}
+use Rattle.rules.specs.Layout.{maxClients, maxNodes, trayLeast, refusedUnsound}
+use Rattle.rules.specs.declared.Outcome.{Outcome}
+use Rattle.rules.specs.declared.Outcome.the-variants.{Refused, Accepted, Answered, Long}
+use Rattle.rules.specs.Work.{Ask, Value, Work, asking, writing, Write, readLabels, writeLabels, mayAnswer}
+use Rattle.rules.specs.Nodes.{Words, Store, ensured, announced, retired}
+use Rattle.rules.specs.Client.{Client, sawPending, foundFull, entryOf, isIdle}
+use Rattle.rules.specs.Memory.{Mem, storeIn, withStore, answersIn, renewed}
+use Rattle.rules.specs.Refusals.{columns, client, shape, stepCode, isCommitted, beginCode, abandonCode, evictAnswerCode, evictNodeCode, renewCode}
+use Rattle.rules.specs.Outcome.{Result, result, StepResult, resultWith, number}
+use Rattle.rules.specs.Steps.{nowAt, storeBack, answered, lookResult, fetchResult, tableResult, fileResult, readResult, announceResult, writeTableResult, endOf}
+use Rattle.rules.specs.Steps.{raiseResult, writeResult, progressOf, progress}
+use Rattle.rules.specs.Calls.{unless, beginResult, stepResult, releaseResult, abandonedOf, abandoned, abandonResult, evictAnswerResult, evictNodeResult, renewResult}
+use Rattle.rules.specs.History.{Call, begin, step, abandon, evictAnswer, evictNode, renew, callResult, isAccepted, untrayed}
+use Rattle.rules.specs.Sound.{Busy}
+use Rattle.rules.proofs.PassedChecks.{step-passed, abandon-passed, steps-before, evict-node-passed}
+use Rattle.rules.proofs.WorkLaws.{read-label-wide, write-label-wide}
+use Rattle.revisions.specs.EffectiveRevision.{NoDup}
+use Rattle.revisions.proofs.NodeRows.{AllRows, Each}
+use Rattle.revisions.proofs.NodeOperations.{EnsuredOk, ensured-ok, AnnouncedOk, announced-ok, RetiredOk, retired-ok, evict-ok}
+use Rattle.revisions.proofs.RevisionBounds.{Below, BelowIn, below-more, ensured-bound, announced-bound, raised-bound, released-all-bound, evict-bound}
+use Rattle.revisions.proofs.OperationsGo.{ensured-some, announced-some, raised-some, released-some}
+use Rattle.machine.specs.Machine as machine
+use Rattle.machine.specs.Machine.{WriteFits, announcing, raising}
+use Rattle.machine.proofs.PendingLabels.{holds}
+use Rattle.machine.proofs.StateInv.{StateInv, transition-inv}
+use Rattle.machine.proofs.Headroom.{Headroom, liftAt, liftOf, Lifted, transition-headroom, few-marks, held-marked, raise-marked, raise-room, all-held, marks-held, held-few}
+use Rattle.refinement.proofs.Abstraction.{stateOf, callOf, Fits}
+use Rattle.refinement.proofs.ClientPhases.{fits-at, raising-phase}
+use Rattle.refinement.proofs.MemoryReads.{length-nodes, store-with, rows-held}
+use Rattle.refinement.proofs.StepFrame.{stepsAt, client-at, announcing-at}
+use Rattle.refinement.proofs.Refinement.{refines}
+use Rattle.refinement.proofs.SoundCodes.{begin-sound, step-sound, abandon-sound, evict-answer-sound, evict-node-sound, renew-sound, step-taken}
+
+pub record Lasting (m : Mem) : Type 0 where
+  pub fits : Fits m
+  pub inv : StateInv (stateOf m)
+  pub room : Headroom (stateOf m)
+
+-- the nodes of such memories
+abbrev nodesOf : Mem → Store
+nodesOf m = storeIn narrow (m .nodes)
+
+module _ (m : Mem) (g : Lasting m) where
+  once : NoDup (nodesOf m .nodes)
+  unfolding stateOf
+  once = g .inv .once
+
+  few-nodes : length (nodesOf m .nodes) ≤ maxNodes
+  few-nodes = let n = length-nodes (m .nodes) in let y = g .fits .nodes in omega arith
+
+  -- "no unmarked node to put out" (3) is never met
+  ensured-goes : (p : Words) → IsSome (ensured narrow p (nodesOf m))
+  unfolding stateOf
+  ensured-goes p =
+      let l = held-few (stateOf m) (g .inv) in
+      ensured-some p (nodesOf m) (all-held 12 (stateOf m .clients)) once (marks-held (stateOf m) (g .inv)) (omega arith)
+
+-- ---- What a call that goes on leaves: it is accepted, and where no revision was above b, none is above b + n
+pub record Went (b n : ℕ) (x : StepResult) : Type 0 where
+  pub accepted : isAccepted (number (x .out)) ≡ true
+  pub below : Below (b + n) (storeIn narrow (x .mem .nodes))
+
+module _ (m : Mem) (g : Lasting m) (b n : ℕ) (low : Below b (storeIn narrow (m .nodes))) where
+  -- the nodes stay
+  quiet : (o : Outcome) (t : Mem) (tray : List ℕ) → isAccepted (number o) ≡ true → t .nodes ≡ m .nodes → Went b n (resultWith o t tray)
+  quiet o t tray a e = record { accepted = a; below = rw e (below-more (nodesOf m) (omega arith) low) }
+
+  -- or become t
+  stored : (o : Outcome) (t : Store) (x : Mem) (tray : List ℕ) → isAccepted (number o) ≡ true → x .nodes ≡ withStore narrow (m .nodes) t
+      → AllRows (t .nodes) → length (t .nodes) ≤ maxNodes → Below (b + n) t → Went b n (resultWith o x tray)
+  stored o t x tray a e r most l = record {
+    accepted = a;
+    below = rw (e, store-with (m .nodes) (g .fits .long .nodes) (g .fits .nodes) t r most) l;
+  }
+
+  -- ---- A read
+  look-goes : (tray : List ℕ) (d j : ℕ) (p : Words) (o : Option Store) → IsSome o → EnsuredOk p (nodesOf m) o → BelowIn b o → Went b n (lookResult m tray d j p o)
+  unfolding lookResult nowAt storeBack isAccepted number
+  look-goes tray d j p none i k l = absurd i
+  look-goes tray d j p (some t) i k l = stored Accepted t _ tray refl refl (k .2) (k .3 (few-nodes m g)) (below-more t (omega arith) l)
+
+  answer-goes : (tray : List ℕ) (d : ℕ) (v : Value) (cached : Bool) (t : Mem) → t .nodes ≡ m .nodes → Went b n (answered t tray d v cached)
+  unfolding answered nowAt isAccepted number
+  answer-goes tray d v cached t e = quiet (Answered (v .count) cached) _ _ refl e
+
+  fetch-goes : (tray : List ℕ) (d i : ℕ) → Went b n (fetchResult m tray d i)
+  unfolding fetchResult nowAt isAccepted number
+  fetch-goes tray d i =
+      byTest (not (sawPending (client m d)) && ltb i (length (answersIn narrow (m .answers))))
+      (λ t. rw t (answer-goes tray d _ true m refl))
+      (λ t. rw t (quiet Accepted _ tray refl refl))
+
+  table-goes : (tray : List ℕ) (d : ℕ) (x : Ask) (v : Value) → Went b n (tableResult m tray d x v)
+  unfolding tableResult nowAt isAccepted number
+  table-goes tray d x v =
+      byTest (mayAnswer x v)
+      (λ t. byTest (sawPending (client m d))
+      (λ s. rw (t, s) (answer-goes tray d v false m refl))
+      (λ s. rw (t, s) (quiet Accepted _ tray refl refl)))
+      (λ t. rw t (quiet Long _ tray refl refl))
+
+  file-goes : (tray : List ℕ) (d : ℕ) → Went b n (fileResult m tray d (entryOf (client m d)))
+  unfolding fileResult
+  file-goes tray d = answer-goes tray d _ false _ refl
+
+  read-goes : (tray : List ℕ) (d : ℕ) {x : Ask} → Busy narrow (shape m) (client m d) (asking x) → Went b n (readResult m tray d x (stepsAt m d))
+  unfolding readResult
+  read-goes tray d {x} y =
+      let i : ℕ = stepsAt m d in
+      let l : ℕ = length (readLabels x) in
+      byTest (ltb i l)
+      (λ t. let p : Words = getD (readLabels x) i [] in
+      let k = read-label-wide x i (let c = fits-at (shape m) (client m d) (y .work) .columns in let z = y .most in omega arith) (ltb-true i l t) in
+      rw t (look-goes tray d i p _ (ensured-goes m g p) (ensured-ok p (nodesOf m) k (once m g) (rows-held m (g .fits))) (ensured-bound b p (nodesOf m) k low)))
+      (λ t. rw t (byTest (eqb i l)
+      (λ u. rw u (fetch-goes tray d _))
+      (λ u. rw u (byTest (eqb i (l + 1))
+      (λ v. rw v (table-goes tray d x _))
+      (λ v. rw v (file-goes tray d))))))
+
+  -- ---- A write
+  announce-goes : (tray : List ℕ) (d : ℕ) (p : Words) (o : Option Store) → IsSome o → AnnouncedOk p (nodesOf m) o → BelowIn b o → Went b n (announceResult m tray d o)
+  unfolding announceResult nowAt storeBack isAccepted number
+  announce-goes tray d p none i k l = absurd i
+  announce-goes tray d p (some t) i k l = stored Accepted t _ tray refl refl (k .1) (k .2 (few-nodes m g)) (below-more t (omega arith) l)
+
+  end-accepted : (c : Client) → isAccepted (number (endOf c)) ≡ true
+  unfolding endOf isAccepted number
+  end-accepted c = byTest (foundFull c) (λ e. rw e refl) (λ e. rw e refl)
+
+  raise-goes : (tray : List ℕ) (d : ℕ) (isLast : Bool) (ps : List Words) (o : Option Store) → IsSome o → RetiredOk true ps (nodesOf m) o → BelowIn (b + n) o
+      → Went b n (raiseResult m tray d isLast o)
+  unfolding raiseResult nowAt storeBack isAccepted number
+  raise-goes tray d isLast ps none i k l = absurd i
+  raise-goes tray d true ps (some t) i k l = let z = few-nodes m g in let y = k .2 in stored (endOf (client m d)) t _ tray (end-accepted (client m d)) refl (k .1) (omega arith) l
+  raise-goes tray d false ps (some t) i k l = let z = few-nodes m g in let y = k .2 in stored Accepted t _ tray refl refl (k .1) (omega arith) l
+
+  release-goes : (d : ℕ) (ps : List Words) (o : Option Store) → IsSome o → RetiredOk false ps (nodesOf m) o → BelowIn b o → Went b n (untrayed (releaseResult m d o))
+  unfolding releaseResult untrayed nowAt storeBack isAccepted number
+  release-goes d ps none i k l = absurd i
+  release-goes d ps (some t) i k l = let z = few-nodes m g in let y = k .2 in stored Accepted t _ [] refl refl (k .1) (omega arith) (below-more t (omega arith) l)
+
+-- ---- A step of a write: only a raise lifts
+module _ (m : Mem) (g : Lasting m) (b : ℕ) (low : Below b (storeIn narrow (m .nodes))) (tray : List ℕ) (d : ℕ) (h : d < maxClients)
+    {w : Write} (y : Busy narrow (shape m) (client m d) (writing w)) where
+  abbrev labels : ℕ
+  labels = length (writeLabels w)
+
+  mark-goes : (n : ℕ) → stepsAt m d < labels → Went b n (announceResult m tray d (announced narrow (getD (writeLabels w) (stepsAt m d) []) (nodesOf m)))
+  unfolding stateOf
+  mark-goes n z =
+      let p : Words = getD (writeLabels w) (stepsAt m d) [] in
+      let five = write-label-wide w (stepsAt m d) (let c : WriteFits (shape m) w = fits-at (shape m) (client m d) (y .work) in let e = c .columns in let z = y .most in omega arith) z in
+      let once = once m g in
+      let rows = rows-held m (g .fits) in
+      announce-goes m g b n low tray d p _
+      (announced-some p (nodesOf m) (ensured-ok p (nodesOf m) five once rows)
+      (few-marks (stateOf m) d w (stepsAt m d) (g .inv) h (announcing-at m d h y (omega arith)) z) (ensured-goes m g p))
+      (announced-ok p (nodesOf m) five once rows) (announced-bound b p (nodesOf m) five low)
+
+  abbrev raises : ℕ
+  raises = stepsAt m d - (labels + 1)
+
+  raised-goes : {c f : Bool} → stateOf m .clients d ≡ raising w raises c f → IsSome (retired narrow true (getD (writeLabels w) raises [] ∷ []) (nodesOf m))
+  unfolding stateOf
+  raised-goes e =
+      let p : Words = getD (writeLabels w) raises [] in
+      raised-some p (nodesOf m) (raise-marked (stateOf m) d w raises (g .inv) h e) (raise-room (stateOf m) d w raises p (g .inv) (g .room) h e)
+
+  raising-goes : (isLast : Bool) {c f : Bool} → stateOf m .clients d ≡ raising w raises c f
+      → Went b (liftAt (stateOf m .clients d)) (raiseResult m tray d isLast (retired narrow true (getD (writeLabels w) raises [] ∷ []) (nodesOf m)))
+  raising-goes isLast e =
+      let p : Words = getD (writeLabels w) raises [] in
+      rw e (raise-goes m g b 1 low tray d isLast (p ∷ []) _ (raised-goes e)
+      (retired-ok true (p ∷ []) (nodesOf m) (once m g) (rows-held m (g .fits))) (raised-bound (p ∷ []) b (nodesOf m) low))
+
+  write-goes : Went b (liftAt (stateOf m .clients d)) (writeResult m tray d w (stepsAt m d))
+  unfolding writeResult writeTableResult nowAt isAccepted number
+  write-goes =
+      let i : ℕ = stepsAt m d in
+      byTest (ltb i labels)
+      (λ t. rw t (mark-goes _ (ltb-true i labels t)))
+      (λ t. let z = ltb-false i labels t in rw t (byTest (eqb i labels)
+      (λ u. rw u (quiet m g b _ low Accepted _ tray refl refl))
+      (λ u. let v = eqb-false i labels u in rw u (raising-goes _ (client-at m d h ∙ raising-phase y (omega arith))))))
+
+-- ---- A step
+progress-goes : (m : Mem) → Lasting m → (b : ℕ) → Below b (storeIn narrow (m .nodes)) → (tray : List ℕ) (d : ℕ) → d < maxClients → (w : Work)
+    → Busy narrow (shape m) (client m d) w → Went b (liftAt (stateOf m .clients d)) (progressOf m tray d w)
+unfolding progressOf
+progress-goes m g b low tray d h (asking x) y = read-goes m g b _ low tray d y
+progress-goes m g b low tray d h (writing w) y = write-goes m g b low tray d h y
+
+taken-goes : (m : Mem) → Lasting m → (b : ℕ) → Below b (storeIn narrow (m .nodes)) → (tray : List ℕ) (d : ℕ) → stepCode m tray d ≡ 0
+    → Went b (liftAt (stateOf m .clients d)) (progress m tray d)
+unfolding progress
+taken-goes m g b low tray d e = let s = step-passed m tray d e in progress-goes m g b low tray d (s .1 .1) _ (s .1 .2)
+
+-- ---- What every call does: it does not return 3, and lifts no revision further than a raise does
+pub record Passed (m : Mem) (c : machine.Call) (x : StepResult) : Type 0 where
+  pub sound : number (x .out) ≡ refusedUnsound → ⊥
+  pub lifted : Lifted (stateOf m) c (stateOf (x .mem))
+
+accepted-sound : (n : ℕ) → isAccepted n ≡ true → n ≡ refusedUnsound → ⊥
+unfolding isAccepted
+accepted-sound n a e = clash a (rw e refl)
+
+refused-passed : (m : Mem) (c : machine.Call) (n : ℕ) (tray : List ℕ) → (n ≡ refusedUnsound → ⊥) → Passed m c (resultWith (Refused n) m tray)
+unfolding number
+refused-passed m c n tray k = record { sound = k; lifted = λ b l. below-more (stateOf m .store) (omega arith) l }
+
+went-passed : (m : Mem) (c : machine.Call) (x : StepResult) → Lasting m → ((b : ℕ) → Below b (storeIn narrow (m .nodes)) → Went b (liftOf (stateOf m) c) x) → Passed m c x
+unfolding stateOf
+went-passed m c x g h = record { sound = accepted-sound (number (x .out)) (h (g .room .0) (g .room .1) .accepted); lifted = λ b l. h b l .below }
+
+unless-passed : (m : Mem) (c : machine.Call) (code : ℕ) (x : Result) → (code ≡ refusedUnsound → ⊥) → (code ≡ 0 → Passed m c (untrayed x)) → Passed m c (untrayed (unless code m x))
+unfolding unless untrayed
+unless-passed m c code x k h =
+    byTest (eqb code 0)
+    (λ e. rw e (h (eqb-true code 0 e)))
+    (λ e. rw e (refused-passed m c code [] k))
+
+step-passes : (m : Mem) → Lasting m → (tray : List ℕ) (d : ℕ) → Passed m (machine.step d) (stepResult m tray d)
+unfolding stepResult
+step-passes m g tray d =
+    byTest (eqb (stepCode m tray d) 0)
+    (λ e. rw e (went-passed m (machine.step d) _ g (λ b low. taken-goes m g b low tray d (eqb-true (stepCode m tray d) 0 e))))
+    (λ e. rw e (refused-passed m (machine.step d) (stepCode m tray d) tray (step-sound m (g .fits) tray d)))
+
+-- an abandoning takes back marks that are there
+abandoned-goes : (m : Mem) → Lasting m → (b : ℕ) → Below b (storeIn narrow (m .nodes)) → (d : ℕ) → d < maxClients → (w : Work) → Busy narrow (shape m) (client m d) w
+    → isCommitted (shape m) (client m d) ≡ false → Went b 0 (untrayed (abandonedOf m d w))
+unfolding abandonedOf untrayed nowAt isAccepted number stateOf holds
+abandoned-goes m g b low d h (asking x) y e = quiet m g b 0 low Accepted _ [] refl refl
+abandoned-goes m g b low d h (writing w) y e =
+    let ps : List Words = take (stepsAt m d) (writeLabels w) in
+    release-goes m g b 0 low d ps _
+    (released-some ps (nodesOf m) (once m g) (rows-held m (g .fits))
+    (λ q. held-marked (stateOf m) d (announcing w (stepsAt m d)) q (g .inv) h (announcing-at m d h y (steps-before m d w y e))))
+    (retired-ok false ps (nodesOf m) (once m g) (rows-held m (g .fits))) (released-all-bound ps b (nodesOf m) low)
+
+abandon-passes : (m : Mem) → Lasting m → (d : ℕ) → Passed m (machine.abandon d) (untrayed (abandonResult m d))
+unfolding abandonResult abandoned
+abandon-passes m g d = unless-passed m _ (abandonCode m d) _ (abandon-sound m (g .fits) d) (λ e.
+    let t = abandon-passed m d e in went-passed m _ _ g (λ b low. abandoned-goes m g b low d (t .0 .1) _ (t .0 .2) (t .1)))
+
+-- the nodes stay
+still-passes : (m : Mem) → Lasting m → (c : machine.Call) (t : Mem) → t .nodes ≡ m .nodes → Passed m c (untrayed (result Accepted t))
+unfolding untrayed isAccepted number
+still-passes m g c t e = went-passed m c _ g (λ b low. quiet m g b _ low Accepted t [] refl e)
+
+evict-node-passes : (m : Mem) → Lasting m → (i : ℕ) → Passed m (machine.evict-node i) (untrayed (evictNodeResult m i))
+unfolding evictNodeResult untrayed storeBack isAccepted number
+evict-node-passes m g i = unless-passed m _ (evictNodeCode m i) _ (evict-node-sound m (g .fits) i) (λ e.
+    let t = evict-node-passed m i e in
+    let n = length-nodes (m .nodes) in
+    let a = t .1 in
+    let z = few-nodes m g in
+    let k = evict-ok i (nodesOf m) (once m g) (rows-held m (g .fits)) (omega arith) (t .2) in
+    let l = k .2 in
+    went-passed m _ _ g (λ b low. stored m g b 0 low Accepted _ _ [] refl refl (k .1) (omega arith) (below-more _ (omega arith) (evict-bound b i (nodesOf m) low))))
+
+renew-passes : (m : Mem) → Lasting m → Passed m machine.renew (untrayed (renewResult m))
+unfolding renewResult untrayed renewed isAccepted number Below Each
+renew-passes m g = unless-passed m _ (renewCode m) _ (renew-sound m (g .fits)) (λ e.
+    went-passed m _ _ g (λ b low. stored m g b 1 low Accepted _ _ [] refl refl tt (omega arith) (omega arith, tt)))
+
+-- ---- Every call
+pub call-passes : (m : Mem) → Lasting m → (c : Call) → Passed m (callOf (shape m) c) (callResult m c)
+unfolding callResult callOf beginResult evictAnswerResult nowAt
+call-passes m g (begin d r) = unless-passed m _ (beginCode m d r) _ (begin-sound m (g .fits) d r) (λ e. still-passes m g _ _ refl)
+call-passes m g (step d tray) = step-passes m g tray d
+call-passes m g (abandon d) = abandon-passes m g d
+call-passes m g (evictAnswer i) = unless-passed m _ (evictAnswerCode m i) _ (evict-answer-sound m (g .fits) i) (λ e. still-passes m g _ _ refl)
+call-passes m g (evictNode i) = evict-node-passes m g i
+call-passes m g renew = renew-passes m g
+
+pub lasting-next : (m : Mem) (c : Call) → Lasting m → Lasting (callResult m c .mem)
+lasting-next m c g =
+    let r = refines m c (g .fits) (once m g) in
+    let v = transition-inv (stateOf m) (g .inv) (r .0) in
+    record { fits = r .1; inv = v; room = transition-headroom (stateOf m) (g .inv) v (call-passes m g c .lifted) (g .room) (r .0) }
+
+pub step-accepted : (m : Mem) → Lasting m → (tray : List ℕ) (d : ℕ) → trayLeast ≤ length tray → d < maxClients → isIdle narrow (client m d) ≡ false
+    → isAccepted (number (stepResult m tray d .out)) ≡ true
+unfolding stepResult
+step-accepted m g tray d h l e =
+    let z = step-taken m (g .fits) tray d h l e in
+    rw (eq-eqb (stepCode m tray d) 0 z) (taken-goes m g (g .room .0) (unfold stateOf in g .room .1) tray d z .accepted)
