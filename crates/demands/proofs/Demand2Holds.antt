@@ -41,7 +41,7 @@ use Rattle.machine.specs.Machine as machine
 
 -- ---- The answer that is on file
 -- an entry with the reader's key is of what it asks
-its-key : (m : Mem) (d : ℕ) (q : Ask) (n : ℕ) (e : Entry) → Reads m d q n → keyIn e ≡ askKey q → ansOf (shape m) e .query ≡ q
+pub its-key : (m : Mem) (d : ℕ) (q : Ask) (n : ℕ) (e : Entry) → Reads m d q n → keyIn e ≡ askKey q → ansOf (shape m) e .query ≡ q
 unfolding ansOf askIn askKey
 its-key m d q n e r i =
     let f = fits-at (shape m) (client m d) (r .works) in

@@ -118,7 +118,7 @@ filed-there h q n w e =
     )
 
 -- ---- The flag of the answer on file
-files-now : (sh : Shape) (s : State) (c : rules.Call) (a : Response) (q : Ask) (d : ℕ) (tray : List ℕ) (ns : List ℕ) (l : Value) → c ≡ rules.step d tray
+pub files-now : (sh : Shape) (s : State) (c : rules.Call) (a : Response) (q : Ask) (d : ℕ) (tray : List ℕ) (ns : List ℕ) (l : Value) → c ≡ rules.step d tray
     → isRefused a ≡ false → s .clients d ≡ filing q ns l → files s (callOf sh c) a q ≡ true
 unfolding files filesAt
 files-now sh s c a q d tray ns l e r i = rw (step-call sh c d tray e, r, i) (sameAsk-refl q)

@@ -20,3 +20,11 @@ pub mod RefusalRowsHold
 pub mod UnalteredMemories
 pub mod Demand1Holds
 pub mod NeverUnsoundHolds
+pub mod NodeChanges
+pub mod StepsMade
+pub mod FilingRead
+pub mod NotesKept
+pub mod StepsOfReads
+pub mod StepsOfWrites
+pub mod Demand2WholeHolds
+pub mod Example2

@@ -78,10 +78,10 @@ end-given sh tray Full c false e t = absurd (let z : _≡_ {A = ℕ} 0 1 = cc in
 
 -- ---- The trace of a history
 -- a change as a write of the hall
-abbrev of : History → Change → Write
+abbrev pub of : History → Change → Write
 of h w = record { shape = shapeAt h; change = w }
 
-write-begins : (h : History) (r : Request) (w : Change) → Begins r w → workOf (shapeAt h) r ≡ writing (of h w)
+pub write-begins : (h : History) (r : Request) (w : Change) → Begins r w → workOf (shapeAt h) r ≡ writing (of h w)
 unfolding workOf
 write-begins h r w (inserting a) = refl
 write-begins h r w (deleting a) = refl

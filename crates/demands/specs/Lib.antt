@@ -2,8 +2,9 @@ pub mod Demand1
 pub mod RefusalRows
 pub mod WholeHistory
 pub mod Demand3
+pub mod OneWork
 pub mod Demand2
 pub mod Corollaries
-pub mod OneWork
 pub mod OpenWrites
+pub mod Demand2Whole
 pub mod NeverUnsound

@@ -1,0 +1,223 @@
+-- Demand 2, as one claim about a whole history. Leans on Demand2 for the last sentence, on WholeHistory, Demand3 and Corollaries for a
+-- history's words. Definitions only. Assumes nothing.
+use mathlib.Core.Path.{_≡_}
+use mathlib.Core.Logic.{_⊎_, _↔_}
+use mathlib.Core.Bool.{Bool, true, false, not, _&&_, _||_}
+use mathlib.Core.List.{List}
+use Prim.Native.Nat.{ℕ, suc, _+_, _^_, min, _≤_, _<_}
+use lib.Dec.{ltb}
+use lib.ListN.{length}
+use Rattle.lists.specs.Lists.{same, written}
+use Rattle.query.specs.Query.{Query, Record, Label, lies, readNode, writeNode, readCount}
+use Rattle.query.specs.Encoding.{queryOf, recordOf, labelWords}
+use Rattle.query.specs.Graph.{E′, E″}
+use Rattle.rules.specs.declared.Outcome.the-variants.{Accepted, Answered, Long}
+use Rattle.rules.specs.Layout.{maxRecords, maxList}
+use Rattle.rules.specs.Table.{Table, Change, delete, target, listOf, has, putIn, effect, isFull, Ascending}
+use Rattle.rules.specs.Nodes.{Store, isPresent, nodeOf, revision, pending}
+use Rattle.rules.specs.Answers.{Entry, revisionIn}
+use Rattle.rules.specs.Client.{entryOf, sawPending}
+use Rattle.rules.specs.Memory.{storeIn}
+use Rattle.rules.specs.Refusals.{form, client}
+use Rattle.rules.specs.History.{step}
+use Rattle.rules.specs.Work.{Ask, ofRecords, Request, readOf, insertOf, deleteOf}
+use Rattle.demands.specs.WholeHistory.{History, shapeAt, memAt, callAt, resultAt, acceptedAt, UnderWay, stepsIn}
+use Rattle.demands.specs.Demand2.{Quiescent, Filed, Fetches, LastFiled, valueAt}
+use Rattle.demands.specs.Demand3.{IsList}
+use Rattle.demands.specs.Corollaries.{tableAt, Begins, WritesTake}
+
+-- ---- The steps of a read or a write, told by the calls alone
+-- call n is an accepted step at desk d of what call b began there by r, which had made i accepted steps before
+pub record StepOf (h : History) (r : Request) (d b n i : ℕ) : Type 0 where
+  pub tray : List ℕ
+  pub within : n < length (h .calls)
+  pub calls : callAt h n ≡ step d tray
+  pub accepted : acceptedAt h n ≡ true
+  pub runs : UnderWay h r d b n
+  pub made : stepsIn h d b n ≡ i
+
+-- what the memories hold after the first n calls: the nodes, and the entry that the client at desk d keeps
+abbrev pub nodesAt : History → ℕ → Store
+nodesAt h n = storeIn (form (memAt h n)) (memAt h n .nodes)
+
+abbrev pub entryAt : History → ℕ → ℕ → Entry
+entryAt h n d = entryOf (client (memAt h n) d)
+
+-- the node of a label: whether it is there; its revision, the paper's counter; its pending writes, the paper's marks, 0 where it is missing
+abbrev pub hasNode : History → ℕ → Label → Bool
+hasNode h n p = isPresent (labelWords p) (nodesAt h n)
+
+abbrev pub revisionAt : History → ℕ → Label → ℕ
+revisionAt h n p = revision (form (memAt h n)) (nodeOf (labelWords p) (nodesAt h n))
+
+abbrev pub pendingAt : History → ℕ → Label → ℕ
+pendingAt h n p = pending (nodeOf (labelWords p) (nodesAt h n))
+
+-- ---- "a list taken is exactly the table's records in the query's subspace, ascending"
+-- what call n, a table step at desk d, does with the list l that it takes
+pub data Disposes (h : History) (d n : ℕ) (l : List Record) : Type 0 where
+  -- "More than 32 records ends the read with 12."
+  long : maxList < length l → resultAt h n .out ≡ Long → Disposes h d n l
+  -- "If a look saw a mark, the read answers here": with l, count and tray
+  answers : length l ≤ maxList → sawPending (client (memAt h n) d) ≡ true → (count : ℕ) → resultAt h n .out ≡ Answered count false
+      → IsList (shapeAt h .columns) l count (resultAt h n .tray) → Disposes h d n l
+  -- otherwise the client holds l, count and numbers, for its file step
+  holds : length l ≤ maxList → sawPending (client (memAt h n) d) ≡ false → resultAt h n .out ≡ Accepted
+      → valueAt h (suc n) (entryAt h (suc n) d) ≡ ofRecords l → Disposes h d n l
+
+pub record TakesList (h : History) (q : Query) (d n : ℕ) : Type 0 where
+  pub list : List Record
+  pub is : list ≡ listOf q (tableAt h n)
+  pub exact : (r : Record) → has r list ≡ (has r (tableAt h n) && lies q r)
+  pub ascends : Ascending list
+  pub goes : Disposes h d n list
+
+-- a read's table step comes after its 2^m looks and its fetch
+abbrev pub ListsTaken : History → Type 0
+ListsTaken h = (a : List ℕ) (d b n : ℕ) → StepOf h (readOf a) d b n (readCount (queryOf a) + 1) → TakesList h (queryOf a) d n
+
+-- ---- "inserts (but for 13, a full table), deletes .. are those of source document 002, definitions 1 to 5"
+-- a write's table step comes after its 2^k marks. "an insert puts its record in its ascending place, unless it is there already or
+-- 2,048 records are"
+pub record Inserted (r : Record) (t t′ : Table) : Type 0 where
+  pub there : has r t ≡ true → t′ ≡ t
+  pub full : maxRecords ≤ length t → t′ ≡ t
+  pub put : has r t ≡ false → length t < maxRecords → t′ ≡ putIn r t
+  pub exact : isFull r t ≡ false → (x : Record) → has x t′ ≡ (has x t || same r x)
+
+abbrev pub Inserts : History → Type 0
+Inserts h = (a : List ℕ) (d b n : ℕ) → StepOf h (insertOf a) d b n (2 ^ shapeAt h .columns)
+    → Inserted (recordOf (queryOf a)) (tableAt h n) (tableAt h (suc n))
+
+-- "a delete takes out every record in its subspace": and no other, and what stays keeps its order
+pub record Deleted (q : Query) (t t′ : Table) : Type 0 where
+  pub is : t′ ≡ effect (delete q) t
+  pub exact : (x : Record) → has x t′ ≡ (has x t && not (lies q x))
+
+abbrev pub Deletes : History → Type 0
+Deletes h = (a : List ℕ) (d b n : ℕ) → StepOf h (deleteOf a) d b n (2 ^ shapeAt h .columns) → Deleted (queryOf a) (tableAt h n) (tableAt h (suc n))
+
+-- call n is the table step of a write
+pub record WritesTable (h : History) (n : ℕ) : Type 0 where
+  pub request : Request
+  pub change : Change
+  pub is : Begins request change
+  pub client : ℕ
+  pub b : ℕ
+  pub steps : StepOf h request client b n (2 ^ shapeAt h .columns)
+
+-- no other call changes the table's records
+abbrev pub OnlyWrites : History → Type 0
+OnlyWrites h = (n : ℕ) → n < length (h .calls) → (tableAt h (suc n) ≡ tableAt h n) ⊎ WritesTable h n
+
+-- ---- "revision nodes are those of source document 002, definitions .. 11"
+-- Call n, look i at desk d, looks at the node of the label p. "A look at a node present notes its counter and whether its marks are above
+-- 0. A missing node is added last, with the floor as counter and 0 marks"
+pub record LooksAt (h : History) (p : Label) (d n i : ℕ) : Type 0 where
+  pub there : hasNode h (suc n) p ≡ true
+  pub kept : hasNode h n p ≡ true → nodesAt h (suc n) ≡ nodesAt h n
+  pub added : hasNode h n p ≡ false → (revisionAt h (suc n) p ≡ nodesAt h (suc n) .floor) × (pendingAt h (suc n) p ≡ 0)
+  pub notes : revisionIn (form (memAt h n)) (entryAt h (suc n) d) i ≡ revisionAt h (suc n) p
+  pub sees : sawPending (client (memAt h (suc n)) d) ≡ (sawPending (client (memAt h n) d) || ltb 0 (pendingAt h (suc n) p))
+
+-- call n marks it: "marks go up by one, a missing node being added as above"; a node that is missing has no marks
+pub record Marks (h : History) (p : Label) (n : ℕ) : Type 0 where
+  pub there : hasNode h (suc n) p ≡ true
+  pub marked : pendingAt h (suc n) p ≡ pendingAt h n p + 1
+  pub kept : hasNode h n p ≡ true → revisionAt h (suc n) p ≡ revisionAt h n p
+  pub added : hasNode h n p ≡ false → revisionAt h (suc n) p ≡ nodesAt h (suc n) .floor
+
+-- call n raises it: "counter up by one, marks down by one"
+pub record Raises (h : History) (p : Label) (n : ℕ) : Type 0 where
+  pub was : hasNode h n p ≡ true
+  pub there : hasNode h (suc n) p ≡ true
+  pub raised : revisionAt h (suc n) p ≡ revisionAt h n p + 1
+  pub taken : pendingAt h (suc n) p + 1 ≡ pendingAt h n p
+
+-- "One look for each node, in order."
+abbrev pub Looks : History → Type 0
+Looks h = (a : List ℕ) (d b n i : ℕ) → i < readCount (queryOf a) → StepOf h (readOf a) d b n i → LooksAt h (readNode (queryOf a) i) d n i
+
+-- "One *mark* for each node", "Then one *raise* for each node"
+abbrev pub MarksSet : History → Type 0
+MarksSet h = (r : Request) (w : Change) → Begins r w → (d b n i : ℕ) → i < 2 ^ shapeAt h .columns → StepOf h r d b n i
+    → Marks h (writeNode (target w) i) n
+
+abbrev pub RaisesMade : History → Type 0
+RaisesMade h = (r : Request) (w : Change) → Begins r w → (d b n j : ℕ) → j < 2 ^ shapeAt h .columns
+    → StepOf h r d b n (2 ^ shapeAt h .columns + 1 + j) → Raises h (writeNode (target w) j) n
+
+-- before call n came step `least` + number, with number below count, of what call b began at desk d; its node is p
+pub record Came (h : History) (r : Request) (d b n least count : ℕ) (node : ℕ → Label) (p : Label) : Type 0 where
+  pub number : ℕ
+  pub low : number < count
+  pub at : ℕ
+  pub before : at < n
+  pub steps : StepOf h r d b at (least + number)
+  pub is : node number ≡ p
+
+-- Past its looks a read has looked at the nodes that definition 11's E'' gives it and at no others; past its marks a write has marked those
+-- of E', and with its end it has raised them.
+abbrev pub ReadNodes : History → Type 0
+ReadNodes h = (a : List ℕ) (d b n i : ℕ) → StepOf h (readOf a) d b n i → readCount (queryOf a) ≤ i
+    → (p : Label) → Came h (readOf a) d b n 0 (readCount (queryOf a)) (readNode (queryOf a)) p ↔ E″ p (queryOf a)
+
+abbrev pub MarkedNodes : History → Type 0
+MarkedNodes h = (r : Request) (w : Change) → Begins r w → (d b n i : ℕ) → StepOf h r d b n i → 2 ^ shapeAt h .columns ≤ i
+    → (p : Label) → Came h r d b n 0 (2 ^ shapeAt h .columns) (writeNode (target w)) p ↔ E′ (target w) p
+
+abbrev pub RaisedNodes : History → Type 0
+RaisedNodes h = (r : Request) (w : Change) → Begins r w → (d b n : ℕ) → StepOf h r d b n (2 ^ shapeAt h .columns + 2 ^ shapeAt h .columns)
+    → (p : Label) → Came h r d b (suc n) (2 ^ shapeAt h .columns + 1) (2 ^ shapeAt h .columns) (writeNode (target w)) p ↔ E′ (target w) p
+
+-- ---- A list taken, filed
+-- "Otherwise *file*: .. the list goes last with the noted revisions, and the read answers.": what the client holds at its file step is the
+-- list that the table step of its read took, which it answers with, and the revisions that its looks found
+pub record FilesList (h : History) (a : List ℕ) (d b n : ℕ) : Type 0 where
+  pub at : ℕ
+  pub before : at < n
+  pub takes : StepOf h (readOf a) d b at (readCount (queryOf a) + 1)
+  pub held : valueAt h n (entryAt h n d) ≡ ofRecords (listOf (queryOf a) (tableAt h at))
+  pub count : ℕ
+  pub says : resultAt h n .out ≡ Answered count false
+  pub list : IsList (shapeAt h .columns) (listOf (queryOf a) (tableAt h at)) count (resultAt h n .tray)
+  pub noted : (i : ℕ) → i < readCount (queryOf a) → (m : ℕ) × (m < n) × StepOf h (readOf a) d b m i
+      × (revisionIn (form (memAt h n)) (entryAt h n d) i ≡ revisionAt h (suc m) (readNode (queryOf a) i))
+
+abbrev pub ListsFiled : History → Type 0
+ListsFiled h = (a : List ℕ) (d b n : ℕ) → StepOf h (readOf a) d b n (readCount (queryOf a) + 2) → FilesList h a d b n
+
+-- ---- The last sentence, with the read that filed the answer found
+-- "A read whose fetch finds a filed answer to its query gets it, if from the earlier of its own begin and the filing read's to that fetch
+-- no write meeting the query was open and none of its nodes was put out."
+pub record GetsFiled (h : History) (x : Ask) (b n : ℕ) (e : Entry) (y : Fetches h x b n e) : Type 0 where
+  -- the filing read: call `begun` began it, call `by` is its file step, the last that filed under x; it is the only one
+  pub begun : ℕ
+  pub by : ℕ
+  pub filing : Filed h x begun by
+  pub last : LastFiled h x by n
+  pub only : (b′ f : ℕ) → Filed h x b′ f → LastFiled h x f n → (b′ ≡ begun) × (f ≡ by)
+  -- what is on file is what it held, list and revisions
+  pub entry : e ≡ entryAt h by (filing .client)
+  pub gets : Quiescent h x (min b begun) n
+      → (resultAt h n .out ≡ Answered (valueAt h n e .count) true) × (resultAt h n .tray ≡ written (y .tray) 0 (valueAt h n e .numbers))
+
+pub record Demand2 (h : History) : Type 0 where
+  -- "a list taken is exactly the table's records in the query's subspace, ascending"
+  pub lists : ListsTaken h
+  pub lists-filed : ListsFiled h
+  -- "inserts (but for 13, a full table), deletes .. are those of source document 002, definitions 1 to 5"
+  pub inserts : Inserts h
+  pub deletes : Deletes h
+  pub only-writes : OnlyWrites h
+  -- "The last raise ends the write and says whether the table changed."; 13: "at the table step the table held 2,048 records, not this one"
+  pub write-ends : WritesTake h
+  -- "revision nodes are those of source document 002, definitions .. 11"
+  pub looks : Looks h
+  pub marks : MarksSet h
+  pub raises : RaisesMade h
+  pub read-nodes : ReadNodes h
+  pub marked-nodes : MarkedNodes h
+  pub raised-nodes : RaisedNodes h
+  -- "A read whose fetch finds a filed answer to its query gets it, if .."
+  pub gets-filed : (x : Ask) (b n : ℕ) (e : Entry) (y : Fetches h x b n e) → GetsFiled h x b n e y
