@@ -23,7 +23,7 @@ returns-2 : tie.Need-returns-2
 returns-2 c =
     let t = c .before in
     let i = t .before in
-    refused-with refusedShort (c .refused2 .ensures) (λ z. omega arith) (step-tray _ _ _ (sym (i .if1 .left) ∙ i .before .is-short .ensures _) (t .if2 .taken))
+    refused-with refusedShort (c .refused2 .ensures) (λ z. omega arith) (step-tray _ _ _ (sym (i .if1 .left) ∙ i .before .is-short .ensures _) (omega (arith, t .if2 .taken)))
 
 at-client-requires : tie.Need-at-client-requires
 at-client-requires c κs = let i = c .before in sym (sym (i .if1 .left) ∙ i .before .is-short .ensures _)
@@ -32,7 +32,7 @@ returns-3 : tie.Need-returns-3
 returns-3 c =
     let t = c .before in
     let i = t .before in
-    found-as (c .at-client .ensures) (step-found _ _ _ (sym (i .if1 .left) ∙ i .before .is-short .ensures _) (t .if2 .left))
+    found-as (c .at-client .ensures) (step-found _ _ _ (sym (i .if1 .left) ∙ i .before .is-short .ensures _) (omega (arith, t .if2 .left)))
 
 pub step-check-spec : {M : Type 1} → statement M
 step-check-spec =

@@ -1,5 +1,6 @@
 -- `calls::upkeep::evict` meets its contract: a refusal, or the entry at the place taken out. Assumes nothing.
 use mathlib.Core.Path.{sym, _∙_}
+use native.Mathlib.Omega.{arith}
 use Rattle.rules.proofs.PassedChecks.{evict-answer-passed, evict-node-passed}
 use Rattle.checks.proofs.SoundMemories.{nodes-fit, answers-fit}
 use Rattle.calls.proofs.CallLaws.{evict-refused, answer-code-is, node-code-is, answer-goes, node-goes}
@@ -34,7 +35,8 @@ evict-requires c κs =
     let e = c .before in
     let i = e .before .before in
     let t = evict-answer-passed _ _ (answer-code-is _ _ _ _ (i .before .evict-code .ensures) (i .if1 .left) (e .enum-told .given .1)) in
-    (answers-fit _ (t .0), t .1)
+    let l = t .1 in
+    (answers-fit _ (t .0), omega arith)
 
 enum-told-2 : tie.Need-enum-told-2
 enum-told-2 c = search needs
@@ -44,7 +46,8 @@ evict-requires-2 c κs =
     let e = c .before in
     let i = e .before .before in
     let t = evict-node-passed _ _ (node-code-is _ _ _ _ (i .before .evict-code .ensures) (i .if1 .left) (e .enum-told2 .given .1)) in
-    (nodes-fit _ (t .0), t .1)
+    let l = t .1 in
+    (nodes-fit _ (t .0), omega arith)
 
 same-length-5 : tie.Need-same-length-5
 same-length-5 c = search needs

@@ -58,7 +58,7 @@ returns c =
     let inv = labelled .before .before .loop .inv in
     let x = spot-missing _ _ _ _ (c .before .before .find-retirable .ensures) (c .enum-told .given .1) in
     let p = labelled .write-label .ensures in
-    (test-stop _ _ _ _ _ _ _ (inv .1 .0) _ _ p refl (labelled .before .loop-test .taken) x, λ z. clash z refl)
+    (test-stop _ _ _ _ _ _ _ (inv .1 .0) _ _ p refl (omega (arith, labelled .before .loop-test .taken)) x, λ z. clash z refl)
 
 mul-places : tie.Need-mul-places Inv-loop μ-loop
 mul-places c = search needs
@@ -81,7 +81,7 @@ loop-again c =
     let x = spot-there _ _ _ _ (found .find-retirable .ensures) _ (c .before .spot .given .1) in (
       search needs,
       (
-        test-next _ _ _ _ _ _ _ (inv .1 .0) _ _ p refl (labelled .before .loop-test .taken) (x .0),
+        test-next _ _ _ _ _ _ _ (inv .1 .0) _ _ p refl (omega (arith, labelled .before .loop-test .taken)) (x .0),
         kept-more _ _ _ _ _ _ (inv .1 .1) (search needs) _ _ p (x .1),
       ),
     )
