@@ -1,5 +1,5 @@
--- The corollaries of demands 2 and 3, for every history. Leans on Demand3Holds, TableOrdered, Works, Steady, WriteEffects and Seen. Assumes nothing.
-use mathlib.Core.Path.{_≡_, refl, sym, ap, _∙_}
+-- The corollaries of demands 2 and 3, for every history. Leans on Demand3Holds, TableOrdered, Works, Steady, WriteEnds and Seen. Assumes nothing.
+use mathlib.Core.Path.{_≡_, refl, sym, ap, _∙_, subst}
 use mathlib.Core.Bool.{Bool, true, false, cond}
 use mathlib.Core.List.{List, [], _∷_}
 use Prim.Native.Nat.{ℕ, zero, suc, _≤_, _<_}
@@ -13,7 +13,7 @@ use Rattle.query.specs.Encoding.{queryOf}
 use Rattle.rules.specs.declared.Outcome.{Outcome}
 use Rattle.rules.specs.declared.Outcome.the-variants.{Ended, Full}
 use Rattle.rules.specs.History.{begin}
-use Rattle.rules.specs.Table.{Table, insert, delete, listOf, has, changes, noRoom, Distinct}
+use Rattle.rules.specs.Table.{Table, insert, delete, listOf, has, changes, noRoom, Ascending, Distinct}
 use Rattle.records.proofs.RecordSets.{has-list}
 use Rattle.records.proofs.RecordsAscending.{ascending-distinct}
 use Rattle.demands.specs.WholeHistory.{History, plainAt, callAt, resultAt, shapeAt}
@@ -26,7 +26,7 @@ use Rattle.demands.proofs.TableOrdered.{good-table, demand-2-ascending}
 use Rattle.demands.proofs.Flags.{since-read}
 use Rattle.demands.proofs.Works.{one-work}
 use Rattle.demands.proofs.Steady.{lists-stay, answer-short, answer-steps}
-use Rattle.demands.proofs.WriteEffects.{writes-take}
+use Rattle.demands.proofs.WriteEnds.{writes-take}
 use Rattle.demands.proofs.Seen.{inserted, deleted, keeps}
 use Rattle.rules.specs.Work.{askOf, asking, readOf}
 
@@ -87,9 +87,9 @@ answers-ascend h d a b n count cached x =
     let z = moment h d a b n count cached x in
     let l = x .within in
     let up = z .2 in (
-      listOf (queryOf a) (tableAt h (z .0)),
-      table-list h a n count (z .0) (omega arith) (z .3),
-      demand-2-ascending h (z .0) (omega arith) .1 (queryOf a),
+      z .0,
+      z .3,
+      subst (λ t. Ascending (listOf (queryOf a) t)) (tables h (z .0) (omega arith)) (demand-2-ascending h (z .0) (omega arith) .1 (queryOf a)),
       answer-short h n _ cached (x .within) (result-is h n count cached (sound h n (omega arith) .shape) (x .says)),
     )
 
@@ -146,9 +146,10 @@ inserts-seen h d r b e changed x d′ a b′ n count cached y m i u =
     let low = z .1 in
     let up = z .2 in
     let early = y .runs .earlier in (
-      listOf (queryOf a) (tableAt h (z .0)),
-      table-list h a n count (z .0) (omega arith) (z .3),
-      has-list r (queryOf a) (tableAt h (z .0)) ∙ rw (insert-stays h d r b e n changed x (omega arith) l u (z .0) (omega arith) up, i),
+      z .0,
+      z .3,
+      ap (λ t. has r (listOf (queryOf a) t)) (sym (tables h (z .0) (omega arith)))
+          ∙ has-list r (queryOf a) (tableAt h (z .0)) ∙ rw (insert-stays h d r b e n changed x (omega arith) l u (z .0) (omega arith) up, i),
     )
 
 deletes-seen : (h : History) → DeletesSeen h
@@ -158,9 +159,10 @@ deletes-seen h d q b e o x d′ a b′ n count cached y m r i u =
     let low = z .1 in
     let up = z .2 in
     let early = y .runs .earlier in (
-      listOf (queryOf a) (tableAt h (z .0)),
-      table-list h a n count (z .0) (omega arith) (z .3),
-      has-list r (queryOf a) (tableAt h (z .0)) ∙ rw (delete-stays h d q r b e n o x i (omega arith) l u (z .0) (omega arith) up),
+      z .0,
+      z .3,
+      ap (λ t. has r (listOf (queryOf a) t)) (sym (tables h (z .0) (omega arith)))
+          ∙ has-list r (queryOf a) (tableAt h (z .0)) ∙ rw (delete-stays h d q r b e n o x i (omega arith) l u (z .0) (omega arith) up),
     )
 
 pub corollaries : (h : History) → Corollaries h

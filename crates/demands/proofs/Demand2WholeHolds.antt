@@ -1,4 +1,4 @@
--- Demand 2, for every history of the calls that the contracts cite. Leans on StepsOfReads, StepsOfWrites, WriteEffects, FilingRead and
+-- Demand 2, for every history of the calls that the contracts cite. Leans on StepsOfReads, StepsOfWrites, WriteEnds, FilingRead and
 -- Demand2Holds. Assumes nothing.
 use mathlib.Core.Path.{_≡_}
 use mathlib.Core.Logic.{_⊎_, inl, inr}
@@ -13,7 +13,9 @@ use Rattle.demands.specs.WholeHistory.{History}
 use Rattle.demands.specs.Demand2.{Fetches}
 use Rattle.demands.specs.Demand2Whole.{GetsFiled, Demand2}
 use Rattle.demands.proofs.Demand2Holds.{demand-2-gets}
-use Rattle.demands.proofs.WriteEffects.{writes-take}
+use Rattle.demands.proofs.TableOrdered.{demand-2-ascending}
+use Rattle.demands.proofs.StepsMade.{reads-tell}
+use Rattle.demands.proofs.WriteEnds.{writes-take}
 use Rattle.demands.proofs.FilingRead.{filing-read, one-filing}
 use Rattle.demands.proofs.StepsOfReads.{lists-taken, lists-filed, looks, read-nodes}
 use Rattle.demands.proofs.StepsOfWrites.{inserts, deletes, only-writes, marks-set, raises-made, marked-nodes, raised-all}
@@ -40,6 +42,7 @@ gets-filed h x b n e y =
 
 pub demand-2 : (h : History) → Demand2 h
 demand-2 h = record {
+  ascends = λ n l. demand-2-ascending h n l .0;
   lists = lists-taken h;
   lists-filed = lists-filed h;
   inserts = inserts h;
@@ -52,5 +55,6 @@ demand-2 h = record {
   read-nodes = read-nodes h;
   marked-nodes = marked-nodes h;
   raised-nodes = raised-all h;
+  reads-tell = reads-tell h;
   gets-filed = gets-filed h;
 }

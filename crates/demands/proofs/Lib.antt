@@ -26,5 +26,6 @@ pub mod FilingRead
 pub mod NotesKept
 pub mod StepsOfReads
 pub mod StepsOfWrites
+pub mod WriteEnds
 pub mod Demand2WholeHolds
 pub mod Example2

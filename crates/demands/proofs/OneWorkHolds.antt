@@ -1,4 +1,4 @@
--- Each answer has one read, each end one write, for every history. Leans on WorksBegun, Works, WriteEffects and machine's Transition.
+-- Each answer has one read, each end one write, for every history. Leans on WorksBegun, Works, WriteEnds and machine's Transition.
 -- Assumes nothing.
 use mathlib.Core.Path.{_≡_, refl, sym, ap, _∙_, subst}
 use mathlib.Core.Bool.{Bool, true, false, cond, false≢true}
@@ -33,7 +33,8 @@ use Rattle.demands.proofs.HistoryRuns.{responseAt, transition-at}
 use Rattle.demands.proofs.LogPlaces.{accepted-at, work-ends}
 use Rattle.demands.proofs.Works.{one-work}
 use Rattle.demands.proofs.WorksBegun.{busy-begun, since-under}
-use Rattle.demands.proofs.WriteEffects.{result-end, writes-take}
+use Rattle.demands.proofs.WriteEffects.{result-end}
+use Rattle.demands.proofs.WriteEnds.{writes-take}
 use Rattle.machine.specs.Machine as machine
 use Rattle.machine.specs.Transition
 

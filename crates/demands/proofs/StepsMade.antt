@@ -44,8 +44,8 @@ use Rattle.refinement.proofs.ClientPhases.{idle-at, busy-phase, fits-at}
 use Rattle.refinement.proofs.MemoryReads.{store-with, length-nodes}
 use Rattle.refinement.proofs.PhaseSteps.{noted-count}
 use Rattle.refinement.proofs.StepFrame.{busy-at, client-at}
-use Rattle.demands.specs.WholeHistory.{History, shapeAt, memAt, callAt, resultAt, acceptedAt, isStepAt, stepsIn}
-use Rattle.demands.specs.Demand2Whole.{StepOf}
+use Rattle.demands.specs.WholeHistory.{History, shapeAt, memAt, callAt, resultAt, acceptedAt, isStepAt, stepsIn, StepOf}
+use Rattle.demands.specs.Demand2Whole.{ReadsTell}
 use Rattle.demands.proofs.HistoryRuns.{responseAt, logTo, sound, transition-at}
 use Rattle.demands.proofs.LogPlaces.{accepted-at, steps-log, under-places, stepped-at}
 use Rattle.demands.proofs.Works.{Since, work-since, one-work, goes-on, not-begun}
@@ -188,6 +188,14 @@ keeps-at m d x i f e made =
 pub keeps-since : (h : History) (x : Work) (d b n i : ℕ) → Since h x d b n → stepsIn h d b n ≡ i → Keeps (memAt h n) d x i
 keeps-since h x d b n i s e =
     keeps-at (memAt h n) d x i (sound h n (s .within) .fits) (work-since h x d b n s n (s .runs .earlier) (omega arith)) (made-since h x d b n s ∙ e)
+
+-- what the client keeps of a read is what the calls tell
+pub reads-tell : (h : History) → ReadsTell h
+reads-tell h r d b n l u x i =
+    let k = keeps-since h (workOf (shapeAt h) r) d b n (stepsIn h d b n) (record { request = r; is = refl; within = l; runs = u }) refl in (
+      (λ y. (sym (k .busy .work) ∙ y .works, sym (k .made) ∙ y .made)),
+      (λ y. record { below = k .low; busy = at-work (k .busy); works = k .busy .work ∙ y .0; made = k .made ∙ y .1 }),
+    )
 
 pub since-step : (h : History) (r : Request) (d b n i : ℕ) → StepOf h r d b n i → Since h (workOf (shapeAt h) r) d b n
 since-step h r d b n i s = let l = s .within in record { request = r; is = refl; within = omega arith; runs = s .runs }

@@ -41,11 +41,11 @@ use Rattle.refinement.proofs.ClientPhases.{Left, fits-at, looking-phase, filing
 use Rattle.refinement.proofs.StepFrame.{client-at}
 use Rattle.refinement.proofs.MemoryReads.{records-held, rows-held}
 use Rattle.refinement.proofs.PhaseSteps.{noted-count, noted-left, holding-left}
-use Rattle.demands.specs.WholeHistory.{History, shapeAt, memAt, resultAt, acceptedAt, endsWork, endsAt, UnderWay, stepsIn}
+use Rattle.demands.specs.WholeHistory.{History, shapeAt, memAt, resultAt, acceptedAt, endsWork, endsAt, UnderWay, stepsIn, StepOf}
 use Rattle.demands.specs.Demand2.{valueAt}
 use Rattle.demands.specs.Demand3.{IsList}
 use Rattle.demands.specs.Corollaries.{tableAt}
-use Rattle.demands.specs.Demand2Whole.{StepOf, nodesAt, entryAt, Disposes, long, answers, holds, ListsTaken, ListsFiled, LooksAt, Looks, ReadNodes}
+use Rattle.demands.specs.Demand2Whole.{nodesAt, entryAt, Disposes, long, answers, holds, ListsTaken, ListsFiled, LooksAt, Looks, ReadNodes}
 use Rattle.demands.proofs.HistoryRuns.{sound, next-mem}
 use Rattle.demands.proofs.Works.{Since}
 use Rattle.demands.proofs.TableOrdered.{demand-2-ascending}

@@ -39,9 +39,9 @@ use Rattle.machine.proofs.Claims.{fresh}
 use Rattle.machine.proofs.Log.{after, JobFrom, linked}
 use Rattle.refinement.proofs.Abstraction.{stateOf, callOf, Fits}
 use Rattle.refinement.proofs.MemoryReads.{length-records, records-held, rows-held, records-with}
-use Rattle.demands.specs.WholeHistory.{History, shapeAt, memAt, callAt, resultAt, acceptedAt}
+use Rattle.demands.specs.WholeHistory.{History, shapeAt, memAt, callAt, resultAt, acceptedAt, StepOf}
 use Rattle.demands.specs.Corollaries.{tableAt, Begins, inserting, deleting}
-use Rattle.demands.specs.Demand2Whole.{StepOf, nodesAt, Inserts, Deletes, WritesTable, OnlyWrites, Marks, MarksSet, Raises, RaisesMade, MarkedNodes, RaisedNodes}
+use Rattle.demands.specs.Demand2Whole.{nodesAt, Inserts, Deletes, WritesTable, OnlyWrites, Marks, MarksSet, Raises, RaisesMade, MarkedNodes, RaisedNodes}
 use Rattle.demands.proofs.HistoryRuns.{responseAt, logTo, sound, next-mem, transition-at}
 use Rattle.demands.proofs.LogPlaces.{accepted-at, Begun, under-places}
 use Rattle.demands.proofs.Works.{Since}
@@ -58,7 +58,7 @@ writer : (h : History) (r : Request) (w : Change) → Begins r w → (d b n i : 
     → Busy narrow (shape (memAt h n)) (client (memAt h n) d) (writing (of h w))
 writer h r w B d b n i s = subst (λ x. Busy narrow (shape (memAt h n)) (client (memAt h n) d) x) (write-begins h r w B) (standing h r d b n i s .busy)
 
-count : (h : History) (r : Request) (w : Change) → Begins r w → (d b n i : ℕ) → StepOf h r d b n i
+pub count : (h : History) (r : Request) (w : Change) → Begins r w → (d b n i : ℕ) → StepOf h r d b n i
     → (length (writeLabels (of h w)) ≡ 2 ^ shapeAt h .columns) × (length (target w) ≡ shapeAt h .columns)
 count h r w B d b n i s = let l = s .within in nodes-count h (of h w) d n (omega arith) (writer h r w B d b n i s)
 
@@ -77,7 +77,7 @@ written-table m tray d c f l =
     records-with (columns m) (m .table) (f .few) (f .long .table) (f .records) (effect c t)
     (effect-wide (columns m) c t (of-width (columns m) c l) (records-held m f)) (effect-few c t (omega arith))
 
-takes-effect : (h : History) (r : Request) (w : Change) → Begins r w → (d b n : ℕ) → StepOf h r d b n (2 ^ shapeAt h .columns)
+pub takes-effect : (h : History) (r : Request) (w : Change) → Begins r w → (d b n : ℕ) → StepOf h r d b n (2 ^ shapeAt h .columns)
     → tableAt h (suc n) ≡ effect w (tableAt h n)
 takes-effect h r w B d b n s =
     let low = s .within in

@@ -3,7 +3,7 @@
 use mathlib.Core.Path.{_≡_}
 use mathlib.Core.Bool.{Bool, true, false, cond, not, _&&_}
 use mathlib.Core.List.{List, []}
-use Prim.Native.Nat.{ℕ, suc, _≤_, _<_}
+use Prim.Native.Nat.{ℕ, suc, _^_, _≤_, _<_}
 use lib.Dec.{eqb}
 use lib.ListN.{length, getD}
 use Rattle.lists.specs.Lists.{same, allBelow}
@@ -19,7 +19,7 @@ use Rattle.rules.specs.Client.{Client, kind, isIdle, writeAt}
 use Rattle.rules.specs.Memory.{Mem, recordsIn}
 use Rattle.rules.specs.Refusals.{form, shape, client}
 use Rattle.rules.specs.History.{step}
-use Rattle.demands.specs.WholeHistory.{History, shapeAt, memAt, plainAt, callAt, resultAt, UnderWay, stepsIn}
+use Rattle.demands.specs.WholeHistory.{History, shapeAt, memAt, plainAt, callAt, resultAt, UnderWay, stepsIn, StepOf}
 use Rattle.demands.specs.Demand3.{IsList}
 use Rattle.demands.specs.Demand2.{isQuiet}
 
@@ -78,7 +78,7 @@ StepsByNodes h = (d : ℕ) (r : Request) (b n : ℕ) → n ≤ length (h .calls)
 -- An answer's records ascend, and are at most 32.
 abbrev pub AnswersAscend : History → Type 0
 AnswersAscend h = (d : ℕ) (a : List ℕ) (b n count : ℕ) (cached : Bool) → Answers h d a b n count cached
-    → (l : List Record) × IsList (shapeAt h .columns) l count (resultAt h n .tray) × Ascending l × (count ≤ maxList)
+    → (j : ℕ) × ListAt h a n count j × Ascending (listOf (queryOf a) (plainAt h j .table)) × (count ≤ maxList)
 
 -- The table never holds a record twice, and never more than 2,048.
 abbrev pub NoneTwice : History → Type 0
@@ -109,11 +109,13 @@ pub record Ends (h : History) (d : ℕ) (w : Change) (b e : ℕ) (o : Outcome) :
   pub says : resultAt h e .out ≡ o
   pub ends : isWriteEnd o ≡ true
 
--- A write takes effect whole, at one call t between its begin and its end, and its end is what it gives alone on the table of that call.
+-- A write takes effect whole, at one call t between its begin and its end, which is its table step; its end is what it gives alone on the
+-- table of that call: 13 if the table held 2,048 records and not this one, else whether it changed.
 abbrev pub WritesTake : History → Type 0
-WritesTake h = (d : ℕ) (w : Change) (b e : ℕ) (o : Outcome) → Ends h d w b e o
+WritesTake h = (d : ℕ) (w : Change) (b e : ℕ) (o : Outcome) (x : Ends h d w b e o)
     → (t : ℕ) × (b < t) × (t ≤ e) × (plainAt h (suc t) .table ≡ effect w (plainAt h t .table))
     × (o ≡ cond (noRoom w (plainAt h t .table)) Full (Ended (changes w (plainAt h t .table))))
+    × StepOf h (x .request) d b t (2 ^ shapeAt h .columns)
 
 -- a write that would undo that the table has record r (true), or that it has not (false)
 unfoldable pub undoes : Bool → Record → Change → Bool
@@ -138,13 +140,13 @@ Unopposed h v r b n = (i : ℕ) → b < i → i ≤ n → isUnopposed v r (memAt
 abbrev pub InsertsSeen : History → Type 0
 InsertsSeen h = (d : ℕ) (r : Record) (b e : ℕ) (changed : Bool) → Ends h d (insert r) b e (Ended changed)
     → (d′ : ℕ) (a : List ℕ) (b′ n count : ℕ) (cached : Bool) → Answers h d′ a b′ n count cached → e < b′ → lies (queryOf a) r ≡ true
-    → Unopposed h true r b n → (l : List Record) × IsList (shapeAt h .columns) l count (resultAt h n .tray) × (has r l ≡ true)
+    → Unopposed h true r b n → (j : ℕ) × ListAt h a n count j × (has r (listOf (queryOf a) (plainAt h j .table)) ≡ true)
 
 -- A record that a delete has taken out is in no answer of a read that begins later, unless an insert of it was open since the delete's begin.
 abbrev pub DeletesSeen : History → Type 0
 DeletesSeen h = (d : ℕ) (q : Query) (b e : ℕ) (o : Outcome) → Ends h d (delete q) b e o
     → (d′ : ℕ) (a : List ℕ) (b′ n count : ℕ) (cached : Bool) → Answers h d′ a b′ n count cached → e < b′ → (r : Record) → lies q r ≡ true
-    → Unopposed h false r b n → (l : List Record) × IsList (shapeAt h .columns) l count (resultAt h n .tray) × (has r l ≡ false)
+    → Unopposed h false r b n → (j : ℕ) × ListAt h a n count j × (has r (listOf (queryOf a) (plainAt h j .table)) ≡ false)
 
 pub record Corollaries (h : History) : Type 0 where
   pub every-answer : EveryAnswer h

@@ -1,4 +1,4 @@
--- Demand 2, about the definitions that the contracts cite. Leans on WholeHistory. Definitions only. Assumes nothing.
+-- Demand 2's last sentence, about the definitions that the contracts cite. Leans on WholeHistory. Definitions only. Assumes nothing.
 use mathlib.Core.Path.{_≡_}
 use mathlib.Core.Bool.{Bool, true, false, not, _&&_, _||_}
 use mathlib.Core.List.{List, []}

@@ -19,24 +19,14 @@ use Rattle.rules.specs.Answers.{Entry, revisionIn}
 use Rattle.rules.specs.Client.{entryOf, sawPending}
 use Rattle.rules.specs.Memory.{storeIn}
 use Rattle.rules.specs.Refusals.{form, client}
-use Rattle.rules.specs.History.{step}
-use Rattle.rules.specs.Work.{Ask, ofRecords, Request, readOf, insertOf, deleteOf}
-use Rattle.demands.specs.WholeHistory.{History, shapeAt, memAt, callAt, resultAt, acceptedAt, UnderWay, stepsIn}
-use Rattle.demands.specs.Demand2.{Quiescent, Filed, Fetches, LastFiled, valueAt}
+use Rattle.rules.specs.Work.{Ask, ofRecords, asking, Request, readOf, insertOf, deleteOf, workOf}
+use Rattle.demands.specs.WholeHistory.{History, shapeAt, memAt, resultAt, UnderWay, stepsIn, StepOf}
+use Rattle.demands.specs.Demand2.{Quiescent, Reads, Filed, Fetches, LastFiled, valueAt}
 use Rattle.demands.specs.Demand3.{IsList}
 use Rattle.demands.specs.Corollaries.{tableAt, Begins, WritesTake}
 
--- ---- The steps of a read or a write, told by the calls alone
--- call n is an accepted step at desk d of what call b began there by r, which had made i accepted steps before
-pub record StepOf (h : History) (r : Request) (d b n i : ℕ) : Type 0 where
-  pub tray : List ℕ
-  pub within : n < length (h .calls)
-  pub calls : callAt h n ≡ step d tray
-  pub accepted : acceptedAt h n ≡ true
-  pub runs : UnderWay h r d b n
-  pub made : stepsIn h d b n ≡ i
-
--- what the memories hold after the first n calls: the nodes, and the entry that the client at desk d keeps
+-- ---- What the memories hold after the first n calls
+-- the nodes, and the entry that the client at desk d keeps
 abbrev pub nodesAt : History → ℕ → Store
 nodesAt h n = storeIn (form (memAt h n)) (memAt h n .nodes)
 
@@ -112,7 +102,7 @@ OnlyWrites h = (n : ℕ) → n < length (h .calls) → (tableAt h (suc n) ≡ ta
 
 -- ---- "revision nodes are those of source document 002, definitions .. 11"
 -- Call n, look i at desk d, looks at the node of the label p. "A look at a node present notes its counter and whether its marks are above
--- 0. A missing node is added last, with the floor as counter and 0 marks"
+-- 0. A missing node is added .., with the floor as counter and 0 marks"; at which place, and that the others stay, is in the call's equation
 pub record LooksAt (h : History) (p : Label) (d n i : ℕ) : Type 0 where
   pub there : hasNode h (suc n) p ≡ true
   pub kept : hasNode h n p ≡ true → nodesAt h (suc n) ≡ nodesAt h n
@@ -202,7 +192,14 @@ pub record GetsFiled (h : History) (x : Ask) (b n : ℕ) (e : Entry) (y : Fetche
   pub gets : Quiescent h x (min b begun) n
       → (resultAt h n .out ≡ Answered (valueAt h n e .count) true) × (resultAt h n .tray ≡ written (y .tray) 0 (valueAt h n e .numbers))
 
+-- `Fetches` and `Filed` go by what a client keeps. The calls tell the same of what is under way: a read of x that has made i steps.
+abbrev pub ReadsTell : History → Type 0
+ReadsTell h = (r : Request) (d b n : ℕ) → n ≤ length (h .calls) → UnderWay h r d b n → (x : Ask) (i : ℕ)
+    → Reads (memAt h n) d x i ↔ ((workOf (shapeAt h) r ≡ asking x) × (stepsIn h d b n ≡ i))
+
 pub record Demand2 (h : History) : Type 0 where
+  -- "the records, ascending by first column, then second, and so on"
+  pub ascends : (n : ℕ) → n ≤ length (h .calls) → Ascending (tableAt h n)
   -- "a list taken is exactly the table's records in the query's subspace, ascending"
   pub lists : ListsTaken h
   pub lists-filed : ListsFiled h
@@ -220,4 +217,5 @@ pub record Demand2 (h : History) : Type 0 where
   pub marked-nodes : MarkedNodes h
   pub raised-nodes : RaisedNodes h
   -- "A read whose fetch finds a filed answer to its query gets it, if .."
+  pub reads-tell : ReadsTell h
   pub gets-filed : (x : Ask) (b n : ℕ) (e : Entry) (y : Fetches h x b n e) → GetsFiled h x b n e y

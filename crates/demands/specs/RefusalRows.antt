@@ -81,7 +81,7 @@ unfoldable pub isFullAt : Client → Work → ℕ → Bool
 isFullAt c (asking x) i = false
 isFullAt c (writing w) i = eqb i (length (writeLabels w) + length (writeLabels w)) && foundFull c
 
--- ---- The refusals of each call, in the order in which they are given. A number may stand in two rows.
+-- ---- The refusals of each call, in the order in which they are given. A number may stand in several rows.
 unfoldable pub openRows : Mem → ℕ → List Row
 openRows m k =
     -- "a lent memory is below its least length"

@@ -5,7 +5,7 @@ use mathlib.Core.Bool.{Bool, true, false, cond, _&&_}
 use mathlib.Core.List.{List}
 use Prim.Native.Nat.{ℕ, zero, suc, _+_, _<_}
 use lib.Dec.{eqb, ltb}
-use lib.ListN.{getD, take}
+use lib.ListN.{length, getD, take}
 use Rattle.rules.specs.declared.Outcome.{Outcome}
 use Rattle.rules.specs.declared.Outcome.the-variants.{Refused, Accepted, Answered, Long, Ended, Full}
 use Rattle.rules.specs.Memory.{Mem, opened}
@@ -80,3 +80,12 @@ isStepAt d renew = false
 unfoldable pub stepsIn : History → ℕ → ℕ → ℕ → ℕ
 stepsIn h d b zero = 0
 stepsIn h d b (suc n) = cond (ltb b n && (isStepAt d (callAt h n) && acceptedAt h n)) 1 0 + stepsIn h d b n
+
+-- The steps of a read or a write, told by the calls alone: call n is an accepted step at desk d of what call b began there by r, which had made i accepted steps before
+pub record StepOf (h : History) (r : Request) (d b n i : ℕ) : Type 0 where
+  pub tray : List ℕ
+  pub within : n < length (h .calls)
+  pub calls : callAt h n ≡ step d tray
+  pub accepted : acceptedAt h n ≡ true
+  pub runs : UnderWay h r d b n
+  pub made : stepsIn h d b n ≡ i
