@@ -16,6 +16,7 @@ pub mod CorollariesHold
 pub mod WorksBegun
 pub mod OneWorkHolds
 pub mod OpenWritesHold
+pub mod NodeFaults
 pub mod RefusalRowsHold
 pub mod UnalteredMemories
 pub mod Demand1Holds

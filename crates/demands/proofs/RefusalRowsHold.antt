@@ -5,29 +5,33 @@ use mathlib.Core.Bool.{Bool, true, false, cond, not, _&&_, _||_}
 use mathlib.Core.List.{List, [], _∷_, _++_}
 use mathlib.Core.Logic.{_⊎_, inl, inr}
 use mathlib.Core.Option.{Option, none, some}
-use Prim.Native.Nat.{ℕ, _+_, _≤_}
+use Prim.Native.Nat.{ℕ, _+_, _-_, _≤_}
 use native.Mathlib.Omega.{arith}
 use lib.Dec.{eqb, ltb, leb}
-use lib.ListN.{length}
-use borrow.Author.Tests.{not-true, leb-true, ltb-true, eqb-true, ne-eqb}
+use lib.ListN.{length, getD}
+use borrow.Author.Tests.{not-true, leb-true, ltb-true, ltb-false, eqb-true, eqb-false, ne-eqb, lt-ltb, le-ltb}
 use Rattle.lists.specs.Lists.{In, here, there}
-use Rattle.laws.proofs.TestLaws.{byTest, clash, or-false}
+use Rattle.laws.proofs.TestLaws.{byTest, clash, or-false, or-false-l, or-false-r}
 use Rattle.laws.proofs.ListLaws.{and-left, and-right}
 use Rattle.query.specs.Encoding.{isQuery, namesAll, queryOf}
-use Rattle.query.specs.Shape.{Shape, narrow}
+use Rattle.query.specs.Shape.{Shape, narrow, maxColumns}
 use Rattle.rules.specs.Layout.{trayLeast, refusedColumns}
 use Rattle.rules.specs.Work.{Ask, Value, readLabels, mayAnswer, Write, writeLabels, Work, asking, writing, Request, readOf, insertOf, deleteOf, isWrite, faultOf}
+use Rattle.rules.specs.Table.{target}
 use Rattle.rules.specs.Nodes.{Words, Store, isWorn}
 use Rattle.rules.specs.Client.{steps, sawPending, foundFull, isIdle, isBad, workAt}
 use Rattle.rules.specs.Memory.{Mem, storeIn, answersIn}
 use Rattle.rules.specs.Outcome.{Result, number}
-use Rattle.rules.specs.Refusals.{shape, client, isShort, isUnsound, noClient, isCommitted}
+use Rattle.rules.specs.Refusals.{shape, columns, client, isShort, badColumns, isUnsound, noClient, isCommitted}
 use Rattle.rules.specs.Refusals.{openCode, beginCode, atClient, stepCode, abandonCode, evictAnswerCode, evictNodeCode, renewCode}
 use Rattle.rules.specs.Steps.{answered, lookResult, fetchResult, tableResult, fileResult, readResult, announceResult, writeTableResult, endOf, raiseResult, writeResult, progressOf, progress}
 use Rattle.rules.specs.Calls.{unless, openResult, beginResult, stepResult, releaseResult, abandonedOf, abandoned, abandonResult, evictAnswerResult, evictNodeResult, renewResult}
 use Rattle.rules.specs.History.{Call, begin, step, abandon, evictAnswer, evictNode, renew, untrayed, callResult, isAccepted}
-use Rattle.rules.proofs.WorkLaws.{write-labels-some}
-use Rattle.demands.specs.RefusalRows.{Row, firstOf, someApplies, isThere, isBusy, isNone, nodesStepped, nodesReleased, isLongAt, isFullAt}
+use Rattle.rules.proofs.WorkLaws.{write-labels-some, write-label-wide}
+use Rattle.machine.specs.Machine.{WorkFits}
+use Rattle.refinement.proofs.ClientPhases.{fits-at}
+use Rattle.demands.proofs.NodeFaults.{isNone, look-none, mark-none, raise-none, back-none}
+use Rattle.demands.specs.RefusalRows.{Row, firstOf, someApplies, isThere, isBusy, isUnsoundAt, isUnsoundBack, isLongAt, isFullAt}
 use Rattle.demands.specs.RefusalRows.{openRows, beginRows, stepRows, endRows, abandonRows, evictAnswerRows, evictNodeRows, renewRows, rowsOf, endsOf, Gives, RefusalRows, Smallest, SmallestGiven}
 
 -- ---- The first of two lists of rows
@@ -233,14 +237,15 @@ table-number m tray d x v =
 
 -- the number of work under way, by the rows that are behind its desk's
 abbrev underWay : Mem → ℕ → Work → ℕ → ℕ
-underWay m d w i = cond (isNone (nodesStepped m w i)) 3 (cond (isLongAt m w i) 12 (cond (isFullAt (client m d) w i) 13 0))
+underWay m d w i = cond (isUnsoundAt m w i) 3 (cond (isLongAt m w i) 12 (cond (isFullAt (client m d) w i) 13 0))
 
 read-number : (m : Mem) (tray : List ℕ) (d : ℕ) (x : Ask) (i : ℕ) → number (readResult m tray d x i .out) ≡ underWay m d (asking x) i
-unfolding readResult nodesStepped isLongAt isFullAt isNone fileResult answered number
+unfolding readResult isUnsoundAt isLongAt isFullAt fileResult answered number
 read-number m tray d x i =
     let n : ℕ = length (readLabels x) in
     byTest (ltb i n)
-    (λ t. let l = ltb-true i n t in rw (t, ne-eqb i (n + 1) (λ e. omega arith)) (look-number m tray d i _ _))
+    (λ t. let l = ltb-true i n t in
+    rw (t, ne-eqb i (n + 1) (λ e. omega arith), ← look-none (getD (readLabels x) i []) (storeIn narrow (m .nodes))) (look-number m tray d i _ _))
     (λ t. rw t (byTest (eqb i n)
     (λ u. let l = eqb-true i n u in rw (u, ne-eqb i (n + 1) (λ e. omega arith)) (fetch-number m tray d _))
     (λ u. rw u (byTest (eqb i (n + 1)) (λ v. rw v (table-number m tray d x _)) (λ v. rw v)))))
@@ -258,24 +263,35 @@ raise-number m tray d isLast none = refl
 raise-number m tray d false (some s) = refl
 raise-number m tray d true (some s) = byTest (foundFull (client m d)) (λ e. rw e) (λ e. rw e)
 
-write-number : (m : Mem) (tray : List ℕ) (d : ℕ) (w : Write) (i : ℕ) → number (writeResult m tray d w i .out) ≡ underWay m d (writing w) i
-unfolding writeResult nodesStepped isLongAt isFullAt isNone writeTableResult number
-write-number m tray d w i =
+write-number : (m : Mem) (tray : List ℕ) (d : ℕ) (w : Write) (i : ℕ) → length (target (w .change)) ≤ maxColumns
+    → number (writeResult m tray d w i .out) ≡ underWay m d (writing w) i
+unfolding writeResult isUnsoundAt isLongAt isFullAt writeTableResult number
+write-number m tray d w i k =
     let n : ℕ = length (writeLabels w) in
+    let s : Store = storeIn narrow (m .nodes) in
     let some-nodes = write-labels-some w in
     byTest (ltb i n)
-    (λ t. let l = ltb-true i n t in rw (t, ne-eqb i (n + n) (λ e. omega arith)) (announce-number m tray d _))
-    (λ t. rw t (byTest (eqb i n)
-    (λ u. let l = eqb-true i n u in rw (u, ne-eqb i (n + n) (λ e. omega arith)))
-    (λ u. rw u (raise-number m tray d (eqb i (n + n)) _))))
+    (λ t. let l = ltb-true i n t in
+    rw (t, ne-eqb i (n + n) (λ e. omega arith), ← mark-none _ (write-label-wide w i k l) s) (announce-number m tray d _))
+    (λ t. let g = ltb-false i n t in rw t (byTest (eqb i n)
+    (λ u. let l = eqb-true i n u in rw (u, ne-eqb i (n + n) (λ e. omega arith), le-ltb n i (omega arith)))
+    (λ u. let o : i ≡ n → ⊥ = eqb-false i n u in
+    rw (u, lt-ltb n i (omega arith), ← raise-none (getD (writeLabels w) (i - (n + 1)) []) s) (raise-number m tray d (eqb i (n + n)) _))))
 
-progress-number : (m : Mem) (tray : List ℕ) (d : ℕ) (w : Work) → number (progressOf m tray d w .out) ≡ underWay m d w (steps (client m d))
+progress-number : (m : Mem) (tray : List ℕ) (d : ℕ) (w : Work) → WorkFits (shape m) w → columns m ≤ maxColumns
+    → number (progressOf m tray d w .out) ≡ underWay m d w (steps (client m d))
 unfolding progressOf
-progress-number m tray d (asking x) = read-number m tray d x (steps (client m d))
-progress-number m tray d (writing w) = write-number m tray d w (steps (client m d))
+progress-number m tray d (asking x) f k = read-number m tray d x (steps (client m d))
+progress-number m tray d (writing w) f k = write-number m tray d w (steps (client m d)) (let c = f .columns in omega arith)
+
+-- in range where the hall's numbers are
+columns-most : (m : Mem) → isUnsound m ≡ false → columns m ≤ maxColumns
+unfolding isUnsound badColumns
+columns-most m e = ltb-false _ _ (or-false-r (eqb (columns m) 0) _ (or-false-l (badColumns (columns m)) _ e))
 
 -- a code of a step, and what comes behind it; the rows say that the desk is there and busy
-stepping : (short unsound gone bad idle node long full : Bool) (n : ℕ) → n ≡ cond node 3 (cond long 12 (cond full 13 0))
+stepping : (short unsound gone bad idle node long full : Bool) (n : ℕ)
+    → (unsound ≡ false → n ≡ cond node 3 (cond long 12 (cond full 13 0)))
     → cond (eqb (cond short 1 (cond unsound 3 (cond gone 4 (cond bad 3 (cond idle 6 0))))) 0) n (cond short 1 (cond unsound 3 (cond gone 4 (cond bad 3 (cond idle 6 0)))))
     ≡ cond short 1 (cond unsound 3 (cond gone 4 (cond (not gone && bad) 3 (cond (not gone && idle) 6
     (cond ((not gone && not idle) && node) 3 (cond ((not gone && not idle) && long) 12 (cond ((not gone && not idle) && full) 13 0)))))))
@@ -284,7 +300,7 @@ stepping false true gone bad idle node long full n e = refl
 stepping false false true bad idle node long full n e = refl
 stepping false false false true idle node long full n e = refl
 stepping false false false false true node long full n e = refl
-stepping false false false false false node long full n e = e
+stepping false false false false false node long full n e = e refl
 
 step-number : (m : Mem) (tray : List ℕ) (d : ℕ) → number (stepResult m tray d .out) ≡ cond (eqb (stepCode m tray d) 0) (number (progress m tray d .out)) (stepCode m tray d)
 unfolding stepResult number
@@ -295,7 +311,7 @@ unfolding stepCode atClient progress stepRows endRows firstOf
 step-first m tray d =
     step-number m tray d
     ∙ stepping (isShort narrow (shape m) m || ltb (length tray) trayLeast) (isUnsound m) (noClient d) (isBad narrow (shape m) (client m d)) (isIdle narrow (client m d)) _ _ _ _
-    (progress-number m tray d (workAt (shape m) (client m d)))
+    (λ u. progress-number m tray d (workAt (shape m) (client m d)) (fits-at (shape m) (client m d) refl) (columns-most m u))
 
 step-rising : (m : Mem) (tray : List ℕ) (d : ℕ) → Rising (stepRows m tray d ++ endRows m d)
 unfolding stepRows endRows numbersFrom
@@ -334,10 +350,10 @@ unfolding releaseResult number isNone
 release-number m d none = refl
 release-number m d (some s) = refl
 
-abandoned-number : (m : Mem) (d : ℕ) (w : Work) → number (abandonedOf m d w .out) ≡ cond (isNone (nodesReleased m w (steps (client m d)))) 3 0
-unfolding abandonedOf nodesReleased isNone number
+abandoned-number : (m : Mem) (d : ℕ) (w : Work) → number (abandonedOf m d w .out) ≡ cond (isUnsoundBack m w (steps (client m d))) 3 0
+unfolding abandonedOf isUnsoundBack number
 abandoned-number m d (asking x) = refl
-abandoned-number m d (writing w) = release-number m d _
+abandoned-number m d (writing w) = rw (← back-none w (steps (client m d)) (storeIn narrow (m .nodes))) (release-number m d _)
 
 -- a code of an abandoning, and what comes behind it
 abandoning : (short unsound gone bad idle committed node : Bool) (n at code : ℕ) → n ≡ cond node 3 0

@@ -3,16 +3,15 @@
 use mathlib.Core.Path.{_≡_}
 use mathlib.Core.Bool.{Bool, true, false, cond, not, _&&_, _||_}
 use mathlib.Core.List.{List, [], _∷_, _++_}
-use mathlib.Core.Option.{Option, none, some}
 use Prim.Native.Nat.{ℕ, _+_, _-_, _≤_}
 use lib.Dec.{eqb, ltb, leb}
 use lib.ListN.{length, getD, take}
 use Rattle.lists.specs.Lists.{In}
-use Rattle.query.specs.Shape.{narrow, shapeOf}
-use Rattle.rules.specs.Layout.{trayLeast, nodeCountOffset, answerCountOffset, refusedShort, refusedColumns, refusedUnsound, refusedNoClient}
+use Rattle.query.specs.Shape.{Form, narrow, shapeOf}
+use Rattle.rules.specs.Layout.{maxNodes, maxPending, maxRevision, trayLeast, nodeCountOffset, answerCountOffset, refusedShort, refusedColumns, refusedUnsound, refusedNoClient}
 use Rattle.rules.specs.Layout.{refusedTaken, refusedIdle, refusedCommitted, refusedNoEntry, refusedPending, refusedWorn, refusedOccupied, endedLong, endedFull}
 use Rattle.rules.specs.Work.{readLabels, valueOf, mayAnswer, writeLabels, Work, asking, writing, Request, isWrite, faultOf}
-use Rattle.rules.specs.Nodes.{Store, isWorn, pending, ensured, announced, retired}
+use Rattle.rules.specs.Nodes.{Words, Node, Store, pending, revision, isPresent, nodeOf, isWorn}
 use Rattle.rules.specs.Client.{Client, steps, foundFull, isIdle, isBad, workAt}
 use Rattle.rules.specs.Memory.{Mem, recordsIn, storeIn}
 use Rattle.rules.specs.Outcome.{number}
@@ -47,28 +46,50 @@ isThere d = not (noClient d)
 abbrev pub isBusy : Mem → ℕ → Bool
 isBusy m d = isThere d && not (isIdle (form m) (client m d))
 
--- the rules have no nodes to go on with
-unfoldable pub isNone : Option Store → Bool
-isNone none = true
-isNone (some s) = false
-
 -- ---- 3 at a node
--- Only a busy desk has a node to find, so 3 at a node never applies together with 4 or 6; nor with 7, since it is "a writer before its table
--- step" that "takes back the marks it has set".
--- The nodes as step i of some work leaves them, or none. A look: "no unmarked node to put out"; a mark: that, or "marks at 12 or more to add
--- to"; a raise: "finds its node missing or unmarked", or "a counter at its largest to raise". The other steps leave them as they are.
-unfoldable pub nodesStepped : Mem → Work → ℕ → Option Store
-nodesStepped m (asking x) i =
-    cond (ltb i (length (readLabels x))) (ensured (form m) (getD (readLabels x) i []) (storeIn (form m) (m .nodes))) (some (storeIn (form m) (m .nodes)))
-nodesStepped m (writing w) i =
-    cond (ltb i (length (writeLabels w))) (announced (form m) (getD (writeLabels w) i []) (storeIn (form m) (m .nodes)))
-    (cond (eqb i (length (writeLabels w))) (some (storeIn (form m) (m .nodes)))
-    (retired (form m) true (getD (writeLabels w) (i - (length (writeLabels w) + 1)) [] ∷ []) (storeIn (form m) (m .nodes))))
+-- By the label p of the node that a step is about, and the nodes s as the call finds them; a node's pending writes are its marks, its revision
+-- is its counter.
+-- "finds its node missing or unmarked"
+unfoldable pub isUnmarked : Words → Store → Bool
+isUnmarked p s = not (isPresent p s) || eqb (pending (nodeOf p s)) 0
 
--- As an abandoning of work of i steps leaves them, or none: "the taking back of a mark finds its node missing or unmarked"
-unfoldable pub nodesReleased : Mem → Work → ℕ → Option Store
-nodesReleased m (asking x) i = some (storeIn (form m) (m .nodes))
-nodesReleased m (writing w) i = retired (form m) false (take i (writeLabels w)) (storeIn (form m) (m .nodes))
+-- "no unmarked node to put out": a node is to be added, "1,024 are there", and each of them is marked
+unfoldable pub allMarked : List Node → Bool
+allMarked [] = true
+allMarked (n ∷ ns) = ltb 0 (pending n) && allMarked ns
+
+unfoldable pub hasNoRoom : Words → Store → Bool
+hasNoRoom p s = not (isPresent p s) && (leb maxNodes (length (s .nodes)) && allMarked (s .nodes))
+
+-- "marks at 12 or more to add to"
+unfoldable pub isFullyMarked : Words → Store → Bool
+isFullyMarked p s = isPresent p s && leb maxPending (pending (nodeOf p s))
+
+-- "a counter at its largest to raise"
+unfoldable pub isAtLargest : Form → Words → Store → Bool
+isAtLargest f p s = isPresent p s && leb (maxRevision f) (revision f (nodeOf p s))
+
+-- What step i of some work may find: a look "no unmarked node to put out"; a mark that, or "marks at 12 or more to add to"; "a raise .. its
+-- node missing or unmarked", or "a counter at its largest to raise"; the other steps nothing. Only a busy desk has a node to find, so 3 at a
+-- node never applies together with 4 or 6.
+unfoldable pub isUnsoundAt : Mem → Work → ℕ → Bool
+isUnsoundAt m (asking x) i = ltb i (length (readLabels x)) && hasNoRoom (getD (readLabels x) i []) (storeIn (form m) (m .nodes))
+isUnsoundAt m (writing w) i =
+    let s : Store = storeIn (form m) (m .nodes) in
+    let n : ℕ = length (writeLabels w) in
+    let p : Words = getD (writeLabels w) i [] in
+    let q : Words = getD (writeLabels w) (i - (n + 1)) [] in
+    cond (ltb i n) (hasNoRoom p s || isFullyMarked p s) (ltb n i && (isUnmarked q s || isAtLargest (form m) q s))
+
+-- What an abandoning of work of i steps may find: "the taking back of a mark .. its node missing or unmarked", at any of the i nodes of the
+-- marks. Nor does this 3 apply together with 7, since it is "a writer before its table step" that "takes back the marks it has set".
+unfoldable pub someUnmarked : List Words → Store → Bool
+someUnmarked [] s = false
+someUnmarked (p ∷ ps) s = isUnmarked p s || someUnmarked ps s
+
+unfoldable pub isUnsoundBack : Mem → Work → ℕ → Bool
+isUnsoundBack m (asking x) i = false
+isUnsoundBack m (writing w) i = someUnmarked (take i (writeLabels w)) (storeIn (form m) (m .nodes))
 
 -- ---- 12 and 13
 -- "a read's table step finds over 32 records"
@@ -120,7 +141,7 @@ stepRows m tray d =
     ∷ row refusedIdle (isThere d && isIdle (form m) (client m d))
     -- "a raise .. finds its node missing or unmarked; no unmarked node to put out; a counter at its largest to raise; marks at 12 or more to
     -- add to"
-    ∷ row refusedUnsound (isBusy m d && isNone (nodesStepped m (workAt (shape m) (client m d)) (steps (client m d)))) ∷ []
+    ∷ row refusedUnsound (isBusy m d && isUnsoundAt m (workAt (shape m) (client m d)) (steps (client m d))) ∷ []
 
 -- "12 and 13 end the work they name": what a step that is not refused may return beside 0
 unfoldable pub endRows : Mem → ℕ → List Row
@@ -146,7 +167,7 @@ abandonRows m d =
     ∷ row refusedCommitted (isBusy m d && isCommitted (shape m) (client m d))
     -- "A writer before its table step takes back the marks it has set.": "the taking back of a mark finds its node missing or unmarked"
     ∷ row refusedUnsound (isBusy m d && (not (isCommitted (shape m) (client m d))
-    && isNone (nodesReleased m (workAt (shape m) (client m d)) (steps (client m d))))) ∷ []
+    && isUnsoundBack m (workAt (shape m) (client m d)) (steps (client m d)))) ∷ []
 
 unfoldable pub evictAnswerRows : Mem → ℕ → List Row
 evictAnswerRows m i =

@@ -160,10 +160,10 @@ once-in p (r ∷ ps) h =
     (λ k. let z = ltb-false 0 (tally p ps) k in rw e (let y : 1 + tally p ps ≤ 1 = omega arith in y)))
     (λ e. rw e (let y : 0 + tally p ps ≤ 1 = omega arith in y))
 
-write-once : (w : Write) (p : Words) → tally p (writeLabels w) ≤ 1
+pub write-once : (w : Write) (p : Words) → tally p (writeLabels w) ≤ 1
 write-once w p = once-in p (writeLabels w) (write-labels-differ w)
 
-tally-parts : (p : Words) (i : ℕ) (ps : List Words) → tally p (take i ps) + tally p (drop i ps) ≡ tally p ps
+pub tally-parts : (p : Words) (i : ℕ) (ps : List Words) → tally p (take i ps) + tally p (drop i ps) ≡ tally p ps
 tally-parts p i ps = sym (tally-append p (take i ps) (drop i ps)) ∙ ap (tally p) (take-append-drop i ps)
 
 holds-once : (p : Words) (x : Phase) → tally p (holds x) ≤ 1

@@ -1,0 +1,176 @@
+-- 3 at a node: the tests in document 01's words tell exactly where the rules have no nodes to go on with. Those of a look, of a raise and of
+-- the taking back of marks in any memories; that of a mark where k is in range, since a node of another width keeps no marks.
+-- Leans on revisions' laws of nodes and on machine's of a write's labels. Assumes nothing.
+use mathlib.Core.Path.{_≡_, refl, sym, ap, _∙_}
+use mathlib.Core.Bool.{Bool, true, false, cond, not, _&&_, _||_}
+use mathlib.Core.List.{List, [], _∷_}
+use mathlib.Core.Option.{Option, none, some}
+use Prim.Native.Nat.{ℕ, suc, _≤_}
+use native.Mathlib.Omega.{arith}
+use lib.Dec.{eqb, ltb, leb, leb·suc-suc}
+use lib.ListN.{length, take}
+use borrow.Author.Tests.{ltb-true, ltb-false, eqb-true, eqb-false, lt-ltb, le-ltb, le-leb, lt-leb}
+use Rattle.laws.proofs.TestLaws.{byTest}
+use Rattle.laws.proofs.ListLaws.{same-refl}
+use Rattle.lists.specs.Lists.{place}
+use Rattle.query.specs.Shape.{narrow}
+use Rattle.query.specs.Encoding.{labelWidth}
+use Rattle.rules.specs.Layout.{maxNodes, maxPending, maxRevision}
+use Rattle.rules.specs.Work.{Write, writeLabels}
+use Rattle.rules.specs.Nodes.{Words, Node, Store, pending, revision, isPresent, nodeOf, evictNode, added, isFree, oldestFree, makeRoom, addedIn}
+use Rattle.rules.specs.Nodes.{ensured, announcedIn, announced, isPending, mayRetire, retired}
+use Rattle.revisions.specs.EffectiveRevision.{has, pendingOf, tally}
+use Rattle.revisions.proofs.NodeRows.{without-out, out-has, pending-in-absent, last-has, last-pending-in, fresh-label, fresh-pending}
+use Rattle.revisions.proofs.NodeOperations.{present-has, node-pending-of}
+use Rattle.revisions.proofs.Retirements.{Apart, allRetirable, retiredEach, retired-tests}
+use Rattle.machine.proofs.PendingLabels.{one-self}
+use Rattle.machine.proofs.Headroom.{write-once, tally-parts}
+use Rattle.demands.specs.RefusalRows.{isUnmarked, allMarked, hasNoRoom, isFullyMarked, isAtLargest, someUnmarked}
+
+-- the rules have no nodes to go on with
+unfoldable pub isNone : Option Store → Bool
+isNone none = true
+isNone (some s) = false
+
+none-cond : (b : Bool) (s : Store) → isNone (cond b (some s) none) ≡ not b
+unfolding isNone
+none-cond true s = refl
+none-cond false s = refl
+
+-- ---- Tests of numbers
+not-less : (a b : ℕ) → not (ltb a b) ≡ leb b a
+not-less a b = byTest (ltb a b)
+    (λ e. let l = ltb-true a b e in rw (e, lt-leb b a l))
+    (λ e. let l = ltb-false a b e in rw (e, le-leb b a l))
+
+not-zero : (x : ℕ) → ltb 0 x ≡ not (eqb x 0)
+not-zero x = byTest (eqb x 0)
+    (λ e. let l = eqb-true x 0 e in rw (e, le-ltb 0 x (omega arith)))
+    (λ e. let n : x ≡ 0 → ⊥ = eqb-false x 0 e in rw (e, lt-ltb 0 x (omega arith)))
+
+-- ---- A look
+-- an unmarked node is there exactly where not each is marked
+free-there : (ns : List Node) → ltb (oldestFree ns) (length ns) ≡ not (allMarked ns)
+unfolding oldestFree place isFree allMarked
+free-there [] = refl
+free-there (n ∷ ns) =
+    byTest (eqb (pending n) 0)
+    (λ e. rw (e, not-zero (pending n), e) (lt-ltb 0 (suc (length ns)) (omega arith)))
+    (λ e. rw (e, not-zero (pending n), e) (leb·suc-suc _ (length ns) ∙ free-there ns))
+
+room-none : (s : Store) → isNone (makeRoom narrow s) ≡ leb maxNodes (length (s .nodes)) && allMarked (s .nodes)
+unfolding makeRoom isNone
+room-none s =
+    byTest (ltb (length (s .nodes)) maxNodes)
+    (λ e. let l = ltb-true _ _ e in rw (e, lt-leb maxNodes (length (s .nodes)) l))
+    (λ e. let l = ltb-false _ _ e in rw (e, le-leb maxNodes (length (s .nodes)) l, free-there (s .nodes))
+    (byTest (allMarked (s .nodes)) (λ f. rw f) (λ f. rw f)))
+
+added-none : (p : Words) (o : Option Store) → isNone (addedIn narrow p o) ≡ isNone o
+unfolding addedIn isNone
+added-none p none = refl
+added-none p (some s) = refl
+
+pub look-none : (p : Words) (s : Store) → isNone (ensured narrow p s) ≡ hasNoRoom p s
+unfolding ensured hasNoRoom isNone
+look-none p s =
+    byTest (isPresent p s) (λ e. rw e) (λ e. rw e (added-none p (makeRoom narrow s) ∙ room-none s))
+
+-- ---- A mark
+-- a node that is added has no marks
+module _ (p : Words) (five : length p ≡ labelWidth) where
+  added-there : (s : Store) → has (s .nodes) p ≡ false → has (added narrow p s .nodes) p ≡ true
+  unfolding added
+  added-there s h = last-has _ (s .nodes) p ∙ rw (h, fresh-label p (s .floor) five, same-refl p) refl
+
+  added-none-of : (s : Store) → has (s .nodes) p ≡ false → pendingOf (added narrow p s) p ≡ 0
+  unfolding added pendingOf
+  added-none-of s h = last-pending-in _ (s .nodes) p (fresh-pending p (s .floor) five) ∙ pending-in-absent (s .nodes) p h
+
+  added-unmarked : (s : Store) → has (s .nodes) p ≡ false → pending (nodeOf p (added narrow p s)) ≡ 0
+  added-unmarked s h = node-pending-of p (added narrow p s) (added-there s h) ∙ added-none-of s h
+
+  -- whatever left to make room
+  AbsentIn : Option Store → Type 0
+  AbsentIn none = Unit
+  AbsentIn (some s) = has (s .nodes) p ≡ false
+
+  room-absent : (s : Store) → has (s .nodes) p ≡ false → AbsentIn (makeRoom narrow s)
+  unfolding makeRoom AbsentIn evictNode
+  room-absent s h =
+      byTest (ltb (length (s .nodes)) maxNodes)
+      (λ e. rw e h)
+      (λ e. rw e (byTest (ltb (oldestFree (s .nodes)) (length (s .nodes)))
+      (λ f. rw f (out-has p (without-out (s .nodes) (oldestFree (s .nodes)) (ltb-true _ _ f)) h))
+      (λ f. rw f tt)))
+
+  mark-added : (o : Option Store) → AbsentIn o → isNone (announcedIn p (addedIn narrow p o)) ≡ isNone o
+  unfolding announcedIn addedIn isNone AbsentIn
+  mark-added none h = refl
+  mark-added (some s) h = rw (added-unmarked s h, lt-leb maxPending 0 (omega arith))
+
+  pub mark-none : (s : Store) → isNone (announced narrow p s) ≡ hasNoRoom p s || isFullyMarked p s
+  unfolding announced ensured announcedIn hasNoRoom isFullyMarked isNone
+  mark-none s =
+      byTest (isPresent p s)
+      (λ e. rw e (byTest (leb maxPending (pending (nodeOf p s))) (λ f. rw f) (λ f. rw f)))
+      (λ e. let h = sym (present-has p s) ∙ e in
+      rw e (mark-added (makeRoom narrow s) (room-absent s h) ∙ room-none s ∙ sym (or-none _)))
+    where
+      or-none : (b : Bool) → b || false ≡ b
+      or-none true = refl
+      or-none false = refl
+
+-- ---- A raise, and marks taken back
+unmarked-not : (p : Words) (s : Store) → isUnmarked p s ≡ not (isPending p s)
+unfolding isUnmarked isPending
+unmarked-not p s =
+    byTest (isPresent p s)
+    (λ e. rw (e, not-zero (pending (nodeOf p s))) (byTest (eqb (pending (nodeOf p s)) 0) (λ f. rw f) (λ f. rw f)))
+    (λ e. rw e)
+
+may-not : (p : Words) (s : Store) → not (mayRetire narrow true p s) ≡ isUnmarked p s || isAtLargest narrow p s
+unfolding mayRetire isPending isUnmarked isAtLargest
+may-not p s =
+    byTest (isPresent p s)
+    (λ e. rw (e, ← not-less (revision narrow (nodeOf p s)) (maxRevision narrow), not-zero (pending (nodeOf p s)))
+    (go (eqb (pending (nodeOf p s)) 0) (ltb (revision narrow (nodeOf p s)) (maxRevision narrow))))
+    (λ e. rw e)
+  where
+    go : (a b : Bool) → not (not a && b) ≡ a || not b
+    go true b = refl
+    go false b = refl
+
+pub raise-none : (p : Words) (s : Store) → isNone (retired narrow true (p ∷ []) s) ≡ isUnmarked p s || isAtLargest narrow p s
+unfolding retired
+raise-none p s = none-cond (mayRetire narrow true p s) _ ∙ may-not p s
+
+-- no label stands twice in a list
+once-apart : (ps : List Words) → ((p : Words) → tally p ps ≤ 1) → Apart ps
+unfolding Apart tally
+once-apart [] h = tt
+once-apart (p ∷ ps) h =
+    (let a = h p in let b = one-self p in omega arith, once-apart ps (λ q. let a = h q in omega arith))
+
+taken-apart : (w : Write) (i : ℕ) → Apart (take i (writeLabels w))
+taken-apart w i =
+    once-apart (take i (writeLabels w)) (λ p. let a = write-once w p in let b = tally-parts p i (writeLabels w) in omega arith)
+
+back-not : (ps : List Words) (s : Store) → not (allRetirable false ps s) ≡ someUnmarked ps s
+unfolding allRetirable someUnmarked mayRetire
+back-not [] s = refl
+back-not (p ∷ ps) s =
+    go (isPending p s) (allRetirable false ps s)
+    ∙ ap (λ (b : Bool). b || not (allRetirable false ps s)) (sym (unmarked-not p s))
+    ∙ ap (λ (b : Bool). isUnmarked p s || b) (back-not ps s)
+  where
+    go : (a b : Bool) → not ((a && true) && b) ≡ not a || not b
+    go true b = refl
+    go false b = refl
+
+pub back-none : (w : Write) (i : ℕ) (s : Store) → isNone (retired narrow false (take i (writeLabels w)) s) ≡ someUnmarked (take i (writeLabels w)) s
+back-none w i s =
+    let ps : List Words = take i (writeLabels w) in
+    ap isNone (retired-tests false ps s (taken-apart w i))
+    ∙ none-cond (allRetirable false ps s) (retiredEach false ps s)
+    ∙ back-not ps s
