@@ -1,55 +1,278 @@
-// The parts in the order in which they are played: the cases, the numbers, the faults. Leans on cases, refusals and faults.
-use crate::cases;
-use crate::faults;
-use crate::line::Line;
-use crate::print;
-use crate::refusals;
+// The parts of document 01 that are played, as text: the cases of "On each side of a line", the numbers of "What the controller turns down"
+// (number 3 in three parts), the faults of "Faults a bench would show". Leans on nothing.
+// A part is its name and then rows: what is done or looked at, = and what is expected. The first letter of a word counts.
+//   open K; read, insert, delete, step, abandon at a DESK; evict a NODE, Evict an answer; new, the renewal; fill, an insert of each value
+//   below the query. Open is lent a table, Step a tray one number below the least length. +N makes N steps; all calls before the last give 0
+//   label of a NODE; Table, Nodes, Answers, Desks, tray: the number at a PLACE of a memory (docs/LAYOUT.md); put sets it by hand
+//   = a number; got, kept: an answer of so many records, from the table or filed before; changed, unchanged: a write's end
+// In a query * is a star, ? is any; ! is 5 under the mark 2, ~ a star with the value 5. 65535 is every place, and the largest desk.
 
-// How many there are in all, and how many of them are cases, and cases and numbers.
-pub const ALL: u32 = 32;
+pub const PARTS: u32 = 32;
 
-const CASES: u32 = 12;
-
-const REFUSALS: u32 = 27;
-
-// Line i of a part, parts counted from 1.
-pub fn line(part: u32, i: u32) -> Line {
-    if part <= CASES {
-        return cases::line(part, i);
+fn byte(text: &[u8], i: usize) -> u8 {
+    if i < text.len() {
+        return text[i];
     }
-    if part <= REFUSALS {
-        return refusals::line(part - CASES, i);
-    }
-    faults::line(part - REFUSALS, i)
+    0
 }
 
-// Number 3 has three parts.
-fn refused_with(part: u32) -> u32 {
+// The byte at place i of a part; 0 past its end.
+pub fn at(part: u32, i: usize) -> u8 {
+    cases_from_1(part, i)
+}
+
+fn cases_from_1(part: u32, i: usize) -> u8 {
     match part {
-        1 => 1,
-        2 => 2,
-        3 | 4 | 5 => 3,
-        6 => 4,
-        7 => 5,
-        8 => 6,
-        9 => 7,
-        10 => 8,
-        11 => 9,
-        12 => 10,
-        13 => 11,
-        14 => 12,
-        _ => 13,
+        // k 3, read (*,3,2): (*,3,2), (*,?,2), (*,3,?), (*,?,?).
+        1 => byte(
+            b"case 1, expected: open 3 = 0; read 0 (*,3,2) +4 = 0; Nodes 1 = 4; label 0 = (*,3,2); label 1 = (*,?,2); label 2 = (*,3,?); \
+            label 3 = (*,?,?); step 0 +3 = got 0; Nodes 1 = 4",
+            i,
+        ),
+        // Write (*,2,3): (*,2,3), (?,2,3), (*,*,3), (?,*,3), (*,2,*), (?,2,*), (*,*,*), (?,*,*).
+        2 => byte(
+            b"case 2, expected: open 3 = 0; delete 0 (*,2,3) +8 = 0; Nodes 1 = 8; label 0 = (*,2,3); label 1 = (?,2,3); label 2 = (*,*,3); \
+            label 3 = (?,*,3); label 4 = (*,2,*); label 5 = (?,2,*); label 6 = (*,*,*); label 7 = (?,*,*); step 0 +9 = unchanged; \
+            Nodes 1 = 8",
+            i,
+        ),
+        // Read (*,*,*): its own label only.
+        3 => byte(
+            b"case 3, expected: open 3 = 0; read 0 (*,*,*) +1 = 0; Nodes 1 = 1; label 0 = (*,*,*); step 0 +3 = got 0; Nodes 1 = 1",
+            i,
+        ),
+        // Delete (2,*,0) and read (*,2,0) share (*,?,0): it is the delete's fourth node, and the read adds its other three, sees the mark
+        // and files nothing.
+        4 => byte(
+            b"case 4, expected: open 3 = 0; delete 1 (2,*,0) +8 = 0; Nodes 1 = 8; label 3 = (*,?,0); read 0 (*,2,0) +4 = 0; Nodes 1 = 11; \
+            label 8 = (*,2,0); label 9 = (*,2,?); label 10 = (*,?,?); step 0 +2 = got 0; Answers 0 = 0",
+            i,
+        ),
+        // Delete (2,*,0) and read (*,2,1) share none: the read adds all four of its nodes, sees no mark and files.
+        5 => byte(
+            b"case 5, expected: open 3 = 0; delete 1 (2,*,0) +8 = 0; Nodes 1 = 8; read 0 (*,2,1) +4 = 0; Nodes 1 = 12; label 8 = (*,2,1); \
+            label 9 = (*,?,1); label 10 = (*,2,?); label 11 = (*,?,?); step 0 +3 = got 0; Answers 0 = 1",
+            i,
+        ),
+        _ => cases_from_6(part, i),
     }
 }
 
-pub fn name(part: u32) {
-    if part <= CASES {
-        print::number(b"case ", part);
-        return;
+fn cases_from_6(part: u32, i: usize) -> u8 {
+    match part {
+        // k 1, empty table, read 5: answers 0 records at its fifth step; read again, at its third.
+        6 => byte(
+            b"case 6, expected: open 1 = 0; read 0 (5) +5 = got 0; read 0 (5) +3 = kept 0",
+            i,
+        ),
+        // k 1: read 5 makes its two looks (1 and 1); insert 5 runs to its end; the read takes list {5} and files it under 1, 1; the next
+        // read of 5 notes 2, 1 and goes to the table.
+        7 => byte(
+            b"case 7, expected: open 1 = 0; read 0 (5) +2 = 0; Desks 21 = 1; Desks 22 = 1; insert 1 (5) +5 = changed; step 0 +3 = got 1; \
+            tray 0 = 5; Answers 0 = 1; Answers 16 = 1; Answers 17 = 1; read 0 (5) +2 = 0; Desks 21 = 2; Desks 22 = 1; step 0 +3 = got 1",
+            i,
+        ),
+        // k 1: insert 5 has marked node 5; a read of 5 answers at its fourth step and files nothing.
+        8 => byte(
+            b"case 8, expected: open 1 = 0; insert 1 (5) +1 = 0; label 0 = (5); Nodes 13 = 1; read 0 (5) +4 = got 0; Answers 0 = 0",
+            i,
+        ),
+        // Node 5 leaves at counter 7, floor 1: floor 7, back at 7, and an answer filed under 7 holds. Six inserts of 5 bring the counter
+        // to 7.
+        9 => byte(
+            b"case 9, expected: open 1 = 0; insert 1 (5) +5 = changed; insert 1 (5) +5 = unchanged; insert 1 (5) +5 = unchanged; \
+            insert 1 (5) +5 = unchanged; insert 1 (5) +5 = unchanged; insert 1 (5) +5 = unchanged; read 0 (5) +5 = got 1; label 0 = (5); \
+            Nodes 14 = 7; Answers 16 = 7; Nodes 0 = 1; evict 0 = 0; Nodes 0 = 7; read 0 (5) +2 = 0; label 2 = (5); Nodes 30 = 7; \
+            Desks 21 = 7; step 0 +1 = kept 1; tray 0 = 5",
+            i,
+        ),
+        // 32 matching records are listed; 33 give 12.
+        10 => byte(
+            b"case 10, expected: open 1 = 0; fill (32) +5 = changed; read 0 (*) +4 = got 32; tray 0 = 0; tray 31 = 31; \
+            insert 0 (32) +5 = changed; read 0 (*) +3 = 12",
+            i,
+        ),
+        _ => cases_from_11(part, i),
     }
-    if part <= REFUSALS {
-        print::number(b"number ", refused_with(part - CASES));
-        return;
+}
+
+fn cases_from_11(part: u32, i: usize) -> u8 {
+    match part {
+        // Table of 2,048: inserting one already there ends unchanged; a new one gives 13.
+        11 => byte(
+            b"case 11, expected: open 1 = 0; fill (2048) +5 = changed; Table 0 = 2048; insert 0 (2047) +5 = unchanged; \
+            insert 0 (2048) +5 = 13; Table 0 = 2048",
+            i,
+        ),
+        // Highest counter 4,294,967,103: a write begins; 4,294,967,104: 10. First the counter of a node that an insert has left, then the
+        // floor.
+        12 => byte(
+            b"case 12, expected: open 1 = 0; insert 0 (5) +5 = changed; put Nodes 14 = 4294967103; insert 0 (5) = 0; \
+            put Nodes 14 = 4294967104; insert 1 (5) = 10; delete 1 (*) = 10; put Nodes 14 = 2; put Nodes 0 = 4294967103; \
+            delete 1 (*) = 0; put Nodes 0 = 4294967104; insert 2 (5) = 10",
+            i,
+        ),
+        _ => numbers_from_1(part, i),
     }
-    print::number(b"fault ", part - REFUSALS);
+}
+
+fn numbers_from_1(part: u32, i: usize) -> u8 {
+    match part {
+        // Short: a lent memory is below its least length. The others have it exactly.
+        13 => byte(
+            b"number 1, expected: open 1 = 0; Open 1 = 1; Open 0 = 1; open 1 = 0; Step 0 +1 = 1; read 0 (5) = 0; Step 0 +1 = 1; \
+            step 0 +4 = 0; Step 0 +1 = 1; step 0 +1 = got 0",
+            i,
+        ),
+        // Columns: at opening, k not 1 to 4; a query whose columns are not as many as the k in memory, a mark above 1, a star with a
+        // value, an insert with a star.
+        14 => byte(
+            b"number 2, expected: open 1 = 0; open 0 = 2; open 5 = 2; open 4 = 0; open 1 = 0; read 0 (5,*) = 2; read 0 (!) = 2; \
+            read 0 (~) = 2; delete 0 (~) = 2; insert 0 (*) = 2; read 12 (!) = 2; delete 0 (*) = 0; read 1 (*) = 0; insert 2 (0) = 0",
+            i,
+        ),
+        // Unsound, of the memories as a whole: k, an entry count or a filed list's length out of range. Each is put right again.
+        15 => byte(
+            b"number 3, expected: open 1 = 0; put Desks 0 = 5; step 0 +1 = 3; new = 3; read 0 (5) = 2; put Desks 0 = 1; \
+            put Table 0 = 2049; read 0 (5) = 3; read 12 (5) = 3; put Table 0 = 0; put Nodes 1 = 1025; evict 0 = 3; put Nodes 1 = 0; \
+            put Answers 0 = 65; Evict 0 = 3; put Answers 0 = 1; put Answers 15 = 33; abandon 0 = 3; put Answers 15 = 32; Evict 0 = 0; \
+            read 0 (5) = 0",
+            i,
+        ),
+        // Unsound, of the called desk: its kind, query, step or list length out of range.
+        16 => byte(
+            b"number 3, expected: open 1 = 0; put Desks 8 = 4; step 0 +1 = 3; read 0 (5) = 3; step 1 +1 = 6; put Desks 8 = 0; \
+            read 0 (5) = 0; put Desks 9 = 5; step 0 +1 = 3; put Desks 9 = 0; put Desks 13 = 2; step 0 +1 = 3; put Desks 13 = 1; \
+            put Desks 20 = 33; step 0 +1 = 3; put Desks 20 = 0; step 0 +5 = got 0",
+            i,
+        ),
+        _ => numbers_from_3(part, i),
+    }
+}
+
+fn numbers_from_3(part: u32, i: usize) -> u8 {
+    match part {
+        // Unsound, of a write's nodes: marks at 12 to add to; the taking back of a mark or a raise finds its node unmarked; a counter at
+        // its largest to raise; no unmarked node to put out.
+        17 => byte(
+            b"number 3, expected: open 1 = 0; insert 0 (5) +5 = changed; insert 0 (5) = 0; put Nodes 13 = 12; step 0 +1 = 3; \
+            put Nodes 13 = 11; step 0 +1 = 0; Nodes 13 = 12; put Nodes 13 = 0; abandon 0 = 3; step 0 +2 = 0; step 0 +1 = 3; \
+            put Nodes 13 = 1; put Nodes 14 = 4294967295; step 0 +1 = 3; put Nodes 14 = 2; step 0 +1 = 0; read 1 (7) = 0; \
+            put Nodes 65535 = 1; put Nodes 1 = 1024; step 1 +1 = 3; put Nodes 8197 = 0; step 1 +1 = 0",
+            i,
+        ),
+        // No desk: desk above 11.
+        18 => byte(
+            b"number 4, expected: open 1 = 0; read 12 (5) = 4; insert 12 (5) = 4; delete 65535 (5) = 4; step 12 +1 = 4; abandon 12 = 4; \
+            read 11 (5) +1 = 0; abandon 11 = 0",
+            i,
+        ),
+        // Taken: begin at a busy desk.
+        19 => byte(
+            b"number 5, expected: open 1 = 0; read 0 (5) = 0; read 0 (5) = 5; insert 0 (5) = 5; delete 0 (5) = 5; read 1 (5) = 0; \
+            abandon 0 = 0; insert 0 (5) = 0",
+            i,
+        ),
+        // Idle: step or abandon at an idle desk.
+        20 => byte(
+            b"number 6, expected: open 1 = 0; step 0 +1 = 6; abandon 0 = 6; read 0 (5) = 0; step 1 +1 = 6; step 0 +5 = got 0; \
+            step 0 +1 = 6; read 0 (5) = 0; abandon 0 = 0; abandon 0 = 6",
+            i,
+        ),
+        // Committed: abandon of a write after its table step. Before it, the marks are taken back.
+        21 => byte(
+            b"number 7, expected: open 1 = 0; insert 0 (5) +2 = 0; Nodes 13 = 1; Nodes 21 = 1; abandon 0 = 0; Nodes 13 = 0; Nodes 21 = 0; \
+            Table 0 = 0; insert 0 (5) +3 = 0; abandon 0 = 7; step 0 +1 = 0; abandon 0 = 7; step 0 +1 = changed; abandon 0 = 6",
+            i,
+        ),
+        _ => numbers_from_8(part, i),
+    }
+}
+
+fn numbers_from_8(part: u32, i: usize) -> u8 {
+    match part {
+        // No entry: place to put out not below the count.
+        22 => byte(
+            b"number 8, expected: open 1 = 0; Evict 0 = 8; evict 0 = 8; read 0 (5) +5 = got 0; Evict 1 = 8; evict 2 = 8; Evict 0 = 0; \
+            evict 1 = 0; evict 1 = 8; Answers 0 = 0; Nodes 1 = 1",
+            i,
+        ),
+        // Marked: node to put out has marks.
+        23 => byte(
+            b"number 9, expected: open 1 = 0; insert 0 (5) +1 = 0; evict 0 = 9; evict 1 = 8; step 0 +3 = 0; evict 1 = 9; evict 0 = 0; \
+            Nodes 0 = 2; step 0 +1 = changed; evict 0 = 0; Nodes 1 = 0",
+            i,
+        ),
+        // Worn: a write begins while the floor or a counter is above 4,294,967,103. Case 12 has the counter; a read is not refused.
+        24 => byte(
+            b"number 10, expected: open 1 = 0; put Nodes 0 = 4294967104; insert 0 (5) = 10; delete 0 (5) = 10; read 0 (5) = 0; \
+            insert 0 (5) = 5; abandon 0 = 0; new = 0; Nodes 0 = 1; insert 0 (5) = 0",
+            i,
+        ),
+        // Occupied: renew with a busy desk. A renewal empties answers and nodes, and the table stays.
+        25 => byte(
+            b"number 11, expected: open 1 = 0; insert 0 (5) +5 = changed; read 11 (5) = 0; new = 11; step 11 +4 = 0; new = 11; \
+            step 11 +1 = got 1; Answers 0 = 1; Nodes 1 = 3; new = 0; Answers 0 = 0; Nodes 1 = 0; Nodes 0 = 1; Table 0 = 1; Table 8 = 5",
+            i,
+        ),
+        // Long: a read's table step finds over 32 records; the read ends, desk idle, tray untouched (its noise is 1, 2654435770, ..).
+        26 => byte(
+            b"number 12, expected: open 1 = 0; fill (33) +5 = changed; read 0 (*) +3 = 12; tray 0 = 1; Desks 8 = 0; step 0 +1 = 6; \
+            Answers 0 = 0; read 0 (32) +5 = got 1; tray 0 = 32; tray 1 = 2654435770; read 0 (32) +3 = kept 1",
+            i,
+        ),
+        _ => numbers_from_13(part, i),
+    }
+}
+
+fn numbers_from_13(part: u32, i: usize) -> u8 {
+    match part {
+        // Full, given at the last raise: at the table step the table held 2,048 records, not this one. A delete makes room.
+        27 => byte(
+            b"number 13, expected: open 1 = 0; fill (2047) +5 = changed; insert 0 (3000) +5 = changed; insert 0 (3001) +5 = 13; \
+            Table 0 = 2048; step 0 +1 = 6; delete 0 (7) +5 = changed; Table 0 = 2047; insert 0 (3001) +5 = changed; Table 0 = 2048",
+            i,
+        ),
+        _ => faults_from_1(part, i),
+    }
+}
+
+fn faults_from_1(part: u32, i: usize) -> u8 {
+    match part {
+        // Raising before the table step only: an old list gets filed under a new revision. A read between a write's marks and its table
+        // step takes the old list, and one between the table step and the raises the new one; neither files, and the next read does.
+        28 => byte(
+            b"fault 1, expected: open 1 = 0; insert 1 (5) +2 = 0; read 0 (5) +4 = got 0; Answers 0 = 0; step 1 +1 = 0; \
+            read 0 (5) +4 = got 1; Answers 0 = 0; step 1 +2 = changed; read 0 (5) +5 = got 1; tray 0 = 5; Answers 0 = 1; Answers 16 = 2",
+            i,
+        ),
+        // A node coming back at 1 makes long dead answers hold again: no records are filed under 1, 1, then 5 is inserted and node 5
+        // leaves.
+        29 => byte(
+            b"fault 2, expected: open 1 = 0; read 0 (5) +5 = got 0; Answers 16 = 1; Answers 17 = 1; insert 1 (5) +5 = changed; \
+            label 0 = (5); Nodes 14 = 2; evict 0 = 0; Nodes 0 = 2; read 0 (5) +2 = 0; Desks 21 = 2; step 0 +3 = got 1; tray 0 = 5",
+            i,
+        ),
+        // One bit for marks: two writers share (*,*), the first to finish clears it.
+        30 => byte(
+            b"fault 3, expected: open 2 = 0; insert 0 (1,1) +4 = 0; label 3 = (*,*); insert 1 (2,2) +4 = 0; Nodes 37 = 2; \
+            step 0 +5 = changed; Nodes 37 = 1; read 2 (*,*) +3 = got 1; Answers 0 = 0; step 1 +5 = changed; Nodes 37 = 0; \
+            read 2 (*,*) +4 = got 2; tray 2 = 2; Answers 0 = 1; read 2 (*,*) +2 = kept 2",
+            i,
+        ),
+        // Looking at the nodes after the table, or noting them afresh when filing: an insert runs between the read's table step and its
+        // filing.
+        31 => byte(
+            b"fault 4, expected: open 1 = 0; read 0 (5) +4 = 0; insert 1 (5) +5 = changed; step 0 +1 = got 0; Answers 16 = 1; \
+            Answers 17 = 1; read 0 (5) +2 = 0; Desks 21 = 2; step 0 +3 = got 1; tray 0 = 5; Answers 0 = 1; Answers 16 = 2",
+            i,
+        ),
+        // Replacing 2 by * and then that * by ?: a write of 2 has no node with a ?, and one of (2,*) a ? in the second column only.
+        32 => byte(
+            b"fault 5, expected: open 1 = 0; insert 0 (2) +2 = 0; Nodes 1 = 2; label 0 = (2); label 1 = (*); step 0 +3 = changed; \
+            open 2 = 0; delete 0 (2,*) +4 = 0; Nodes 1 = 4; label 0 = (2,*); label 1 = (*,*); label 2 = (2,?); label 3 = (*,?)",
+            i,
+        ),
+        _ => 0,
+    }
 }

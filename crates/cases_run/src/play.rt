@@ -1,372 +1,252 @@
-// Does what a line says, on the library and the five memories, and says what was seen. Leans on line, memory and the calls' crates.
-// Few calls in each function: each that is lent all the memories is long to prove.
-use crate::line::Act;
-use crate::line::Line;
-use crate::line::Seen;
-use crate::memory;
+// Plays one row on the five memories and says what came, in the form of what the row expects. Leans on row, query and the calls.
+// Few functions are lent all memories: each is long to prove.
+use crate::query;
+use crate::row;
+use calls::Call;
 use rules::Outcome;
-ghost use mathlib.Core.Path.{_≡_};
-ghost use Rattle.rules.specs.Outcome.{number, count, ending};
-ghost use Rattle.rules.specs.declared.Outcome.the-variants.{Answered, Ended};
+ghost use Prim.Native.Nat.{_≤_};
 
-// ---- What an outcome is, in the paper's numbers
-fn numbered(number: u32) -> Seen
-    ensures { λ r. ⌜ (r .number ≡ number) × ((r .count ≡ 0) × (r .ending ≡ 0)) ⌝ }
-{
-    Seen {
-        number,
-        count: 0,
-        ending: 0,
+// ---- By hand
+// What a row leaves at place i of a memory: noise if it is 0, what it sets, or what was there.
+fn stored(row: u64, memory: u8, i: usize, noise: u32, there: u32) -> u32 {
+    if row == 0 {
+        return noise;
     }
+    if row::act(row) != memory || !row::sets(row) {
+        return there;
+    }
+    let at = row::at(row);
+    if at as usize == i || at == 4294967295 {
+        return (row::wanted(row) % 4294967296) as u32;
+    }
+    there
 }
 
-fn answer(count: u32, cached: bool) -> Seen
-    ensures { λ r. ⌜ (r .number ≡ 0) × ((r .count ≡ count) × (r .ending ≡ ending (Answered count cached))) ⌝ }
-{
-    if cached {
-        return Seen {
-            number: 0,
-            count,
-            ending: 1,
-        };
-    }
-    Seen {
-        number: 0,
-        count,
-        ending: 2,
-    }
-}
-
-fn end(changed: bool) -> Seen
-    ensures { λ r. ⌜ (r .number ≡ 0) × ((r .count ≡ 0) × (r .ending ≡ ending (Ended changed))) ⌝ }
-{
-    if changed {
-        return Seen {
-            number: 0,
-            count: 0,
-            ending: 3,
-        };
-    }
-    Seen {
-        number: 0,
-        count: 0,
-        ending: 4,
-    }
-}
-
-fn seen(out: Outcome) -> Seen
-    ensures { λ r. ⌜ (r .number ≡ number out) × ((r .count ≡ count out) × (r .ending ≡ ending out)) ⌝ }
-{
-    match out {
-        Outcome::Refused(n) => numbered(n),
-        Outcome::Accepted => numbered(0),
-        Outcome::Answered { count, cached } => answer(count, cached),
-        Outcome::Long => numbered(12),
-        Outcome::Ended { changed } => end(changed),
-        Outcome::Full => numbered(13),
-    }
-}
-
-// ---- Begins
-fn begin_asked(
-    table: &mut [u32],
-    nodes: &mut [u32],
-    answers: &mut [u32],
-    clients: &mut [u32],
-    act: Act,
-    client: u32,
-    words: &[u32],
-    n: usize,
-) -> Outcome {
-    if words.len() < n {
-        return Outcome::Accepted;
-    }
-    let asked = &words[..n];
-    match act {
-        Act::Read => calls::begins::begin_read(table, nodes, answers, clients, client, asked),
-        Act::Insert => calls::begins::begin_insert(table, nodes, answers, clients, client, asked),
-        _ => calls::begins::begin_delete(table, nodes, answers, clients, client, asked),
-    }
-}
-
-fn begin(
-    table: &mut [u32],
-    nodes: &mut [u32],
-    answers: &mut [u32],
-    clients: &mut [u32],
-    line: Line,
-) -> Seen {
-    let act = line.act;
-    let query = line.query;
-    let words = query.words;
-    let n = memory::numbers_of(query.k);
-    seen(begin_asked(table, nodes, answers, clients, act, line.at, &words, n))
-}
-
-// ---- Steps
-// A step whose tray is one number below the least length.
-fn short_step(
-    table: &mut [u32],
-    nodes: &mut [u32],
-    answers: &mut [u32],
-    clients: &mut [u32],
-    tray: &mut [u32],
-    client: u32,
-) -> Outcome {
-    let n = hall::Hall::TRAY_LEAST - 1;
-    if tray.len() < n {
-        return Outcome::Accepted;
-    }
-    calls::desks::step(table, nodes, answers, clients, &mut tray[..n], client)
-}
-
-// The five steps of an insert into a hall of one column; says what the last one said.
-fn five_steps(
-    table: &mut [u32],
-    nodes: &mut [u32],
-    answers: &mut [u32],
-    clients: &mut [u32],
-    tray: &mut [u32],
-    client: u32,
-) -> Outcome {
-    let mut out = Outcome::Accepted;
-    let mut i: u32 = 0;
-    while i < 5 {
-        out = calls::desks::step(table, nodes, answers, clients, tray, client);
+fn store(s: &mut [u32], row: u64, memory: u8) {
+    let mut noise: u32 = 1;
+    let mut i: usize = 0;
+    while i < s.len() {
+        s[i] = stored(row, memory, i, noise, s[i]);
+        noise = std::num::wrapping_add_u32(noise, 2654435769);
         i += 1;
     }
-    out
 }
 
-// An insert into a hall of one column, from its begin to its end.
-fn whole(
+pub fn prepare(
     table: &mut [u32],
     nodes: &mut [u32],
     answers: &mut [u32],
     clients: &mut [u32],
     tray: &mut [u32],
-    client: u32,
-    value: u32,
-) -> Outcome {
-    let asked = [1, value];
-    calls::begins::begin_insert(table, nodes, answers, clients, client, &asked);
-    five_steps(table, nodes, answers, clients, tray, client)
+    row: u64,
+) {
+    store(table, row, b'T');
+    store(nodes, row, b'N');
+    store(answers, row, b'A');
+    store(clients, row, b'D');
+    store(tray, row, b't');
 }
 
-// 1 if a write has ended and changed the table.
-fn one_if_changed(s: Seen) -> u32 {
-    if s.ending == 3 {
-        return 1;
+// What stands at a place; past the end, the last number.
+fn number_at(s: &[u32], place: u32) -> u32 {
+    let i = place as usize;
+    if i < s.len() {
+        return s[i];
+    }
+    if 0 < s.len() {
+        return s[s.len() - 1];
     }
     0
 }
 
-// Inserts each value from one on to below another; says how many changed the table.
-fn fill(
-    table: &mut [u32],
-    nodes: &mut [u32],
-    answers: &mut [u32],
-    clients: &mut [u32],
-    tray: &mut [u32],
-    from: u32,
-    to: u32,
-) -> u32 {
-    let mut n: u32 = 0;
-    let mut i = from;
-    while i < to {
-        let out = whole(table, nodes, answers, clients, tray, 0, i);
-        n = std::num::wrapping_add_u32(n, one_if_changed(seen(out)));
-        i += 1;
+// The label of the node at a place, 0 the oldest, as a query; tags are a byte for each column.
+fn label_at(nodes: &[u32], node: u32) -> u32 {
+    if 1023 < node {
+        return 0;
     }
-    n
+    let p = 8 + node * 8;
+    let tags = number_at(nodes, p);
+    let a = query::joined(0, tags % 256, number_at(nodes, p + 1));
+    let b = query::joined(a, tags / 256 % 256, number_at(nodes, p + 2));
+    let c = query::joined(b, tags / 65536 % 256, number_at(nodes, p + 3));
+    query::joined(c, tags / 16777216, number_at(nodes, p + 4))
 }
 
-fn moved(
-    table: &mut [u32],
-    nodes: &mut [u32],
-    answers: &mut [u32],
-    clients: &mut [u32],
-    tray: &mut [u32],
-    line: Line,
-) -> Seen {
-    let act = line.act;
-    let client = line.at;
-    match act {
-        Act::Step => seen(calls::desks::step(table, nodes, answers, clients, tray, client)),
-        Act::ShortStep => seen(short_step(table, nodes, answers, clients, tray, client)),
-        Act::Whole => seen(whole(
-            table,
-            nodes,
-            answers,
-            clients,
-            tray,
-            client,
-            memory::first_value(line.query),
-        )),
-        _ => numbered(fill(table, nodes, answers, clients, tray, line.place, line.value)),
-    }
-}
-
-// ---- The other calls
-// An opening whose table is one number below the least length.
-fn short_open(
-    table: &mut [u32],
-    nodes: &mut [u32],
-    answers: &mut [u32],
-    clients: &mut [u32],
-    k: u32,
-) -> Outcome {
-    let n = hall::Hall::TABLE_LEAST - 1;
-    if table.len() < n {
-        return Outcome::Accepted;
-    }
-    calls::opening::open(&mut table[..n], nodes, answers, clients, k)
-}
-
-fn opened(
-    table: &mut [u32],
-    nodes: &mut [u32],
-    answers: &mut [u32],
-    clients: &mut [u32],
-    act: Act,
-    k: u32,
-) -> Outcome {
-    match act {
-        Act::Open => calls::opening::open(table, nodes, answers, clients, k),
-        _ => short_open(table, nodes, answers, clients, k),
-    }
-}
-
-fn taken_out(
-    table: &mut [u32],
-    nodes: &mut [u32],
-    answers: &mut [u32],
-    clients: &mut [u32],
-    act: Act,
-    at: u32,
-) -> Outcome {
-    match act {
-        Act::Abandon => calls::desks::abandon(table, nodes, answers, clients, at),
-        Act::EvictAnswer => calls::upkeep::evict_answer(table, nodes, answers, clients, at),
-        Act::EvictNode => calls::upkeep::evict_node(table, nodes, answers, clients, at),
-        _ => calls::upkeep::renew(table, nodes, answers, clients),
-    }
-}
-
-// ---- Between calls
-fn set(
-    table: &mut [u32],
-    nodes: &mut [u32],
-    answers: &mut [u32],
-    clients: &mut [u32],
-    tray: &mut [u32],
-    line: Line,
-) -> u32 {
-    let which = line.at;
-    let place = line.place;
-    let value = line.value;
-    match which {
-        0 => memory::put(table, place, value),
-        1 => memory::put(nodes, place, value),
-        2 => memory::put(answers, place, value),
-        3 => memory::put(clients, place, value),
-        _ => memory::put(tray, place, value),
-    }
-}
-
-fn spread(
-    table: &mut [u32],
-    nodes: &mut [u32],
-    answers: &mut [u32],
-    clients: &mut [u32],
-    tray: &mut [u32],
-    line: Line,
-) -> u32 {
-    let which = line.at;
-    let value = line.value;
-    match which {
-        0 => memory::spread(table, value),
-        1 => memory::spread(nodes, value),
-        2 => memory::spread(answers, value),
-        3 => memory::spread(clients, value),
-        _ => memory::spread(tray, value),
-    }
-}
-
-// What stands at the line's place, or how a node's label compares.
-fn looked(
+// What came of a row: what its calls gave, or the label or number that it looks at.
+fn seen(
     table: &[u32],
     nodes: &[u32],
     answers: &[u32],
     clients: &[u32],
     tray: &[u32],
-    line: Line,
-) -> Seen {
-    let act = line.act;
-    let which = line.at;
-    let place = line.place;
-    if let Act::Label = act {
-        return numbered(memory::has_label(nodes, line.at, line.query));
-    }
-    match which {
-        0 => numbered(memory::at(table, place)),
-        1 => numbered(memory::at(nodes, place)),
-        2 => numbered(memory::at(answers, place)),
-        3 => numbered(memory::at(clients, place)),
-        _ => numbered(memory::at(tray, place)),
+    row: u64,
+    given: u64,
+) -> u64 {
+    let act = row::act(row);
+    let at = row::at(row);
+    match act {
+        b'l' => label_at(nodes, at) as u64,
+        b'T' => number_at(table, at) as u64,
+        b'N' => number_at(nodes, at) as u64,
+        b'A' => number_at(answers, at) as u64,
+        b'D' => number_at(clients, at) as u64,
+        b't' => number_at(tray, at) as u64,
+        _ => given,
     }
 }
 
-// ---- Any line
-// A line that is no step: a begin, an opening, or one of the calls that take something out.
-fn called(
+// ---- The calls of a row
+// How many there are: a begin and its steps, six for each value of FILL.
+fn calls_of(row: u64) -> u32 {
+    let act = row::act(row);
+    match act {
+        b'f' => row::query(row) % 4096 * 6,
+        b's' | b'S' => row::steps(row),
+        b'l' | b'T' | b'N' | b'A' | b'D' | b't' => 0,
+        _ => row::steps(row) + 1,
+    }
+}
+
+// Which step call i is; 0 a begin, or any other call.
+fn step_of(row: u64, i: u32) -> u32 {
+    let act = row::act(row);
+    match act {
+        b'f' => i % 6,
+        b's' | b'S' => std::num::wrapping_add_u32(i, 1),
+        _ => i,
+    }
+}
+
+fn call_of(row: u64, step: u32) -> Call {
+    let act = row::act(row);
+    let at = row::at(row);
+    if step != 0 {
+        return Call::Step { client: at };
+    }
+    match act {
+        b'r' => Call::BeginRead { client: at },
+        b'i' | b'f' => Call::BeginInsert { client: at },
+        b'd' => Call::BeginDelete { client: at },
+        b'a' => Call::Abandon { client: at },
+        b'E' => Call::EvictAnswer { place: at },
+        b'e' => Call::EvictNode { place: at },
+        _ => Call::Renew,
+    }
+}
+
+fn words_of(row: u64, i: u32) -> [u32; 6] {
+    if row::act(row) == b'f' {
+        return [1, i / 6, 0, 0, 0, 0];
+    }
+    query::words(row::query(row))
+}
+
+// What a call gave: the step, how it ended, number or count.
+fn given(out: Outcome, step: u32) -> u64 {
+    let made = step as u64 * row::STEPS;
+    match out {
+        Outcome::Refused(n) => made + n as u64,
+        Outcome::Accepted => made,
+        Outcome::Answered { count, cached } => {
+            if cached {
+                return made + row::KEPT + count as u64;
+            }
+            made + row::GOT + count as u64
+        }
+        Outcome::Long => made + 12,
+        Outcome::Ended { changed } => {
+            if changed {
+                return made + row::CHANGED;
+            }
+            made + row::UNCHANGED
+        }
+        Outcome::Full => made + 13,
+    }
+}
+
+// How much is lent of a memory: all of it, or one number less.
+fn lent(length: usize, short: bool) -> usize
+    ensures { λ r. ⌜ r ≤ length ⌝ }
+{
+    if short {
+        if 0 < length {
+            return length - 1;
+        }
+    }
+    length
+}
+
+fn open(
     table: &mut [u32],
     nodes: &mut [u32],
     answers: &mut [u32],
     clients: &mut [u32],
-    line: Line,
-) -> Seen {
-    let act = line.act;
-    match act {
-        Act::Read | Act::Insert | Act::Delete => begin(table, nodes, answers, clients, line),
-        Act::Open | Act::ShortOpen => { seen(opened(table, nodes, answers, clients, act, line.at)) }
-        _ => seen(taken_out(table, nodes, answers, clients, act, line.at)),
-    }
+    row: u64,
+) -> Outcome {
+    let n = lent(table.len(), row::act(row) == b'O');
+    calls::opening::open(&mut table[..n], nodes, answers, clients, row::at(row))
 }
 
-// A line about the memories.
-fn by_hand(
+fn run(
     table: &mut [u32],
     nodes: &mut [u32],
     answers: &mut [u32],
     clients: &mut [u32],
     tray: &mut [u32],
-    line: Line,
-) -> Seen {
-    let act = line.act;
-    match act {
-        Act::Set => numbered(set(table, nodes, answers, clients, tray, line)),
-        Act::Spread => numbered(spread(table, nodes, answers, clients, tray, line)),
-        _ => looked(table, nodes, answers, clients, tray, line),
+    row: u64,
+    i: u32,
+) -> Outcome {
+    if row::act(row) == b'o' || row::act(row) == b'O' {
+        return open(table, nodes, answers, clients, row);
     }
+    let n = lent(tray.len(), row::act(row) == b'S');
+    let call = call_of(row, step_of(row, i));
+    let words = words_of(row, i);
+    let m = query::numbers(row::query(row));
+    calls::run(
+        table,
+        nodes,
+        answers,
+        clients,
+        &mut tray[..n],
+        call,
+        &words[..m],
+    )
 }
 
+// Makes the row's calls up to the first that does not give what is expected of it; says what the last one gave.
+fn made(
+    table: &mut [u32],
+    nodes: &mut [u32],
+    answers: &mut [u32],
+    clients: &mut [u32],
+    tray: &mut [u32],
+    row: u64,
+) -> u64 {
+    let n = calls_of(row);
+    let mut came: u64 = 0;
+    let mut i: u32 = 0;
+    while i < n {
+        let step = step_of(row, i);
+        came = given(run(table, nodes, answers, clients, tray, row, i), step);
+        if came != row::wanted_at(row, step) {
+            return came;
+        }
+        i += 1;
+    }
+    came
+}
+
+// Sets what the row sets, makes its calls, looks at what it looks at.
 pub fn play(
     table: &mut [u32],
     nodes: &mut [u32],
     answers: &mut [u32],
     clients: &mut [u32],
     tray: &mut [u32],
-    line: Line,
-) -> Seen {
-    let act = line.act;
-    match act {
-        Act::Step | Act::ShortStep | Act::Whole | Act::Fill => {
-            moved(table, nodes, answers, clients, tray, line)
-        }
-        Act::Set | Act::Spread | Act::Look | Act::Label => {
-            by_hand(table, nodes, answers, clients, tray, line)
-        }
-        _ => called(table, nodes, answers, clients, line),
-    }
+    row: u64,
+) -> u64 {
+    prepare(table, nodes, answers, clients, tray, row);
+    let last = made(table, nodes, answers, clients, tray, row);
+    seen(table, nodes, answers, clients, tray, row, last)
 }

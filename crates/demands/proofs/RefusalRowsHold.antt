@@ -1,5 +1,5 @@
 -- The number that a call returns is that of the first row of its refusals that applies, which is the smallest that applies; where none does it
--- is 0, 12 or 13. Leans on rules' definitions and laws alone. Assumes nothing.
+-- is 0, 12 or 13. Leans on rules' definitions and laws, and on NodeFaults for 3 at a node. Assumes nothing.
 use mathlib.Core.Path.{_≡_, refl, sym, ap, _∙_}
 use mathlib.Core.Bool.{Bool, true, false, cond, not, _&&_, _||_}
 use mathlib.Core.List.{List, [], _∷_, _++_}

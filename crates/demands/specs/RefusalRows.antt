@@ -1,5 +1,6 @@
 -- Document 01, "What the controller turns down", as rows: of each call its refusals in their order, and the number that it returns. About any
--- memories and any arguments. Leans on rules' Refusals, Steps and Calls. Definitions only. Assumes nothing.
+-- memories and any arguments. Leans on rules' Refusals, Nodes, Client and Work for the conditions, on Calls and History for what a call returns.
+-- Definitions only. Assumes nothing.
 use mathlib.Core.Path.{_≡_}
 use mathlib.Core.Bool.{Bool, true, false, cond, not, _&&_, _||_}
 use mathlib.Core.List.{List, [], _∷_, _++_}
@@ -70,8 +71,8 @@ unfoldable pub isAtLargest : Form → Words → Store → Bool
 isAtLargest f p s = isPresent p s && leb (maxRevision f) (revision f (nodeOf p s))
 
 -- What step i of some work may find: a look "no unmarked node to put out"; a mark that, or "marks at 12 or more to add to"; "a raise .. its
--- node missing or unmarked", or "a counter at its largest to raise"; the other steps nothing. Only a busy desk has a node to find, so 3 at a
--- node never applies together with 4 or 6.
+-- node missing or unmarked", or "a counter at its largest to raise"; the other steps nothing. In a row this is
+-- asked of a busy desk only (`isBusy`), so 3 at a node never applies together with 4 or 6.
 unfoldable pub isUnsoundAt : Mem → Work → ℕ → Bool
 isUnsoundAt m (asking x) i = ltb i (length (readLabels x)) && hasNoRoom (getD (readLabels x) i []) (storeIn (form m) (m .nodes))
 isUnsoundAt m (writing w) i =
@@ -82,7 +83,7 @@ isUnsoundAt m (writing w) i =
     cond (ltb i n) (hasNoRoom p s || isFullyMarked p s) (ltb n i && (isUnmarked q s || isAtLargest (form m) q s))
 
 -- What an abandoning of work of i steps may find: "the taking back of a mark .. its node missing or unmarked", at any of the i nodes of the
--- marks. Nor does this 3 apply together with 7, since it is "a writer before its table step" that "takes back the marks it has set".
+-- marks. Nor does this 3 apply together with 7, since it is "A writer before its table step" that "takes back the marks it has set".
 unfoldable pub someUnmarked : List Words → Store → Bool
 someUnmarked [] s = false
 someUnmarked (p ∷ ps) s = isUnmarked p s || someUnmarked ps s
@@ -97,7 +98,8 @@ unfoldable pub isLongAt : Mem → Work → ℕ → Bool
 isLongAt m (asking x) i = eqb i (length (readLabels x) + 1) && not (mayAnswer x (valueOf x (recordsIn (columns m) (m .table))))
 isLongAt m (writing w) i = false
 
--- "given at the last raise: at the table step the table held 2,048 records, not this one", which the client has noted
+-- "given at the last raise": that "at the table step the table held 2,048 records, not this one" was noted at the desk by that step
+-- (rules, `writeTableResult` by `noRoom`), and what stands there is taken at its word, at a delete's desk too (R-7)
 unfoldable pub isFullAt : Client → Work → ℕ → Bool
 isFullAt c (asking x) i = false
 isFullAt c (writing w) i = eqb i (length (writeLabels w) + length (writeLabels w)) && foundFull c

@@ -317,7 +317,5 @@ fn light_halls(rows: &mut Vec<Row>) {
     let read = Act::Whole(Kind::Read, CLIENT, asked);
     row(rows, "whole read", "k 4, 96 nodes, 12 answers, filed", filed, read, from_file(1));
     row(rows, "whole read", "k 4, 96 nodes, 12 answers, from the table", old, read, from_table(1));
-    whole_writes_in(rows, 4, ", 96 nodes, 12 answers", |own| {
-        Hall::opened(4).with_nodes(96, own, 96 - own.len()).with_answers(12, None)
-    });
+    whole_writes_in(rows, 4, ", 96 nodes, 12 answers", |own| Hall::opened(4).with_nodes(96, own, 96 - own.len()).with_answers(12, None));
 }

@@ -65,6 +65,11 @@ pub enum Call {
     },
 }
 
+/// The numbers of a step's tray as it is lent.
+pub fn tray_of(length: u32, fill: u32) -> impl Iterator<Item = u32> {
+    (0..length).map(move |i| fill.wrapping_add(i.wrapping_mul(0x9E37_79B1)))
+}
+
 pub const KIND_NAMES: [&str; 9] = ["open", "begin_read", "begin_insert", "begin_delete", "step", "abandon", "evict_answer", "evict_node", "renew"];
 
 impl Call {
@@ -84,11 +89,17 @@ impl Call {
         }
     }
 
+    /// Lays a step's own tray out, as it is before the step.
+    pub fn lay_tray(&self, hall: &mut Hall) {
+        if let Call::Step { tray, fill, .. } = self {
+            hall.memories[4].clear();
+            hall.memories[4].extend(tray_of(*tray, *fill));
+        }
+    }
+
     /// Makes the call on one side's memories.
     pub fn make(&self, side: &dyn Side, hall: &mut Hall) -> Reply {
-        if let Call::Step { tray, fill, .. } = self {
-            hall.memories[4] = (0..*tray).map(|i| fill.wrapping_add(i.wrapping_mul(0x9E37_79B1))).collect();
-        }
+        self.lay_tray(hall);
         let (m, tray) = hall.lend();
         match self {
             Call::Open { k } => side.open(m, *k),

@@ -1,7 +1,9 @@
 //! The checker of demand 3 on executed histories: document 01, "A history and the plain table". It is fed the calls' arguments and
-//! what they returned, and keeps a plain table of its own; nothing in it leans on the library or the twin.
+//! what they returned, and keeps a plain table of its own; nothing in it leans on the library or the twin. Beside it, filing checks
+//! demand 2's last sentence.
 
 use crate::call::{Asked, Call};
+use crate::filing::{Filing, Wrong};
 use crate::hall::Hall;
 use crate::side::Reply;
 use std::fmt;
@@ -21,6 +23,10 @@ pub enum Complaint {
     Endless { client: u32 },
     /// an ending of something that is not under way at the desk
     Ending { client: u32 },
+    /// demand 2's last sentence: the read was owed the filed answer and did not get exactly it
+    NotFetched { client: u32 },
+    /// an answer on file that no read filed, or one from file that is not what the last read to file under its query gave
+    NotFiled { client: u32 },
 }
 
 impl fmt::Display for Complaint {
@@ -30,6 +36,12 @@ impl fmt::Display for Complaint {
             Complaint::Stale { client } => write!(f, "desk {client}: the answer was its query's list at no moment of the read (stale)"),
             Complaint::Endless { client } => write!(f, "desk {client}: not ended with its last step"),
             Complaint::Ending { client } => write!(f, "desk {client}: an ending of nothing that is under way there"),
+            Complaint::NotFetched { client } => {
+                write!(f, "desk {client}: the fetch was owed the filed answer and did not get exactly it (not fetched)")
+            }
+            Complaint::NotFiled { client } => {
+                write!(f, "desk {client}: an answer on file, or from it, that the last read to file under the query did not give")
+            }
         }
     }
 }
@@ -61,19 +73,35 @@ pub struct Checker {
     notes: [Option<Note>; 12],
     /// how many answers were seen
     pub answers: u64,
+    filing: Filing,
 }
 
 impl Checker {
     /// At an accepted opening.
     pub fn opened(k: u32) -> Checker {
-        Checker { k: k as usize, plain: Vec::new(), notes: [const { None }; 12], answers: 0 }
+        Checker { k: k as usize, plain: Vec::new(), notes: [const { None }; 12], answers: 0, filing: Filing::opened() }
     }
 
-    /// After a call of the history; the hall is the one that the call left, with the tray of a step.
+    /// How many fetches were owed the filed answer by demand 2's last sentence, and how many of them of reads begun before the
+    /// read that filed it.
+    pub fn owed(&self) -> [u64; 2] {
+        [self.filing.owed, self.filing.owed_to_earlier]
+    }
+
+    /// Before a call of the history.
+    pub fn before(&mut self, call: &Call, hall: &Hall) {
+        self.filing.before(call, hall);
+    }
+
+    /// After it; the hall is the one that the call left, with the tray of a step.
     pub fn after(&mut self, call: &Call, reply: Reply, hall: &Hall) -> Option<Complaint> {
         let accepted = matches!(reply.number, 0 | 12 | 13);
         let complaint = if accepted { self.feed(call, reply, hall) } else { None };
-        complaint.or_else(|| (!self.holds(hall.table())).then_some(Complaint::Table))
+        let wrong = self.filing.after(call, reply, hall).map(|(client, wrong)| match wrong {
+            Wrong::NotFetched => Complaint::NotFetched { client },
+            Wrong::NotFiled => Complaint::NotFiled { client },
+        });
+        complaint.or_else(|| (!self.holds(hall.table())).then_some(Complaint::Table)).or(wrong)
     }
 
     fn feed(&mut self, call: &Call, reply: Reply, hall: &Hall) -> Option<Complaint> {

@@ -1,10 +1,12 @@
 //! Draws the calls of a mixing: twelve desks, begins, steps, evictions, abandonings, renewals, and calls that are turned down.
-//! It looks at the memories to choose what is worth trying; what it chose is recorded with its arguments. Leans on call and hall.
+//! It looks at the memories to choose what is worth trying; what it chose is recorded with its arguments. Leans on call, hall and
+//! the twin's layout and queries.
 
 use crate::call::{Asked, Call};
 use crate::hall::Hall;
 use crate::rng::Rng;
 use twin::layout::*;
+use twin::query::Query;
 
 /// What a mixing is like.
 pub struct Mixing {
@@ -15,6 +17,8 @@ pub struct Mixing {
     named: u32,
     /// weights of read, insert, delete
     kinds: [u32; 3],
+    /// of 16 reads so many ask what a filed answer answers, or what another desk reads
+    again: u32,
     /// writes keep the table near this many records; 0: they do not care
     band: u32,
     /// of 1,000 calls
@@ -31,7 +35,7 @@ pub struct Mixing {
 impl Mixing {
     fn new(k: u32, values: u32, named: u32, kinds: [u32; 3]) -> Mixing {
         let before_drain = 500;
-        Mixing { k, values, named, kinds, band: 0, evictions: 20, abandonings: 15, odd: 30, burst: (0, 0), before_drain, draining: 0 }
+        Mixing { k, values, named, kinds, again: 3, band: 0, evictions: 20, abandonings: 15, odd: 30, burst: (0, 0), before_drain, draining: 0 }
     }
 
     /// Few values: reads and writes meet all the time.
@@ -43,6 +47,15 @@ impl Mixing {
         let mut mixing = Mixing::new(k, values, named, kinds);
         mixing.evictions = rng.pick(&[0, 10, 60, 200]);
         mixing.abandonings = rng.pick(&[0, 10, 40]);
+        mixing
+    }
+
+    /// Few writes and little put out, and reads of what is filed: demand 2's last sentence binds often.
+    pub fn calm(rng: &mut Rng) -> Mixing {
+        let kinds = rng.pick(&[[40, 2, 1], [120, 2, 1], [400, 2, 1]]);
+        let mut mixing = Mixing::new(1 + rng.below(4), rng.pick(&[2, 4, 40]), 4 + rng.below(12), kinds);
+        mixing.again = 10;
+        mixing.evictions = rng.pick(&[0, 2, 10]);
         mixing
     }
 
@@ -144,7 +157,8 @@ impl Mixing {
         let [reads, inserts, deletes] = self.kinds;
         let roll = rng.below(reads + inserts + deletes);
         if roll < reads {
-            return Call::BeginRead { client, asked: self.query(rng, hall, false) };
+            let asked = if rng.chance(self.again, 16) { asked_again(rng, hall, self.k) } else { None };
+            return Call::BeginRead { client, asked: asked.unwrap_or_else(|| self.query(rng, hall, false)) };
         }
         let count = hall.get(0, COUNT);
         let inserting = if self.band > 0 { count < self.band || rng.chance(1, 2) } else { roll < reads + inserts };
@@ -195,6 +209,24 @@ fn record_in(rng: &mut Rng, hall: &Hall, k: u32) -> Asked {
         column.copy_from_slice(&[1, hall.get(0, place + c)]);
     }
     Asked::new(&words[..2 * k as usize])
+}
+
+/// The query of a filed answer or of a desk that reads, if there is one of k columns.
+fn asked_again(rng: &mut Rng, hall: &Hall, k: u32) -> Option<Asked> {
+    let (count, client) = (hall.get(2, COUNT).min(ANSWERS as u32), rng.below(12));
+    let key = if rng.chance(1, 2) && hall.kind_at(client) == READ {
+        hall.clients().get(HEAD + client as usize * CLIENT_WIDTH + CLIENT_ENTRY..)?
+    } else if count > 0 {
+        hall.answers().get(HEAD + rng.below(count) as usize * ENTRY_WIDTH..)?
+    } else {
+        return None;
+    };
+    let query = Query::kept(k as usize, key.first_chunk()?)?;
+    let mut words = [0; 8];
+    for (c, column) in words.chunks_mut(2).enumerate() {
+        column.copy_from_slice(&[query.names(c) as u32, query.values[c]]);
+    }
+    Some(Asked::new(&words[..2 * k as usize]))
 }
 
 /// A place: of an entry mostly, sometimes just past the last.

@@ -15,11 +15,12 @@ use crate::start;
 pub fn mixing(rng: &mut Rng, n: u64, total: u64) -> (Mixing, u64) {
     let most = (total / 20).clamp(50, 3000) as u32;
     let length = (most / 4 + rng.below(most)) as u64;
-    match n % 12 {
+    match n % 24 {
         3 if total >= 200_000 => (Mixing::filling(rng), 25_000),
-        2 | 7 => (Mixing::short_lists(rng), length),
-        1 | 6 | 10 => (Mixing::wide(rng), length),
-        5 => (Mixing::writers(rng), length),
+        2 | 7 | 14 | 19 => (Mixing::short_lists(rng), length),
+        1 | 6 | 10 | 13 | 18 | 22 => (Mixing::wide(rng), length),
+        5 | 17 => (Mixing::writers(rng), length),
+        4 | 9 | 12 | 16 | 21 => (Mixing::calm(rng), length),
         _ => (Mixing::tight(rng), length),
     }
 }
@@ -31,7 +32,10 @@ pub struct Findings {
     pub calls: u64,
     pub answers: u64,
     pub stale: u64,
-    /// the table memory, a step limit, an ending of nothing: each ends its history
+    /// fetches that demand 2's last sentence owed the filed answer, and those of them that did not get it
+    pub owed: u64,
+    pub not_fetched: u64,
+    /// the table memory, a step limit, an ending of nothing, an answer that was not filed: each ends its history
     pub others: u64,
     /// the first complaint, with the history up to it
     pub first: Option<(Script, Complaint)>,
@@ -58,26 +62,34 @@ fn one_history(side: &dyn Side, rng: &mut Rng, mut mixing: Mixing, length: u64, 
     for _ in 0..length {
         let call = mixing.next(rng, &hall);
         script.calls.push(call);
+        checker.before(&call, &hall);
         let reply = call.make(side, &mut hall);
         let complaint = checker.after(&call, reply, &hall);
         findings.calls += 1;
         if let Some(complaint) = complaint {
             findings.first.get_or_insert_with(|| (script.clone(), complaint));
-            if !matches!(complaint, Complaint::Stale { .. }) {
-                findings.others += 1;
-                break;
+            match complaint {
+                Complaint::Stale { .. } => findings.stale += 1,
+                Complaint::NotFetched { .. } => findings.not_fetched += 1,
+                _ => {
+                    findings.others += 1;
+                    break;
+                }
             }
-            findings.stale += 1;
         }
     }
     findings.answers += checker.answers;
+    findings.owed += checker.owed()[0];
 }
 
 /// The first complaint about a script that opens its hall: after which call, and which.
 pub fn complaint_in(side: &dyn Side, script: &Script) -> Option<(usize, Complaint)> {
     let mut hall: Hall = script.start.clone();
-    let mut checker = None;
+    let mut checker: Option<Checker> = None;
     for (i, call) in script.calls.iter().enumerate() {
+        if let Some(checker) = &mut checker {
+            checker.before(call, &hall);
+        }
         let reply = call.make(side, &mut hall);
         match call {
             Call::Open { k } if reply.number == 0 => checker = Some(Checker::opened(*k)),

@@ -1,12 +1,16 @@
 //! The differential harness: random calls through two sides on equal memories, replies and every number compared after each call;
-//! and the checker of demand 3. Leans on the twin and, for the library, on the safe crate.
+//! the checkers of demand 3 and of demand 2's last sentence; both sides of every limit. Leans on the twin and, for the library, on the safe
+//! crate.
 
 pub mod call;
 pub mod check;
 pub mod draw;
+pub mod filing;
 pub mod hall;
 pub mod histories;
 pub mod library;
+pub mod limits;
+pub mod met;
 pub mod report;
 pub mod rng;
 pub mod run;
@@ -14,3 +18,4 @@ pub mod seen;
 pub mod shrink;
 pub mod side;
 pub mod start;
+pub mod without_fetch;

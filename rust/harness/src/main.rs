@@ -1,44 +1,67 @@
-//! The command `harness`: compares the library with the twin and checks demand 3. Exit status: 0 nothing found (with --all-faults:
-//! every fault found), 1 a difference, 2 wrong arguments, 3 the checker complains, 4 a fault was not found.
+//! The command `harness`: compares the library with the twin, and checks demand 3 and demand 2's last sentence. Exit status: 0 nothing found
+//! (with --all-faults: every fault found; with --gate: every part passed), 1 a difference, 2 wrong arguments, 3 the checker complains, 4 a
+//! fault was not found, 5 something that a long run must meet was not met, or a row of --limits is not as document 01 has it.
 
-use harness::histories::check_alone;
+use harness::histories::{check_alone, Findings};
 use harness::library::Library;
-use harness::report::{grouped, print_complaint, print_failure, print_tally};
+use harness::limits::run_limits;
+use harness::met::unmet;
+use harness::report::{grouped, print_complaint, print_failure, print_findings, print_tally};
 use harness::run::Run;
 use harness::side::{fault_named, twin_with, Side, FAULTS};
+use harness::without_fetch::WithoutFetch;
 use std::process::ExitCode;
 use std::time::Instant;
 use twin::Fault;
 
-const USAGE: &str = "usage: harness [--seed N] [--calls N] [--fault NAME | --all-faults] [--no-check] [--check-twin]
+const USAGE: &str = "usage: harness [--seed N] [--calls N] [--gate | --limits | --all-faults | --check-twin] [--fault NAME]
+               [--no-check] [--brief] [--verbose]
   --seed N       draw from this seed (default 20)
   --calls N      how many calls (default 1000000)
+  --gate         what the gate runs, all parts: the comparison with the checkers and all that it must meet, each fault of the twin found,
+                 the checkers' own findings, the limits
+  --limits       both sides of every limit of document 01, library and twin each held to its number; --verbose prints every row
   --fault NAME   build this fault into the twin: early-raise, back-at-one, one-bit, late-look, stacked, no-marks
   --all-faults   each fault in turn; status 0 only if every one is found
-  --check        run the checker of demand 3 over the library's histories (the default); --no-check leaves it out
-  --check-twin   histories of the twin alone (with its fault) under the checker; nothing is compared";
+  --check        run the checkers over the library's histories (the default); --no-check leaves them out
+  --check-twin   histories of the twin alone (with its fault) under the checkers; nothing is compared
+  --brief        of a comparison, say only after how many calls something is found, and do not shorten it";
+
+#[derive(Clone, Copy, PartialEq)]
+enum Mode {
+    Compare,
+    Gate,
+    Limits,
+    AllFaults,
+    CheckTwin,
+}
 
 struct Options {
+    mode: Mode,
     seed: u64,
     calls: u64,
     fault: Fault,
-    all_faults: bool,
     check: bool,
-    check_twin: bool,
+    brief: bool,
+    verbose: bool,
 }
 
 fn options() -> Option<Options> {
-    let mut options = Options { seed: 20, calls: 1_000_000, fault: Fault::None, all_faults: false, check: true, check_twin: false };
+    let mut options = Options { mode: Mode::Compare, seed: 20, calls: 1_000_000, fault: Fault::None, check: true, brief: false, verbose: false };
     let mut args = std::env::args().skip(1);
     while let Some(arg) = args.next() {
         match arg.as_str() {
             "--seed" => options.seed = args.next()?.parse().ok()?,
             "--calls" => options.calls = args.next()?.replace([',', '_'], "").parse().ok()?,
+            "--gate" => options.mode = Mode::Gate,
             "--fault" => options.fault = fault_named(&args.next()?)?,
-            "--all-faults" => options.all_faults = true,
+            "--all-faults" => options.mode = Mode::AllFaults,
             "--check" => options.check = true,
             "--no-check" => options.check = false,
-            "--check-twin" => options.check_twin = true,
+            "--check-twin" => options.mode = Mode::CheckTwin,
+            "--brief" => options.brief = true,
+            "--limits" => options.mode = Mode::Limits,
+            "--verbose" => options.verbose = true,
             _ => return None,
         }
     }
@@ -51,37 +74,88 @@ fn main() -> ExitCode {
         return ExitCode::from(2);
     };
     println!("seed {}, {} calls", options.seed, grouped(options.calls));
-    if options.all_faults {
-        all_faults(&options)
-    } else if options.check_twin {
-        check_twin(&options)
-    } else {
-        compare(&options)
-    }
-}
-
-fn compare(options: &Options) -> ExitCode {
-    let sides: [&dyn Side; 2] = [&Library, twin_with(options.fault)];
     let began = Instant::now();
-    let mut run = Run::new(sides[0], sides[1], options.seed, options.calls, options.check);
-    let outcome = run.go();
-    let seconds = began.elapsed().as_secs_f64();
-    print_tally(&run.tally);
-    println!("{} calls, {} numbers compared, {seconds:.1} s", grouped(run.tally.calls), grouped(run.tally.numbers));
-    if options.check {
-        println!("checker: {} answers of histories looked at", grouped(run.tally.checked));
-    }
-    let Err(failure) = outcome else {
-        println!("no difference{}", if options.check { ", no complaint" } else { "" });
-        return ExitCode::SUCCESS;
+    let status = match options.mode {
+        Mode::Compare => compare(&options),
+        Mode::Gate => return ExitCode::from(gate(&options)),
+        Mode::Limits => limits(&options),
+        Mode::AllFaults => all_faults(&options),
+        Mode::CheckTwin => check_twin(&options),
     };
-    let status = if failure.complaint.is_some() { 3 } else { 1 };
-    print_failure(*failure, sides, ["library", "twin"]);
-    println!("found after {} calls", grouped(run.tally.calls));
+    println!("{:.1} s", began.elapsed().as_secs_f64());
     ExitCode::from(status)
 }
 
-fn all_faults(options: &Options) -> ExitCode {
+/// A part of the gate's run: what it is called, and what it does; its status is 0 if it passes.
+type Part = (&'static str, fn(&Options) -> u8);
+
+/// All parts, up to the first that fails; the last line says which that is.
+fn gate(options: &Options) -> u8 {
+    let parts: [Part; 4] = [("comparison", compare_all), ("faults", all_faults), ("checkers", checkers), ("limits", limits)];
+    for (name, part) in parts {
+        println!("{name}:");
+        let status = part(options);
+        if status != 0 {
+            println!("harness: {name} failed");
+            return status;
+        }
+    }
+    println!("harness: all parts passed");
+    0
+}
+
+fn compare(options: &Options) -> u8 {
+    compared(options).0
+}
+
+/// The comparison, and everything met that it must meet.
+fn compare_all(options: &Options) -> u8 {
+    let (status, unmet) = compared(options);
+    if status != 0 || unmet.is_empty() {
+        return status;
+    }
+    for name in &unmet {
+        println!("  NOT MET: {name}");
+    }
+    5
+}
+
+/// Library and twin compared: the status, and what was not met.
+fn compared(options: &Options) -> (u8, Vec<String>) {
+    let sides: [&dyn Side; 2] = [&Library, twin_with(options.fault)];
+    let mut run = Run::new(sides[0], sides[1], options.seed, options.calls, options.check);
+    let outcome = run.go();
+    if !options.brief {
+        print_tally(&run.tally, options.check);
+    }
+    let status = match outcome {
+        Ok(()) => {
+            println!("no difference{} in {} calls", if options.check { ", no complaint" } else { "" }, grouped(run.tally.calls));
+            0
+        }
+        Err(failure) => {
+            let status = if failure.complaint.is_some() { 3 } else { 1 };
+            if !options.brief {
+                print_failure(*failure, sides, ["library", "twin"]);
+            }
+            println!("found after {} calls", grouped(run.tally.calls));
+            status
+        }
+    };
+    (status, unmet(&run.tally))
+}
+
+/// Both sides of every limit.
+fn limits(options: &Options) -> u8 {
+    if run_limits(&Library, twin_with(options.fault), options.verbose) {
+        0
+    } else {
+        5
+    }
+}
+
+/// Each fault of the twin is found by comparing.
+fn all_faults(options: &Options) -> u8 {
     let mut missed = 0;
     for (name, fault) in FAULTS {
         let mut run = Run::new(&Library, twin_with(fault), options.seed, options.calls, false);
@@ -90,21 +164,52 @@ fn all_faults(options: &Options) -> ExitCode {
         println!("  {name:<12} {}", if found { format!("found after {calls} calls") } else { format!("NOT FOUND in {calls} calls") });
         missed += !found as u32;
     }
-    println!("{} of {} faults found", FAULTS.len() as u32 - missed, FAULTS.len());
-    ExitCode::from(if missed == 0 { 0 } else { 4 })
+    println!("  {} of {} faults found", FAULTS.len() as u32 - missed, FAULTS.len());
+    if missed == 0 {
+        0
+    } else {
+        4
+    }
 }
 
-fn check_twin(options: &Options) -> ExitCode {
+fn check_twin(options: &Options) -> u8 {
     let side = twin_with(options.fault);
     let findings = check_alone(side, options.seed, options.calls);
-    println!("{} histories, {} calls", grouped(findings.histories), grouped(findings.calls));
-    println!("stale answers: {} of {}", grouped(findings.stale), grouped(findings.answers));
-    println!("other complaints (table, step limits, endings): {}", grouped(findings.others));
+    print_findings(&findings);
     match findings.first {
-        None => ExitCode::SUCCESS,
+        None => 0,
         Some((script, complaint)) => {
-            print_complaint(side, script, &complaint.to_string());
-            ExitCode::from(3)
+            print_complaint(side, script, complaint);
+            3
         }
+    }
+}
+
+/// A part of the whole is enough here: each finds its fault within some thousand calls.
+const CHECKED_ALONE: u64 = 100_000;
+
+/// What a side is like, the side, and whether what was found in its histories is as it should be.
+type Tried = (&'static str, &'static dyn Side, fn(&Findings) -> bool);
+
+/// The checkers find something where there is something, each its own: stale answers where looks pay no heed to marks, and
+/// fetches that do not get the filed answer where none does. In the plain twin they find nothing.
+fn checkers(options: &Options) -> u8 {
+    let tried: [Tried; 3] = [
+        ("the plain twin: nothing is found", twin_with(Fault::None), |f| f.first.is_none() && f.owed > 0),
+        ("looks that see no marks: stale answers are found", twin_with(Fault::NoPending), |f| f.stale > 0),
+        ("fetches that find no answer: not fetched is found", &WithoutFetch, |f| f.not_fetched > 0 && f.stale == 0 && f.others == 0),
+    ];
+    let mut missed = 0;
+    for (name, side, as_it_should) in tried {
+        let findings = check_alone(side, options.seed, options.calls.min(CHECKED_ALONE));
+        let good = as_it_should(&findings);
+        println!("  {name}{}", if good { "" } else { ": NOT SO" });
+        print_findings(&findings);
+        missed += !good as u8;
+    }
+    if missed == 0 {
+        0
+    } else {
+        4
     }
 }

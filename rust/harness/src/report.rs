@@ -1,12 +1,14 @@
 //! What a run prints: counts, limits met, and a failure with the shortened script that leads to it. Leans on run and shrink.
 
 use crate::call::{Call, KIND_NAMES};
+use crate::check::Complaint;
 use crate::hall::{describe, Hall, MEMORY_NAMES};
-use crate::histories::complaint_in;
+use crate::histories::{complaint_in, Findings};
 use crate::run::{difference_in, Difference, Failure, Tally, SORTS};
 use crate::seen::LIMITS;
 use crate::shrink::{shorten, Script};
 use crate::side::{Reply, Side};
+use std::mem::discriminant;
 use std::time::Duration;
 
 const SHORTENING: Duration = Duration::from_secs(20);
@@ -24,12 +26,15 @@ pub fn grouped(number: u64) -> String {
     text
 }
 
-pub fn print_tally(tally: &Tally) {
+/// What a comparison has done.
+pub fn print_tally(tally: &Tally, checked: bool) {
     println!("calls by sort of script:");
     for (i, (name, _)) in SORTS.iter().enumerate() {
         let [calls, accepted, scripts] = [tally.calls_of_sort[i], tally.accepted_of_sort[i], tally.scripts[i]].map(grouped);
         println!("  {name:<28}{calls:>12} in {scripts} scripts, {accepted} accepted");
     }
+    let by_columns: Vec<String> = (1..5).map(|k| format!("k {k}: {}", grouped(tally.calls_of_columns[k]))).collect();
+    println!("calls by the hall's columns: {}", by_columns.join(", "));
     println!("calls by number returned:");
     println!("  {:<14}{}", "", (0..14).map(|n| format!("{n:>8}")).collect::<String>());
     for (name, row) in KIND_NAMES.iter().zip(&tally.outcomes) {
@@ -43,9 +48,23 @@ pub fn print_tally(tally: &Tally) {
         println!("  {name:<52}{:>9}{}", grouped(times), if times == 0 { "  not met in this run" } else { "" });
     }
     println!("  ways of lengths 0, least-1, least, least+1: {} of 256", tally.ways.iter().filter(|way| **way).count());
+    println!("{} calls, {} numbers compared", grouped(tally.calls), grouped(tally.numbers));
+    if checked {
+        let [checked, owed, earlier] = [tally.checked, tally.owed[0], tally.owed[1]].map(grouped);
+        println!("checkers: {checked} answers of histories looked at; {owed} fetches owed the filed answer,");
+        println!("  {earlier} of them of reads begun before the read that filed it");
+    }
 }
 
-fn reply_text(reply: Reply) -> String {
+/// What the checkers found in one side's histories.
+pub fn print_findings(findings: &Findings) {
+    println!("    {} histories, {} calls", grouped(findings.histories), grouped(findings.calls));
+    println!("    stale answers: {} of {}", grouped(findings.stale), grouped(findings.answers));
+    println!("    not fetched: {} of {} fetches owed the filed answer", grouped(findings.not_fetched), grouped(findings.owed));
+    println!("    other complaints (table, step limits, endings, not filed): {}", grouped(findings.others));
+}
+
+pub fn reply_text(reply: Reply) -> String {
     match (reply.number, reply.ending) {
         (0, 0) if reply.count == 0 => "0".to_string(),
         (0, 1) => format!("0, {} records from file", reply.count),
@@ -86,7 +105,7 @@ fn print_calls(calls: &[Call], replies: impl Fn(usize) -> String) {
 pub fn print_failure(failure: Failure, sides: [&dyn Side; 2], names: [&str; 2]) {
     let (sort, made) = (SORTS[failure.sort].0, failure.script.calls.len());
     match failure.complaint {
-        Some(complaint) => print_complaint(sides[0], failure.script, &complaint.to_string()),
+        Some(complaint) => print_complaint(sides[0], failure.script, complaint),
         None => {
             let shorter = shorten(failure.script, SHORTENING, &|s| difference_in(sides[0], sides[1], s).is_some());
             println!("DIFFERENCE, in a script of the sort: {sort}; shortened from {made} calls to {}:", shorter.calls.len());
@@ -124,10 +143,11 @@ fn print_difference(script: &Script, difference: &Difference, [left, right]: [&s
     }
 }
 
-/// Shortens and prints a history about which the checker complains.
-pub fn print_complaint(side: &dyn Side, script: Script, complaint: &str) {
+/// Shortens and prints a history about which the checker complains; it stays a complaint of the same sort.
+pub fn print_complaint(side: &dyn Side, script: Script, complaint: Complaint) {
     let made = script.calls.len();
-    let shorter = shorten(script, SHORTENING, &|s| complaint_in(side, s).is_some());
+    let same = |other: Complaint| discriminant(&other) == discriminant(&complaint);
+    let shorter = shorten(script, SHORTENING, &|s| complaint_in(side, s).is_some_and(|(_, other)| same(other)));
     println!("THE CHECKER COMPLAINS: {complaint}; shortened from {made} calls to {}:", shorter.calls.len());
     print_start(&shorter.start);
     let mut hall = shorter.start.clone();

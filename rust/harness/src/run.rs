@@ -24,6 +24,8 @@ pub struct Tally {
     pub scripts: [u64; 5],
     pub calls_of_sort: [u64; 5],
     pub accepted_of_sort: [u64; 5],
+    /// by the k that the hall has after the call
+    pub calls_of_columns: [u64; 5],
     /// by kind of call and number returned
     pub outcomes: [[u64; 14]; 9],
     pub endings: [u64; 5],
@@ -32,6 +34,8 @@ pub struct Tally {
     pub ways: [bool; 256],
     /// answers that the checker has looked at
     pub checked: u64,
+    /// fetches that demand 2's last sentence owed the filed answer, and those of them of reads begun before the filing read
+    pub owed: [u64; 2],
 }
 
 impl Tally {
@@ -43,11 +47,13 @@ impl Tally {
             scripts: [0; 5],
             calls_of_sort: [0; 5],
             accepted_of_sort: [0; 5],
+            calls_of_columns: [0; 5],
             outcomes: [[0; 14]; 9],
             endings: [0; 5],
             limits: [0; LIMITS.len()],
             ways: [false; 256],
             checked: 0,
+            owed: [0; 2],
         }
     }
 }
@@ -122,6 +128,9 @@ impl<'a> Run<'a> {
     fn make(&mut self, made: &mut Made, call: Call) -> Outcome {
         made.script.calls.push(call);
         let before = seen::before(&call, &made.left);
+        if let Some(checker) = &mut made.checker {
+            checker.before(&call, &made.left);
+        }
         let reply = call.make(self.left, &mut made.left);
         let other = call.make(self.right, &mut made.right);
         let Some(kind) = call.kind() else {
@@ -142,6 +151,7 @@ impl<'a> Run<'a> {
 
     fn count(&mut self, kind: usize, reply: Reply, hall: &Hall) {
         self.tally.calls += 1;
+        self.tally.calls_of_columns[hall.columns() as usize % 5] += (hall.columns() < 5) as u64;
         self.tally.numbers += hall.size() as u64 + 3;
         if let Some(count) = self.tally.outcomes[kind].get_mut(reply.number as usize) {
             *count += 1;
@@ -163,7 +173,12 @@ impl<'a> Run<'a> {
             return Ok(());
         };
         self.tally.checked += matches!(reply.ending, 1 | 2) as u64;
-        match checker.after(call, reply, &made.left) {
+        let owed = checker.owed();
+        let complaint = checker.after(call, reply, &made.left);
+        for (sum, (now, before)) in self.tally.owed.iter_mut().zip(checker.owed().into_iter().zip(owed)) {
+            *sum += now - before;
+        }
+        match complaint {
             Some(complaint) => Err(made.failure(Some(complaint))),
             None => Ok(()),
         }
@@ -193,13 +208,7 @@ impl<'a> Run<'a> {
     }
 
     fn noise(&mut self) -> Outcome {
-        let start = match self.rng.below(8) {
-            0 => start::noise(&mut self.rng),
-            1 => start::sound_headers(&mut self.rng),
-            2 => start::idle_clients(&mut self.rng),
-            _ => start::plausible_clients(&mut self.rng),
-        };
-        let mut made = Made::new(2, start);
+        let mut made = Made::new(2, start::any_noise(&mut self.rng));
         if self.rng.chance(1, 4) {
             self.make(&mut made, Call::Renew)?;
         }
@@ -258,6 +267,9 @@ impl<'a> Run<'a> {
         self.make(&mut made, Call::BeginRead { client, asked })?;
         self.make(&mut made, Call::BeginInsert { client, asked })?;
         self.make(&mut made, Call::BeginDelete { client, asked })?;
+        // what else would be turned down, or not: 1 goes before it
+        let odd: Vec<Call> = (0..4).map(|_| draw::odd_call(&mut self.rng, &made.left, k)).collect();
+        self.make_all(&mut made, odd)?;
         let rest = [Call::Abandon { client }, Call::EvictAnswer { place: 0 }, Call::EvictNode { place: 0 }, Call::Renew, Call::Open { k }];
         self.make_all(&mut made, rest.to_vec())
     }

@@ -1,4 +1,4 @@
-//! The memories that calls start from: noise of three sorts, halls near every limit, and what damage does to a hall.
+//! The memories that calls start from: noise of four sorts, halls near every limit, and what damage does to a hall.
 //! Leans on hall and the twin's layout and queries.
 
 use crate::call::Call;
@@ -47,8 +47,22 @@ fn count_below(rng: &mut Rng, most: usize) -> u32 {
     }
 }
 
+/// Noise, plain or with order in it: of four sorts; in a few of them k is just out of range.
+pub fn any_noise(rng: &mut Rng) -> Hall {
+    let mut hall = match rng.below(8) {
+        0 => noise(rng),
+        1 => sound_headers(rng),
+        2 => idle_clients(rng),
+        _ => plausible_clients(rng),
+    };
+    if rng.chance(1, 32) {
+        hall.memories[3][COLUMNS] = rng.pick(&[0, 5]);
+    }
+    hall
+}
+
 /// Noise in which k, the entry counts and (but for a few) the filed lists' lengths are in range.
-pub fn sound_headers(rng: &mut Rng) -> Hall {
+fn sound_headers(rng: &mut Rng) -> Hall {
     let mut hall = noise(rng);
     hall.memories[3][COLUMNS] = 1 + rng.below(4);
     hall.memories[0][COUNT] = count_below(rng, RECORDS);
@@ -57,24 +71,30 @@ pub fn sound_headers(rng: &mut Rng) -> Hall {
     for place in 0..ANSWERS {
         hall.memories[2][HEAD + place * ENTRY_WIDTH + ENTRY_LENGTH] = rng.below(33);
     }
-    if rng.chance(1, 40) {
-        hall.memories[2][HEAD + rng.below(64) as usize * ENTRY_WIDTH + ENTRY_LENGTH] = 33;
+    if rng.chance(1, 16) {
+        let newest = hall.get(2, COUNT).saturating_sub(1);
+        let any = rng.below(64);
+        let place = rng.pick(&[0, newest, any]) as usize;
+        hall.memories[2][HEAD + place * ENTRY_WIDTH + ENTRY_LENGTH] = 33;
     }
     hall
 }
 
 /// Noise with sound headers in which every client (desk) is idle, but for one number of one client in some.
-pub fn idle_clients(rng: &mut Rng) -> Hall {
+fn idle_clients(rng: &mut Rng) -> Hall {
     let mut hall = sound_headers(rng);
     hall.memories[3][HEAD..HEAD + CLIENTS * CLIENT_WIDTH].fill(0);
-    if rng.chance(1, 3) {
-        hall.memories[3][HEAD + rng.below((CLIENTS * CLIENT_WIDTH) as u32) as usize] = 1 + rng.below(3);
+    if rng.chance(1, 2) {
+        let own = HEAD + rng.below(CLIENTS as u32) as usize * CLIENT_WIDTH;
+        let last = CLIENT_WIDTH as u32 - 1;
+        let at = if rng.chance(1, 3) { last } else { rng.below(last) };
+        hall.memories[3][own + at as usize] = 1 + rng.below(3);
     }
     hall
 }
 
 /// Noise with sound headers in which each client is idle or in the midst of a read or a write, with what it needs around it.
-pub fn plausible_clients(rng: &mut Rng) -> Hall {
+fn plausible_clients(rng: &mut Rng) -> Hall {
     let mut hall = sound_headers(rng);
     for client in 0..12 {
         if rng.chance(2, 3) {
@@ -114,8 +134,13 @@ fn seat(rng: &mut Rng, hall: &mut Hall, client: usize) {
 
 /// One number of a desk just out of range: kind, step, list length, or one of the key.
 fn spoil(rng: &mut Rng, own: &mut [u32], last: u32) {
-    let (place, value) = match rng.below(6) {
+    let (place, value) = match rng.below(7) {
         0 => (CLIENT_KIND, rng.pick(&[0, 4])),
+        6 => {
+            // a star, which an insert has not
+            own[CLIENT_ENTRY + 1] = 0;
+            (CLIENT_ENTRY, own[CLIENT_ENTRY] & !1)
+        }
         1 => (CLIENT_STEPS, last),
         2 => (CLIENT_ENTRY + ENTRY_LENGTH, 33),
         3 => (CLIENT_ENTRY, own[CLIENT_ENTRY] ^ 1 << rng.below(6)),
@@ -125,8 +150,15 @@ fn spoil(rng: &mut Rng, own: &mut [u32], last: u32) {
     own[place] = value;
 }
 
-/// Some reads find answers filed under their key, one or several, with revisions near those noted.
+/// Some of a read's nodes are there, marked or not. Some reads find answers filed under their key, one or several, with revisions near those
+/// noted.
 fn seat_read(rng: &mut Rng, hall: &mut Hall, place: usize, query: &Query) {
+    for number in 0..query.looks() {
+        if rng.chance(1, 4) {
+            let marks = rng.pick(&[0, 0, 0, 1]);
+            put_node(rng, hall, &query.read_label(number), marks);
+        }
+    }
     let count = hall.get(2, COUNT);
     if count == 0 {
         return;
@@ -135,6 +167,10 @@ fn seat_read(rng: &mut Rng, hall: &mut Hall, place: usize, query: &Query) {
     for _ in 0..rng.below(4) {
         let entry = &mut hall.memories[2][HEAD + rng.below(count) as usize * ENTRY_WIDTH..][..ENTRY_WIDTH];
         entry[..KEY_WIDTH].copy_from_slice(&query.key());
+        if rng.chance(1, 8) {
+            // a senseless key, which fits no read
+            entry[5 + rng.below(2) as usize] = 1;
+        }
         for (filed, noted) in entry[ENTRY_REVISIONS..ENTRY_LIST].iter_mut().zip(&noted) {
             *filed = noted.saturating_add(rng.pick(&[0, 0, 0, 1]));
         }
@@ -151,13 +187,13 @@ fn seat_write(rng: &mut Rng, hall: &mut Hall, query: &Query, steps: u32) {
     let first = steps.saturating_sub(announcements + 1);
     for number in first..steps.min(announcements).max(first + 1).min(announcements) {
         if rng.chance(15, 16) {
-            put_node(rng, hall, &query.write_label::<PLAIN>(number));
+            put_node(rng, hall, &query.write_label::<PLAIN>(number), 1);
         }
     }
 }
 
-/// A node with this label gets one mark more; one is written over if it is missing.
-fn put_node(rng: &mut Rng, hall: &mut Hall, label: &Label) {
+/// A node with this label gets so many marks more; one is written over if it is missing.
+fn put_node(rng: &mut Rng, hall: &mut Hall, label: &Label, marks: u32) {
     let count = hall.get(1, NODE_COUNT);
     if count == 0 {
         return;
@@ -170,7 +206,7 @@ fn put_node(rng: &mut Rng, hall: &mut Hall, label: &Label) {
         node[..LABEL_WIDTH].copy_from_slice(label);
         node[NODE_PENDING] = 0;
     }
-    node[NODE_PENDING] = node[NODE_PENDING].saturating_add(1);
+    node[NODE_PENDING] = node[NODE_PENDING].saturating_add(marks);
     if rng.chance(1, 12) {
         // a second node with this label
         let again = HEAD + rng.below(count) as usize * NODE_WIDTH;
@@ -195,7 +231,7 @@ pub fn near_limits(rng: &mut Rng) -> Hall {
     if hall.get(1, NODE_COUNT) > 0 && rng.chance(1, 2) {
         // every write comes to the node of all stars, or to one of its neighbours
         let wildcards = Query::arrived(hall.columns() as usize, &[0; 8][..2 * hall.columns() as usize]).read_label(0);
-        put_node(rng, &mut hall, &wildcards);
+        put_node(rng, &mut hall, &wildcards, 1);
         let place = twin::nodes::find(hall.nodes(), &wildcards).unwrap();
         hall.memories[1][HEAD + place * NODE_WIDTH + NODE_PENDING] = 9 + rng.below(5);
     }

@@ -7,11 +7,11 @@ use Rattle.cases_run.proofs.run_parts.Statement.{statement}
 use Rattle.cases_run.proofs.run_parts.Tie as tie
 
 abbrev Inv-loop : tie.InvT-loop
-Inv-loop table₀ nodes₀ answers₀ clients₀ tray₀ expected₀ met₀ part₀ table nodes answers clients tray expected met part =
+Inv-loop table₀ nodes₀ answers₀ clients₀ tray₀ met₀ part₀ table nodes answers clients tray met part =
     (part ≤ 33) × ((length table ≡ length table₀) × ((length nodes ≡ length nodes₀) × ((length answers ≡ length answers₀) × ((length clients ≡ length clients₀) × (length tray ≡ length tray₀)))))
 
 abbrev μ-loop : tie.MeasureT-loop
-μ-loop table₀ nodes₀ answers₀ clients₀ tray₀ expected₀ met₀ part₀ table nodes answers clients tray expected met part =
+μ-loop table₀ nodes₀ answers₀ clients₀ tray₀ met₀ part₀ table nodes answers clients tray met part =
     33 - part
 
 loop-holds : tie.Need-loop-holds Inv-loop μ-loop
@@ -22,9 +22,6 @@ run-part-requires c κs = search needs
 
 wrapping-add-u32-requires : tie.Need-wrapping-add-u32-requires Inv-loop μ-loop
 wrapping-add-u32-requires c κs = search needs
-
-wrapping-add-u32-requires-2 : tie.Need-wrapping-add-u32-requires-2 Inv-loop μ-loop
-wrapping-add-u32-requires-2 c κs = search needs
 
 add-part : tie.Need-add-part Inv-loop μ-loop
 add-part c = search needs
@@ -62,7 +59,6 @@ run-parts-spec =
     loop-holds
     run-part-requires
     wrapping-add-u32-requires
-    wrapping-add-u32-requires-2
     add-part
     loop-less
     loop-again

@@ -1,0 +1,213 @@
+//! The checker of demand 2's last sentence on executed histories: "A read whose fetch finds a filed answer to its query gets it, if from the
+//! earlier of its own begin and the filing read's to that fetch no write meeting the query was open and none of its nodes was put out."
+//!
+//! Told by the calls' arguments and replies alone: what is under way at a desk and how many steps it has made, so which step is a fetch and
+//! which a file step; which read was the last to file under a query, since when it ran and with which list; which writes are open. Told by
+//! the memories, because the sentence asks it of them: whether an answer to the query is filed (answers, just before the fetch), and whether
+//! a node that was there no longer is (nodes, after each call; by a call or to make room). Where they stand there is docs/LAYOUT.md's.
+//!
+//! As the sentence is read here (docs/DECISIONS.md, R-22; crates/demands/specs/Demand2.antt): a write counts that is open at any moment from
+//! just after the earlier begin to just before the fetch, abandoned later or not; one that ends just before the earlier begin does not. "gets
+//! it" is the filing read's list, from file, and the rest of the tray as it was. Leans on call and hall; on nothing of the library or the twin.
+
+use crate::call::{tray_of, Asked, Call};
+use crate::hall::Hall;
+use crate::side::Reply;
+use std::collections::HashSet;
+
+/// What is under way at a desk: a write is open until it is taken away.
+struct Work {
+    reads: bool,
+    asked: Asked,
+    steps: u32,
+    /// which call began it
+    begun: u64,
+    /// of a read: since its begin no write meeting its query was open and none of its nodes was put out
+    quiescent: bool,
+}
+
+/// What the last read that filed under a query gave, which call began that read, and whether it is quiescent since then.
+struct Filed {
+    asked: Asked,
+    list: Vec<u32>,
+    begun: u64,
+    quiescent: bool,
+}
+
+/// The five numbers of a node's label.
+type Label = [u32; 5];
+
+/// What is wrong with a read's answer.
+#[derive(Clone, Copy, PartialEq, Eq, Debug)]
+pub enum Wrong {
+    /// the filed answer was owed, and it is not exactly what the read got
+    NotFetched,
+    /// an answer on file that no read filed, or one from file that is not what the last read to file under the query gave
+    NotFiled,
+}
+
+pub struct Filing {
+    /// by client, the desk
+    clients: [Option<Work>; 12],
+    filed: Vec<Filed>,
+    /// the nodes' labels after the call before, in their order
+    labels: Vec<Label>,
+    /// before a fetch: an answer to its query is filed
+    finds: bool,
+    calls: u64,
+    /// how many fetches were owed the filed answer
+    pub owed: u64,
+    /// how many of them were of reads begun before the read that filed it
+    pub owed_to_earlier: u64,
+}
+
+impl Filing {
+    /// At an accepted opening.
+    pub fn opened() -> Filing {
+        Filing { clients: [const { None }; 12], filed: Vec::new(), labels: Vec::new(), finds: false, calls: 0, owed: 0, owed_to_earlier: 0 }
+    }
+
+    /// Just before a call of the history.
+    pub fn before(&mut self, call: &Call, hall: &Hall) {
+        self.finds = match call {
+            Call::Step { client, .. } => self.fetching(*client).is_some_and(|asked| is_filed(hall.answers(), asked)),
+            _ => false,
+        };
+    }
+
+    /// The query of a desk whose next step is its fetch: it has made a look for each node.
+    fn fetching(&self, client: u32) -> Option<&Asked> {
+        let work = self.clients.get(client as usize)?.as_ref()?;
+        (work.reads && work.steps == looks(&work.asked)).then_some(&work.asked)
+    }
+
+    /// After it; the hall is the one that the call left, with the tray of a step.
+    pub fn after(&mut self, call: &Call, reply: Reply, hall: &Hall) -> Option<(u32, Wrong)> {
+        self.calls += 1;
+        let accepted = matches!(reply.number, 0 | 12 | 13);
+        let wrong = if accepted { self.feed(call, reply, hall) } else { None };
+        for label in self.evicted(hall.nodes()) {
+            self.disturb(|asked| is_node_of(&label, asked));
+        }
+        wrong
+    }
+
+    fn feed(&mut self, call: &Call, reply: Reply, hall: &Hall) -> Option<(u32, Wrong)> {
+        match call {
+            Call::BeginRead { client, asked } => {
+                let quiescent = !self.clients.iter().flatten().any(|work| !work.reads && meet(&work.asked, asked));
+                self.clients[*client as usize] = Some(Work { reads: true, asked: *asked, steps: 0, begun: self.calls, quiescent });
+            }
+            Call::BeginInsert { client, asked } | Call::BeginDelete { client, asked } => {
+                self.clients[*client as usize] = Some(Work { reads: false, asked: *asked, steps: 0, begun: self.calls, quiescent: false });
+                self.disturb(|query| meet(asked, query));
+            }
+            Call::Step { client, .. } => {
+                let wrong = self.answered(call, *client, reply, hall.tray());
+                self.stepped(*client, reply, hall);
+                return wrong.map(|wrong| (*client, wrong));
+            }
+            Call::Abandon { client } => self.clients[*client as usize] = None,
+            _ => {}
+        }
+        None
+    }
+
+    /// The reads under way and the filed answers whose query is such a one are quiescent no more.
+    fn disturb(&mut self, hit: impl Fn(&Asked) -> bool) {
+        for work in self.clients.iter_mut().flatten().filter(|work| work.quiescent) {
+            work.quiescent = !hit(&work.asked);
+        }
+        for filed in self.filed.iter_mut().filter(|filed| filed.quiescent) {
+            filed.quiescent = !hit(&filed.asked);
+        }
+    }
+
+    /// A step before it is counted: what is wrong with what the read got or did not get.
+    fn answered(&mut self, call: &Call, client: u32, reply: Reply, tray: &[u32]) -> Option<Wrong> {
+        let work = self.clients.get(client as usize)?.as_ref()?;
+        let Some(filed) = self.filed.iter().find(|filed| filed.asked == work.asked) else {
+            return (self.finds || reply.ending == 1).then_some(Wrong::NotFiled);
+        };
+        let gets_it = gets(call, reply, tray, &filed.list, work.asked.words().len() / 2);
+        let quiescent = if work.begun < filed.begun { work.quiescent } else { filed.quiescent };
+        if self.finds && quiescent {
+            self.owed += 1;
+            self.owed_to_earlier += (work.begun < filed.begun) as u64;
+            return (!gets_it).then_some(Wrong::NotFetched);
+        }
+        (reply.ending == 1 && !gets_it).then_some(Wrong::NotFiled)
+    }
+
+    fn stepped(&mut self, client: u32, reply: Reply, hall: &Hall) {
+        let Some(work) = &mut self.clients[client as usize] else {
+            return;
+        };
+        work.steps += 1;
+        let ended = reply.ending != 0 || reply.number != 0;
+        if work.reads && reply.ending == 2 && work.steps == looks(&work.asked) + 3 {
+            let numbers = reply.count as usize * work.asked.words().len() / 2;
+            let list = hall.tray()[..numbers.min(hall.tray().len())].to_vec();
+            let (asked, begun, quiescent) = (work.asked, work.begun, work.quiescent);
+            self.filed.retain(|filed| filed.asked != asked);
+            self.filed.push(Filed { asked, list, begun, quiescent });
+        }
+        if ended {
+            self.clients[client as usize] = None;
+        }
+    }
+
+    /// The labels of the nodes that were there before this call and are not there after it.
+    fn evicted(&mut self, nodes: &[u32]) -> Vec<Label> {
+        let now = || nodes[8..].chunks_exact(8).take(nodes[1] as usize).map(|node| -> Label { node[..5].try_into().unwrap() });
+        let same = self.labels.iter().zip(now()).take_while(|(old, new)| *old == new).count();
+        if same == self.labels.len() {
+            self.labels.extend(now().skip(same));
+            return Vec::new();
+        }
+        let left: HashSet<Label> = now().skip(same).collect();
+        let gone = self.labels.drain(same..).filter(|label| !left.contains(label)).collect();
+        self.labels.extend(now().skip(same));
+        gone
+    }
+}
+
+/// "gets it": from file, the list's length as count, the list from the tray's start and the rest of the tray as it was.
+fn gets(call: &Call, reply: Reply, tray: &[u32], list: &[u32], k: usize) -> bool {
+    let Call::Step { tray: length, fill, .. } = call else {
+        return false;
+    };
+    let whole = list.iter().copied().chain(tray_of(*length, *fill).skip(list.len()));
+    reply.number == 0 && reply.ending == 1 && reply.count as usize * k == list.len() && tray.iter().copied().eq(whole)
+}
+
+/// How many nodes a read looks at: 2^m, of m named columns.
+fn looks(asked: &Asked) -> u32 {
+    1 << asked.words().chunks(2).filter(|column| column[0] == 1).count()
+}
+
+/// Some record lies in both: no column in which they name different values.
+fn meet(one: &Asked, other: &Asked) -> bool {
+    one.words().chunks(2).zip(other.words().chunks(2)).all(|(a, b)| a[0] == 0 || b[0] == 0 || a[1] == b[1])
+}
+
+/// The label is a node of a read of the query: stars stay, and each named value stays or becomes ?.
+fn is_node_of(label: &Label, asked: &Asked) -> bool {
+    asked.words().chunks(2).enumerate().all(|(c, column)| match label[0] >> (8 * c) & 255 {
+        1 => column[0] == 1 && label[1 + c] == column[1],
+        2 => column[0] == 0,
+        3 => column[0] == 1,
+        _ => false,
+    })
+}
+
+/// The answers memory holds an entry with the query's key: how many at place 0, 152 numbers each from place 8 on; the key is the named
+/// columns as bits, four values, and two numbers that are 0.
+fn is_filed(answers: &[u32], asked: &Asked) -> bool {
+    let mut key = [0; 7];
+    for (c, column) in asked.words().chunks(2).enumerate() {
+        key[0] |= column[0] << c;
+        key[1 + c] = column[1];
+    }
+    answers[8..].chunks_exact(152).take(answers[0] as usize).any(|entry| entry[..7] == key)
+}

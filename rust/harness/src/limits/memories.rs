@@ -1,0 +1,116 @@
+//! Rows: k at opening; k, entry counts and filed lengths in memory, for every call but opening; desks above 11. Leans on scene.
+
+use super::*;
+
+const OPENING: Limit = ("k at opening", "at opening, k not 1 to 4");
+const K: Limit = ("k in memory", "k, an entry count or a filed list's length in memory out of range");
+const ASKED: Limit = ("columns asked beside another k in memory", "a query whose columns are not as many as the k in memory");
+const RECORDS: Limit = ("records in memory", "2,048 records");
+const NODES: Limit = ("nodes in memory", "1,024 nodes");
+const ANSWERS: Limit = ("filed answers in memory", "64 answers");
+const LENGTH: &str = "a filed list's length in memory out of range";
+const DESK: Limit = ("desk", "desk above 11");
+const BUSY: Limit = ("busy desk", "begin at a busy desk");
+const SHORT: &str = "a lent memory is below its least length";
+const LENGTHS: [Limit; 5] = [("table of", SHORT), ("nodes of", SHORT), ("answers of", SHORT), ("desks of", SHORT), ("tray of", SHORT)];
+const LONG: Limit = ("memories longer by at least", SHORT);
+
+/// The rows that are about k itself.
+pub fn columns(rows: &mut Vec<Row>) {
+    for (k, number) in [(0, 2), (1, 0), (2, 0), (3, 0), (4, 0), (5, 2), (u32::MAX, 2)] {
+        // "Opening clears the four memories, sets the floor to 1 and leaves every desk idle."
+        let cleared = (0..4).flat_map(|memory| (0..LEAST[memory]).map(move |place| (memory, place))).map(|place| match place {
+            FLOOR => (place, 1),
+            COLUMNS => (place, k),
+            _ => (place, 0),
+        });
+        let row = Scene::noise(k).row(OPENING, k, Call::Open { k }, says(number));
+        rows.push(row.after(cleared.filter(|_| number == 0)));
+    }
+    for (k, sound) in [(0, false), (1, true), (2, true), (3, true), (4, true), (5, false), (6, false), (u32::MAX, false)] {
+        let scene = Scene::noise(k).made(Call::Open { k: 1 }).put(COLUMNS, k);
+        every_call(rows, &scene, K, k, sound);
+    }
+    // 2 is smaller than 3; twice each of the last three goes beyond 32 bits and comes to as many numbers as arrive
+    let wide = 1 << 31;
+    for (k, asked) in [(0, 1), (5, 4), (5, 6), (u32::MAX, 4), (wide, 0), (wide + 1, 1), (wide + 4, 4)] {
+        let scene = Scene::noise(k).made(Call::Open { k: 1 }).put(COLUMNS, k);
+        rows.extend(KINDS.map(|kind| scene.row(ASKED, asked, begin(kind, 0, query(asked, ALL, 5)), says(2))));
+    }
+}
+
+pub fn counts(rows: &mut Vec<Row>, k: u32) {
+    for (limit, place, most) in [(RECORDS, RECORD_COUNT, 2_048), (NODES, NODE_COUNT, 1_024), (ANSWERS, ANSWER_COUNT, 64)] {
+        for (n, sound) in [(most, true), (most + 1, false), (u32::MAX, false)] {
+            every_call(rows, &Scene::opened(k).put(place, n), limit, n, sound);
+        }
+    }
+}
+
+/// Of 1, 3 and 64 filed answers the first, the last, and what lies behind them, where any length is as good as none.
+pub fn lists(rows: &mut Vec<Row>, k: u32) {
+    for (n, length) in [1, 3, 64].into_iter().flat_map(|n| [32, 33, u32::MAX].map(|length| (n, length))) {
+        for (name, i, most) in [("length of the first list", 0, 32), ("length of the last", n - 1, 32), ("length behind", n, u32::MAX)] {
+            let scene = Scene::opened(k).answers(n).put(answer(i, ENTRY_LENGTH), length);
+            every_call(rows, &scene, (name, LENGTH), length, length <= most);
+        }
+    }
+}
+
+/// The calls but opening. In range, in an idle hall: begins 0, step and abandoning 6, evictions at no place 8, renewal 0. Out of range: 3.
+fn every_call(rows: &mut Vec<Row>, scene: &Scene, limit: Limit, value: u32, sound: bool) {
+    let place = u32::MAX;
+    let others = [(step(0), 6), (abandon(0), 6), (Call::EvictAnswer { place }, 8), (Call::EvictNode { place }, 8), (Call::Renew, 0)];
+    // no query has more columns than 6 here
+    let begins = KINDS.iter().filter(|_| scene.k <= 6).map(|kind| (begin(*kind, 0, query(scene.k.min(6), ALL, 5)), 0));
+    for (call, number) in begins.chain(others) {
+        rows.push(scene.row(limit, value, call, says(if sound { number } else { 3 })));
+    }
+}
+
+/// The calls at a desk: one that is idle, the same when a read is under way there, and one that is not there.
+pub fn desks(rows: &mut Vec<Row>, k: u32) {
+    let (opened, five) = (Scene::opened(k), query(k, ALL, 5));
+    let idle = [(0, 0, 6), (11, 0, 6), (12, 4, 4), (13, 4, 4), (u32::MAX, 4, 4)].map(|numbers| (DESK, opened.clone(), numbers));
+    let busy = [(0, 5, 0), (11, 5, 0)].map(|numbers| (BUSY, opened.clone().begun(READ, numbers.0, ALL, 5), numbers));
+    for (limit, scene, (desk, begins, others)) in idle.into_iter().chain(busy) {
+        rows.extend(KINDS.map(|kind| scene.row(limit, desk, begin(kind, desk, five), says(begins))));
+        rows.extend([step(desk), abandon(desk)].map(|call| scene.row(limit, desk, call, says(others))));
+    }
+}
+
+/// The calls, accepted but for one opening; memories that are full, or a read that answers with as much as a tray must hold.
+fn calls(k: u32) -> Vec<(Scene, Call, Reply)> {
+    let full = || Scene::opened(k).records(2_048, 0).nodes(1_024, 0).answers(64);
+    let five = query(k, ALL, 5);
+    let read = Scene::opened(k).records(32, 0).begun(READ, 11, marks(k) >> 1, 7);
+    let begins = KINDS.map(|kind| (full(), begin(kind, 11, five), says(0)));
+    let others = [
+        (Scene::noise(k), Call::Open { k }, says(0)),
+        (Scene::noise(k), Call::Open { k: 5 }, says(2)),
+        // a step that does not write the tray, and one that does
+        (read.clone(), step(11), says(0)),
+        (read.steps(11, (1 << (k - 1)) + 2), step(11), from_table(32)),
+        (full().begun(INSERT, 11, ALL, 5).steps(11, 1), abandon(11), says(0)),
+        (full(), Call::EvictAnswer { place: 63 }, says(0)),
+        (full(), Call::EvictNode { place: 1_023 }, says(0)),
+        (full(), Call::Renew, says(0)),
+    ];
+    begins.into_iter().chain(others).collect()
+}
+
+pub fn lengths(rows: &mut Vec<Row>, k: u32) {
+    for (scene, call, own) in calls(k) {
+        // the tray is for a step only
+        let memories = if matches!(call, Call::Step { .. }) { 5 } else { 4 };
+        for memory in 0..memories {
+            for length in [0, LEAST[memory] - 1] {
+                let mut lent = LEAST;
+                lent[memory] = length;
+                rows.push(scene.row(LENGTHS[memory], length as u32, call, says(1)).lent(lent));
+            }
+        }
+        // this row is lent the least lengths too
+        rows.push(scene.row(LONG, 3, call, own));
+    }
+}

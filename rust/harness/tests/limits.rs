@@ -1,0 +1,123 @@
+//! Every row at a limit is as document 01 has it, for the library and for the plain twin; the rows ask for every number that a call can
+//! give, and sides that are wrong in one thing do not pass.
+
+use harness::call::KIND_NAMES;
+use harness::library::Library;
+use harness::limits::{rows, Row, MORE};
+use harness::side::{twin_with, Lent, Reply, Side, FAULTS};
+use twin::Fault;
+
+/// As many rows as crates/limits had, which these replace; it counted a number of memory that it looked up as a row.
+const ROWS_BEFORE: usize = 1_959;
+
+/// The plain twin, but something is done to its reply or to the memories after each call.
+struct Wrong<F>(F);
+
+impl<F: Fn(&mut Reply, &mut Lent)> Wrong<F> {
+    fn bent(&self, mut m: Lent, call: impl FnOnce(&dyn Side, Lent) -> Reply) -> Reply {
+        let lent = Lent { table: &mut *m.table, nodes: &mut *m.nodes, answers: &mut *m.answers, clients: &mut *m.clients };
+        let mut reply = call(twin_with(Fault::None), lent);
+        (self.0)(&mut reply, &mut m);
+        reply
+    }
+}
+
+impl<F: Fn(&mut Reply, &mut Lent)> Side for Wrong<F> {
+    fn open(&self, m: Lent, k: u32) -> Reply {
+        self.bent(m, |twin, m| twin.open(m, k))
+    }
+    fn begin_read(&self, m: Lent, client: u32, query: &[u32]) -> Reply {
+        self.bent(m, |twin, m| twin.begin_read(m, client, query))
+    }
+    fn begin_insert(&self, m: Lent, client: u32, query: &[u32]) -> Reply {
+        self.bent(m, |twin, m| twin.begin_insert(m, client, query))
+    }
+    fn begin_delete(&self, m: Lent, client: u32, query: &[u32]) -> Reply {
+        self.bent(m, |twin, m| twin.begin_delete(m, client, query))
+    }
+    fn step(&self, m: Lent, tray: &mut [u32], client: u32) -> Reply {
+        self.bent(m, |twin, m| twin.step(m, tray, client))
+    }
+    fn abandon(&self, m: Lent, client: u32) -> Reply {
+        self.bent(m, |twin, m| twin.abandon(m, client))
+    }
+    fn evict_answer(&self, m: Lent, place: u32) -> Reply {
+        self.bent(m, |twin, m| twin.evict_answer(m, place))
+    }
+    fn evict_node(&self, m: Lent, place: u32) -> Reply {
+        self.bent(m, |twin, m| twin.evict_node(m, place))
+    }
+    fn renew(&self, m: Lent) -> Reply {
+        self.bent(m, |twin, m| twin.renew(m))
+    }
+}
+
+/// That each of the rows that `concern` a wrong side, and there are some, finds it out.
+fn found_by_each(wrong: &dyn Side, concern: impl Fn(&Row) -> bool) {
+    let rows: Vec<Row> = rows().into_iter().filter(concern).collect();
+    assert!(!rows.is_empty());
+    assert!(rows.iter().all(|row| row.run(wrong).flaw.is_some()));
+}
+
+#[test]
+fn every_row_is_as_document_01_has_it() {
+    let rows = rows();
+    assert!(rows.iter().filter(|row| row.lent == MORE).count() >= ROWS_BEFORE);
+    for (good, line) in rows.iter().map(|row| row.judge(&Library, twin_with(Fault::None))) {
+        assert!(good, "{line}");
+    }
+}
+
+#[test]
+fn each_call_is_asked_for_every_number_that_it_has() {
+    let numbers: [&[u32]; 9] = [
+        &[0, 1, 2],
+        &[0, 1, 2, 3, 4, 5],
+        &[0, 1, 2, 3, 4, 5, 10],
+        &[0, 1, 2, 3, 4, 5, 10],
+        &[0, 1, 3, 4, 6, 12, 13],
+        &[0, 1, 3, 4, 6, 7],
+        &[0, 1, 3, 8],
+        &[0, 1, 3, 8, 9],
+        &[0, 1, 3, 11],
+    ];
+    for (kind, numbers) in numbers.into_iter().enumerate() {
+        let mut wanted: Vec<u32> = rows().iter().filter(|row| row.call.kind() == Some(kind)).map(|row| row.wanted.number).collect();
+        wanted.sort();
+        wanted.dedup();
+        assert_eq!(wanted, numbers, "{}", KIND_NAMES[kind]);
+    }
+    assert!((0..=4).all(|ending| rows().iter().any(|row| row.wanted.ending == ending)));
+}
+
+#[test]
+fn another_reply_is_found() {
+    for number in 0..=13 {
+        let wrong = Wrong(|reply: &mut Reply, _: &mut Lent| reply.number += (reply.number == number) as u32);
+        found_by_each(&wrong, |row| row.wanted.number == number);
+    }
+    for ending in 1..=4 {
+        let wrong = Wrong(|reply: &mut Reply, _: &mut Lent| reply.ending = if reply.ending == ending { 0 } else { reply.ending });
+        found_by_each(&wrong, |row| row.wanted.ending == ending);
+    }
+    found_by_each(&Wrong(|reply: &mut Reply, _: &mut Lent| reply.count += (reply.count == 32) as u32), |row| row.wanted.count == 32);
+}
+
+#[test]
+fn a_refusal_that_alters_a_memory_is_found() {
+    for memory in 0..4 {
+        let wrong = Wrong(|reply: &mut Reply, m: &mut Lent| {
+            let lent: &mut [u32] = [&mut *m.table, &mut *m.nodes, &mut *m.answers, &mut *m.clients][memory];
+            lent.last_mut().into_iter().for_each(|last| *last ^= (reply.number != 0) as u32);
+        });
+        found_by_each(&wrong, |row| (1..=11).contains(&row.wanted.number) && row.lent[memory] > 0);
+    }
+}
+
+#[test]
+fn each_fault_of_the_twin_is_found() {
+    for (name, fault) in FAULTS {
+        let wrong = rows().iter().filter(|row| row.run(twin_with(fault)).flaw.is_some()).count();
+        assert!(wrong > 0, "{name}");
+    }
+}
