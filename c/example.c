@@ -1,8 +1,8 @@
 /*
- * Two desks at one table, step by step. An answer to "the settings of bench 3" is filed; then desk 0 puts a correction in, and desk 1 reads
- * meanwhile. Its reads meet the correction's marks, so they pass over the filed answer and take what the table holds at that moment: the old list
- * before the correction's table step, the new one after it. When the correction has ended, the filed answer no longer holds, and the next read
- * files a new one. Leans on mondzafeky.h alone. The Rust example two_clients tells the same and prints the same.
+ * Three desks at one table, as a model for a program in C. An answer is filed and given again; a
+ * record is corrected, by a delete and an insert, step by step while other desks read; a refusal is
+ * met and named; a read of too many records and an insert into a full table come to their ends.
+ * Leans on mondzafeky.h alone. The Rust example three_desks tells the same and prints the same.
  */
 #include "mondzafeky.h"
 
@@ -12,113 +12,137 @@
 /* The columns: bench, setting. */
 #define K 2u
 
-static uint32_t table[MONDZAFEKY_TABLE_LEAST];
-static uint32_t nodes[MONDZAFEKY_NODES_LEAST];
-static uint32_t answers[MONDZAFEKY_ANSWERS_LEAST];
-static uint32_t clients[MONDZAFEKY_CLIENTS_LEAST];
-static uint32_t tray[MONDZAFEKY_TRAY_LEAST];
+static mondzafeky_hall hall;
 
-/* The four memories, as every call takes them. */
-#define MEMORIES \
-    table, MONDZAFEKY_TABLE_LEAST, nodes, MONDZAFEKY_NODES_LEAST, answers, MONDZAFEKY_ANSWERS_LEAST, clients, MONDZAFEKY_CLIENTS_LEAST
-
-/* Ends the program if a call was not accepted. */
-static void expect_accepted(const char *what, mondzafeky_reply reply)
+/* What a call replied. 12 and 13 are ends like the others: the desk is idle after them. */
+static void tell(mondzafeky_reply reply)
 {
+    uint32_t i;
     if (reply.number != MONDZAFEKY_ACCEPTED) {
-        printf("%s: refused with %u\n", what, (unsigned)reply.number);
+        printf("%s with %u, %s. %s\n", mondzafeky_refused(reply) ? "refused" : "ended",
+               reply.number, mondzafeky_name(reply.number), mondzafeky_sentence(reply.number));
+    } else if (!mondzafeky_ended(reply)) {
+        printf("under way\n");
+    } else if (reply.ending == MONDZAFEKY_CHANGED) {
+        printf("ended, the table has changed\n");
+    } else if (reply.ending == MONDZAFEKY_UNCHANGED) {
+        printf("ended, the table is as it was\n");
+    } else {
+        printf("answered from %s with %u", reply.ending == MONDZAFEKY_FROM_FILE ? "file" : "table",
+               reply.count);
+        /* the records lie in the tray until the next answer: a few of them are printed */
+        for (i = 0; i < reply.count && i < 3; i++) {
+            const uint32_t *record = mondzafeky_record(&hall, i);
+            printf("%s (%u, %u)", i == 0 ? ":" : ",", record[0], record[1]);
+        }
+        printf("%s\n", reply.count > 3 ? ", .." : "");
+    }
+}
+
+/* A call that this program cannot go on without: if it is refused, that is told, and all ends. */
+static void must(mondzafeky_reply reply)
+{
+    if (mondzafeky_refused(reply)) {
+        tell(reply);
         exit(1);
     }
 }
 
-/* The records in the tray, each as (bench, setting). */
-static void print_records(uint32_t count)
+/* The three begins, told. */
+static void begin_insert(uint32_t desk, uint32_t bench, uint32_t setting)
 {
-    uint32_t i;
-    for (i = 0; i < count; i++) {
-        printf(" (%u, %u)", (unsigned)tray[i * K], (unsigned)tray[i * K + 1]);
-    }
+    const mondzafeky_column record[K] = {mondzafeky_is(bench), mondzafeky_is(setting)};
+    printf("desk %u begins to insert (%u, %u)\n", desk, bench, setting);
+    must(mondzafeky_hall_begin_insert(&hall, desk, record, K));
 }
 
-/* One step, told in a line. client: the desk. Whether its work has ended. */
-static int step(uint32_t client, const char *work)
+static void begin_delete(uint32_t desk, uint32_t bench, uint32_t setting)
 {
-    mondzafeky_reply reply = mondzafeky_step(MEMORIES, tray, MONDZAFEKY_TRAY_LEAST, client);
-    expect_accepted(work, reply);
-    printf("  desk %u, %s: ", (unsigned)client, work);
-    switch (reply.ending) {
-    case MONDZAFEKY_FROM_FILE:
-    case MONDZAFEKY_FROM_TABLE:
-        printf("answered from the %s:", reply.ending == MONDZAFEKY_FROM_FILE ? "file" : "table");
-        print_records(reply.count);
-        printf("\n");
-        return 1;
-    case MONDZAFEKY_CHANGED:
-        printf("ended, the table has changed\n");
-        return 1;
-    case MONDZAFEKY_UNCHANGED:
-        printf("ended, the table is as it was\n");
-        return 1;
-    default:
-        printf("under way\n");
-        return 0;
-    }
+    const mondzafeky_column record[K] = {mondzafeky_is(bench), mondzafeky_is(setting)};
+    printf("desk %u begins to delete (%u, %u)\n", desk, bench, setting);
+    must(mondzafeky_hall_begin_delete(&hall, desk, record, K));
 }
 
-static void begin_insert(uint32_t client, uint32_t bench, uint32_t setting)
+/* Any setting of a bench. */
+static void begin_read(uint32_t desk, uint32_t bench)
 {
-    const uint32_t record[2 * K] = {1, bench, 1, setting};
-    printf("desk %u begins the insert of (%u, %u)\n", (unsigned)client, (unsigned)bench, (unsigned)setting);
-    expect_accepted("begin_insert", mondzafeky_begin_insert(MEMORIES, client, record, 2 * K));
+    const mondzafeky_column query[K] = {mondzafeky_is(bench), mondzafeky_star()};
+    printf("desk %u begins to read (%u, *)\n", desk, bench);
+    must(mondzafeky_hall_begin_read(&hall, desk, query, K));
 }
 
-/* Any setting of a bench: the second column is a star. */
-static void begin_read(uint32_t client, uint32_t bench)
+/* All steps up to the end, which is told. */
+static void run(uint32_t desk)
 {
-    const uint32_t query[2 * K] = {1, bench, 0, 0};
-    printf("desk %u begins the read of (%u, *)\n", (unsigned)client, (unsigned)bench);
-    expect_accepted("begin_read", mondzafeky_begin_read(MEMORIES, client, query, 2 * K));
+    printf("  desk %u: ", desk);
+    tell(mondzafeky_run(&hall, desk));
 }
 
-/* A step for each place in a row of desks: desk 0 inserts, desk 1 reads. */
+/* One step for each place in a row of desks, each told. */
 static void steps(const char *row)
 {
+    static const char *const works[4] = {"nothing", "read", "insert", "delete"};
     for (; *row != '\0'; row++) {
-        step(*row == '0' ? 0 : 1, *row == '0' ? "insert" : "read");
+        const uint32_t desk = (uint32_t)(*row - '0');
+        const uint32_t made = mondzafeky_steps(&hall, desk);
+        printf("  desk %u, %s, step %u: ", desk, works[mondzafeky_work(&hall, desk)], made + 1);
+        tell(mondzafeky_hall_step(&hall, desk));
     }
 }
 
-static void run(uint32_t client, const char *work)
+/* So many records of a bench, settings 1, 2 and so on, inserted at desk 0. */
+static void fill(uint32_t bench, uint32_t count)
 {
-    while (!step(client, work)) {
+    uint32_t setting;
+    for (setting = 1; setting <= count; setting++) {
+        const mondzafeky_column record[K] = {mondzafeky_is(bench), mondzafeky_is(setting)};
+        must(mondzafeky_hall_begin_insert(&hall, 0, record, K));
+        must(mondzafeky_run(&hall, 0));
     }
+    printf("the table holds %u records\n", mondzafeky_records(&hall));
 }
 
 int main(void)
 {
-    expect_accepted("open", mondzafeky_open(MEMORIES, K));
+    const mondzafeky_column all[K] = {mondzafeky_star(), mondzafeky_star()};
+    must(mondzafeky_hall_open(&hall, K));
+    printf("-- an answer is filed at the first read and given again at the second\n");
     begin_insert(0, 3, 40);
-    run(0, "insert");
+    run(0);
     begin_read(1, 3);
-    run(1, "read");
-    printf("-- again: the answer is filed\n");
-    begin_read(1, 3);
-    run(1, "read");
-    printf("-- a correction sets its marks; a read meanwhile\n");
-    begin_insert(0, 3, 41);
+    run(1);
+    begin_read(2, 3);
+    run(2);
+    printf("-- a correction is a delete and an insert; a read meets the delete's marks\n");
+    begin_delete(0, 3, 40);
     steps("000");
     begin_read(1, 3);
-    steps("10111");
-    printf("-- the correction reaches the table; a read between its raises\n");
-    steps("0");
+    steps("101110");
+    printf("-- the delete has reached the table, so it cannot be given up; a read sees the gap\n");
+    printf("desk 0 would abandon it: ");
+    tell(mondzafeky_hall_abandon(&hall, 0));
+    begin_read(2, 3);
+    steps("20202020");
+    printf("-- the insert closes the gap while a read is under way\n");
+    begin_insert(0, 3, 41);
+    steps("0000");
     begin_read(1, 3);
-    steps("1010101");
-    run(0, "insert");
-    printf("-- after the correction: the filed answer no longer holds\n");
+    steps("101110000");
+    printf("-- a read that begins after the insert's end sees it; its answer is filed\n");
     begin_read(1, 3);
-    run(1, "read");
-    printf("-- again: the new answer is filed\n");
-    begin_read(1, 3);
-    run(1, "read");
+    run(1);
+    begin_read(2, 3);
+    run(2);
+    printf("-- a read of more than 32 records ends with 12: read in parts\n");
+    fill(7, MONDZAFEKY_LIST);
+    printf("desk 1 begins to read (*, *)\n");
+    must(mondzafeky_hall_begin_read(&hall, 1, all, K));
+    run(1);
+    begin_read(1, 7);
+    run(1);
+    printf("-- an insert into a full table ends with 13\n");
+    fill(8, MONDZAFEKY_RECORDS - mondzafeky_records(&hall));
+    begin_insert(2, 9, 1);
+    run(2);
     return 0;
 }

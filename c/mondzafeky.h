@@ -1,25 +1,43 @@
 /*
- * mondzafeky.h: cached query answers that are never stale, for programs in C and C++.
+ * mondzafeky.h: cached query answers that are never stale, for programs in C99 and C++11 or later.
  *
- * One table of up to 2,048 records of k columns (k is 1 to 4), 64 filed answers, 1,024 revision nodes that tell which answers still hold, and 12
- * desks, which the names below call clients. Each desk has at most one read or write under way and moves it by single steps; steps of different
- * desks may be mixed in every order. docs/CALLS.md has the calls at length, docs/LAYOUT.md what stands where in the memories.
+ * One table of up to 2,048 records of k columns (k is 1 to 4), 64 filed answers, 1,024 revision
+ * nodes that tell which answers still hold, and 12 desks, which the names below call clients. Each
+ * desk has at most one read or write under way and moves it by single steps; steps of different
+ * desks may be mixed in every order. docs/CALLS.md has the calls at length, docs/LAYOUT.md what
+ * stands where in the memories, c/example.c is a whole program.
  *
- * To link: libexports.a, which `rt staticlib exports` writes to target/staticlib (x86-64 Linux). It calls memcpy, memmove and memset of the C
- * library and nothing else: no heap, no files, no state of its own, no other thread.
+ * TO LINK: tools/archive DIR puts this header, libmondzafeky.a, its sha256 and mondzafeky.pc into a
+ * folder (x86-64 Linux). Then either of
+ *     cc program.c -IDIR DIR/libmondzafeky.a
+ *     cc program.c $(PKG_CONFIG_PATH=DIR pkg-config --cflags --libs mondzafeky)
+ * The archive calls memcpy, memmove and memset of the C library and nothing else: no heap, no
+ * files, no state of its own, no other thread.
  *
- * What a caller owes at every call, and this is all:
- *   - a pointer and the length after it are a memory of that many 32-bit numbers, all of them set (to anything) before the call; the pointer is
- *     aligned as a uint32_t, and is not NULL, even where the length is 0;
- *   - a memory that is not const overlaps no other memory of the same call;
- *   - no other thread uses these memories during the call.
- * Lengths, contents, desks, places and queries may be anything: what does not fit is refused by a number. Every call returns.
+ * THE HALL: a mondzafeky_hall of yours holds all that the calls work on. It may be static, on the
+ * stack (114,112 bytes) or on the heap.
+ *     static mondzafeky_hall hall;
+ *     mondzafeky_column query[2];
+ *     mondzafeky_reply reply;
+ *     mondzafeky_hall_open(&hall, 2);
+ *     query[0] = mondzafeky_is(3);                       3 in the first column,
+ *     query[1] = mondzafeky_star();                      anything in the second
+ *     reply = mondzafeky_hall_begin_read(&hall, 0, query, 2);
+ *     if (!mondzafeky_refused(reply)) reply = mondzafeky_run(&hall, 0);
+ * The inline functions over a hall hand their arguments on to the nine calls of the archive, whose
+ * work is proved; they themselves are not proved. The nine calls stand before them, and take each
+ * memory for itself.
  *
- * What a call uses: of each memory, only numbers before its least length; of a query, its query_len numbers. A call that is refused (1 to 11)
- * leaves every number of every memory as it was. No pointer is kept after the call.
- *
- * Lend each call the same four memories, as the call before left them: the answers are promised for such a history of calls, from an accepted
- * opening on. The tray may be another at each step.
+ * WHAT YOU OWE at a call over a hall, and this is all:
+ *   - the pointer is to a hall, and all of its numbers have been set before (to anything: a static
+ *     one is 0, a heap one is set by calloc, one on the stack by "= {0}", in C++ by "= {}");
+ *   - a query is not NULL, has as many columns as you say, and does not lie in the hall;
+ *   - no other thread uses the hall during the call: one lock around each call.
+ * Desks, places, queries and the hall's contents may be anything: what does not fit is refused by a
+ * number. Every call returns, allocates nothing and keeps no pointer. A call that is refused (1 to
+ * 11) leaves every number of the hall as it was. A hall that was never opened (all 0) gives 2 at a
+ * begin (3 if its query has no column) and 3 at every other call but opening. The answers are
+ * promised for a hall that has been opened and that nothing but these calls has written into since.
  */
 #ifndef MONDZAFEKY_H
 #define MONDZAFEKY_H
@@ -27,9 +45,7 @@
 #include <stddef.h>
 #include <stdint.h>
 
-#ifdef __cplusplus
-extern "C" {
-#endif
+#define MONDZAFEKY_VERSION "0.1.0"
 
 /* The least lengths of the memories, in 32-bit numbers. */
 #define MONDZAFEKY_TABLE_LEAST 8200u
@@ -43,41 +59,69 @@ extern "C" {
 #define MONDZAFEKY_NODES 1024u
 #define MONDZAFEKY_ANSWERS 64u
 #define MONDZAFEKY_CLIENTS 12u /* the desks */
-#define MONDZAFEKY_LIST 32u /* the most records that a read lists */
+#define MONDZAFEKY_LIST 32u    /* the most records that a read lists */
 
 /* What a call answers. */
 typedef struct {
     uint32_t number; /* one of the numbers below */
-    uint32_t count;  /* how many records were answered: count * k numbers lie in the tray, from its start; 0 of all that is no answer */
+    uint32_t count;  /* how many records were answered; 0 of all that is no answer */
     uint32_t ending; /* one of the endings below */
 } mondzafeky_reply;
 
-/* Numbers. 1 to 11 are refusals: no memory is altered. The smallest that applies is given. */
+/*
+ * Numbers. 1 to 11 are refusals: no memory is altered. 12 and 13 are ends: the read or the insert
+ * is over and its desk idle. The smallest that applies is given. mondzafeky_sentence says what each
+ * means and what to do.
+ */
 #define MONDZAFEKY_ACCEPTED 0u
-#define MONDZAFEKY_SHORT 1u      /* a lent memory is below its least length */
-#define MONDZAFEKY_COLUMNS 2u    /* k not 1 to 4 at opening; not a query of k columns; an insert with a star */
-#define MONDZAFEKY_UNSOUND 3u    /* the memories hold what no call leaves there */
-#define MONDZAFEKY_NO_CLIENT 4u  /* the client, the desk, is above 11 */
-#define MONDZAFEKY_TAKEN 5u      /* a begin at a busy desk */
-#define MONDZAFEKY_IDLE 6u       /* a step or an abandoning at an idle desk */
-#define MONDZAFEKY_COMMITTED 7u  /* an abandoning of a write after its table step */
-#define MONDZAFEKY_NO_ENTRY 8u   /* no answer or node at that place */
-#define MONDZAFEKY_PENDING 9u    /* a write is pending at that node: it is marked */
-#define MONDZAFEKY_WORN 10u      /* a write begins while the floor or a counter is above 4,294,967,103: renew */
-#define MONDZAFEKY_OCCUPIED 11u  /* a renewal with a busy desk */
-#define MONDZAFEKY_LONG 12u      /* the read has ended: more than 32 records match; the tray is untouched */
-#define MONDZAFEKY_FULL 13u      /* the insert has ended: the table held 2,048 records and not this one */
+#define MONDZAFEKY_SHORT 1u     /* a lent memory is below its least length */
+#define MONDZAFEKY_COLUMNS 2u   /* k not 1 to 4; not a query of k columns; an insert with a star */
+#define MONDZAFEKY_UNSOUND 3u   /* k, a count or a filed list's length in memory is out of range,
+                                   or what stands at the desk or at its node is, or no unmarked
+                                   node can make room */
+#define MONDZAFEKY_NO_CLIENT 4u /* the client, the desk, is above 11 */
+#define MONDZAFEKY_TAKEN 5u     /* a begin at a busy desk */
+#define MONDZAFEKY_IDLE 6u      /* a step or an abandoning at an idle desk */
+#define MONDZAFEKY_COMMITTED 7u /* an abandoning of a write after its table step */
+#define MONDZAFEKY_NO_ENTRY 8u  /* no answer or node at that place */
+#define MONDZAFEKY_PENDING 9u   /* the node to put out has marks: a write is pending there */
+#define MONDZAFEKY_WORN 10u     /* a write begins while the floor or a counter is above
+                                   4,294,967,103 */
+#define MONDZAFEKY_OCCUPIED 11u /* a renewal with a busy desk */
+#define MONDZAFEKY_LONG 12u     /* the read has ended: more than 32 records match; the tray is
+                                   untouched */
+#define MONDZAFEKY_FULL 13u     /* the insert has ended: the table held 2,048 records and not
+                                   this one */
 
 /* Endings: what has ended with this call. */
-#define MONDZAFEKY_NOTHING 0u    /* nothing, or the number says what */
+#define MONDZAFEKY_NOTHING 0u    /* nothing, or the number says what (12 and 13) */
 #define MONDZAFEKY_FROM_FILE 1u  /* a read, answered with a filed answer */
 #define MONDZAFEKY_FROM_TABLE 2u /* a read, answered from the table */
 #define MONDZAFEKY_CHANGED 3u    /* a write, and it changed the table */
 #define MONDZAFEKY_UNCHANGED 4u  /* a write, and the table is as it was */
 
 /*
- * Opens a hall of k columns, 1 to 4: clears the four memories up to their least lengths, sets the floor to 1 and leaves every desk idle.
- * Refusals: 1, 2.
+ * The nine calls of the archive, each memory for itself. A program with one mondzafeky_hall needs
+ * none of them: the functions over a hall stand after them.
+ *
+ * What a caller owes here, and this is all:
+ *   - a pointer and the length after it are a memory of that many 32-bit numbers, all of them set
+ *     (to anything) before the call; the pointer is aligned as a uint32_t, and is not NULL, even
+ *     where the length is 0;
+ *   - a memory that is not const overlaps no other memory of the same call;
+ *   - no other thread uses these memories during the call.
+ * Lengths too may be anything. Of each memory a call uses only numbers before its least length; of
+ * a query, its query_len numbers. Lend each call the same four memories, as the call before left
+ * them, and in this order: memories that were exchanged may pass as sound. The tray may be another
+ * at each step.
+ */
+#ifdef __cplusplus
+extern "C" {
+#endif
+
+/*
+ * Opens a hall of k columns, 1 to 4: clears the four memories up to their least lengths, sets the
+ * floor to 1 and leaves every desk idle. Refusals: 1, 2.
  */
 mondzafeky_reply mondzafeky_open(
     uint32_t *table, size_t table_len, uint32_t *nodes, size_t nodes_len,
@@ -85,8 +129,9 @@ mondzafeky_reply mondzafeky_open(
     uint32_t k);
 
 /*
- * The three begins start a read or a write at an idle desk; they write that desk's part of the clients memory. client: the desk, 0 to 11. A query
- * has for each column two numbers, its mark and its value: mark 1 names the value, mark 0 is a star, which any value fits, and its value is 0. So
+ * The three begins start a read or a write at an idle desk; they write that desk's part of the
+ * clients memory. client: the desk, 0 to 11. A query has for each column two numbers, its mark and
+ * its value: mark 1 names the value, mark 0 is a star, which any value fits, and its value is 0. So
  * query_len is 2 * k. With k 2, "3 in the first column, anything in the second" is {1, 3, 0, 0}.
  *
  * begin_read: a read of the records that fit. It takes at most 19 steps. Refusals: 1 to 5.
@@ -96,47 +141,63 @@ mondzafeky_reply mondzafeky_begin_read(
     uint32_t *answers, size_t answers_len, uint32_t *clients, size_t clients_len,
     uint32_t client, const uint32_t *query, size_t query_len);
 
-/* begin_insert: an insert of one record; every column names its value. It takes at most 33 steps. Refusals: 1 to 5, and 10. */
+/*
+ * begin_insert: an insert of one record; every column names its value. It takes at most 33 steps.
+ * Refusals: 1 to 5, and 10.
+ */
 mondzafeky_reply mondzafeky_begin_insert(
     uint32_t *table, size_t table_len, uint32_t *nodes, size_t nodes_len,
     uint32_t *answers, size_t answers_len, uint32_t *clients, size_t clients_len,
     uint32_t client, const uint32_t *query, size_t query_len);
 
-/* begin_delete: a delete of every record that fits. It takes at most 33 steps. Refusals: 1 to 5, and 10. */
+/* begin_delete: a delete of every record that fits. At most 33 steps. Refusals: 1 to 5, and 10. */
 mondzafeky_reply mondzafeky_begin_delete(
     uint32_t *table, size_t table_len, uint32_t *nodes, size_t nodes_len,
     uint32_t *answers, size_t answers_len, uint32_t *clients, size_t clients_len,
     uint32_t client, const uint32_t *query, size_t query_len);
 
 /*
- * One step of what is under way at the desk. It may write each of the four memories. A read's answer writes count records of k numbers each from
- * the tray's start, in ascending order, and leaves the rest of the tray; other steps leave the tray. The desk is idle after an ending other than
- * 0, and after the numbers 12 and 13. Refusals: 1 (of the tray too), 3, 4, 6.
+ * One step of what is under way at the desk. It may write each of the four memories. A read's
+ * answer writes count records of k numbers each from the tray's start, in ascending order, and
+ * leaves the rest of the tray; other steps leave the tray. The desk is idle after an ending other
+ * than 0, and after the numbers 12 and 13. Refusals: 1 (of the tray too), 3, 4, 6.
  */
 mondzafeky_reply mondzafeky_step(
     uint32_t *table, size_t table_len, uint32_t *nodes, size_t nodes_len,
     uint32_t *answers, size_t answers_len, uint32_t *clients, size_t clients_len,
     uint32_t *tray, size_t tray_len, uint32_t client);
 
-/* Gives up a read, or a write before its table step, whose marks are taken back: writes nodes and clients. Refusals: 1, 3, 4, 6, 7. */
+/*
+ * Gives up a read, or a write before its table step, whose marks are taken back: writes nodes and
+ * clients. Refusals: 1, 3, 4, 6, 7.
+ */
 mondzafeky_reply mondzafeky_abandon(
     uint32_t *table, size_t table_len, uint32_t *nodes, size_t nodes_len,
     uint32_t *answers, size_t answers_len, uint32_t *clients, size_t clients_len,
     uint32_t client);
 
-/* Puts out the filed answer at a place, 0 the oldest; the rest close up. Writes answers. Refusals: 1, 3, 8. */
+/*
+ * Puts out the filed answer at a place, 0 the oldest; the rest close up. Writes answers.
+ * Refusals: 1, 3, 8.
+ */
 mondzafeky_reply mondzafeky_evict_answer(
     uint32_t *table, size_t table_len, uint32_t *nodes, size_t nodes_len,
     uint32_t *answers, size_t answers_len, uint32_t *clients, size_t clients_len,
     uint32_t place);
 
-/* Puts out the node at a place, 0 the oldest, which no write has marked; the rest close up. Writes nodes. Refusals: 1, 3, 8, 9. */
+/*
+ * Puts out the node at a place, 0 the oldest, which no write has marked; the rest close up. Writes
+ * nodes. Refusals: 1, 3, 8, 9.
+ */
 mondzafeky_reply mondzafeky_evict_node(
     uint32_t *table, size_t table_len, uint32_t *nodes, size_t nodes_len,
     uint32_t *answers, size_t answers_len, uint32_t *clients, size_t clients_len,
     uint32_t place);
 
-/* With every desk idle: empties nodes and answers and sets the floor to 1; the table stays. Refusals: 1, 3, 11. */
+/*
+ * With every desk idle: empties nodes and answers and sets the floor to 1; the table stays.
+ * Refusals: 1, 3, 11.
+ */
 mondzafeky_reply mondzafeky_renew(
     uint32_t *table, size_t table_len, uint32_t *nodes, size_t nodes_len,
     uint32_t *answers, size_t answers_len, uint32_t *clients, size_t clients_len);
@@ -144,5 +205,286 @@ mondzafeky_reply mondzafeky_renew(
 #ifdef __cplusplus
 }
 #endif
+
+/*
+ * A hall: the four memories and a tray, each at its least length, so that they are always lent in
+ * the same order and none is short.
+ *
+ * To save a hall write its first MONDZAFEKY_HALL_NUMBERS numbers, to load it read them back:
+ *     fwrite(&hall, sizeof(uint32_t), MONDZAFEKY_HALL_NUMBERS, file)
+ * That is table, nodes, answers and clients, 113,600 bytes of little-endian numbers and nothing
+ * else. The tray is not saved: it holds no more than the answer that was given last.
+ */
+typedef struct {
+    uint32_t table[MONDZAFEKY_TABLE_LEAST];
+    uint32_t nodes[MONDZAFEKY_NODES_LEAST];
+    uint32_t answers[MONDZAFEKY_ANSWERS_LEAST];
+    uint32_t clients[MONDZAFEKY_CLIENTS_LEAST];
+    uint32_t tray[MONDZAFEKY_TRAY_LEAST];
+} mondzafeky_hall;
+
+#define MONDZAFEKY_HALL_NUMBERS 28400u
+
+/* A column of a query: made by mondzafeky_is or mondzafeky_star. */
+typedef struct {
+    uint32_t mark;  /* 1 names the value, 0 is a star */
+    uint32_t value; /* 0 under a star */
+} mondzafeky_column;
+
+/* A saved hall and a query are handed on as their numbers: there must be no gap between these. */
+typedef char mondzafeky_hall_has_no_gap
+    [sizeof(mondzafeky_hall) == (MONDZAFEKY_HALL_NUMBERS + MONDZAFEKY_TRAY_LEAST) * 4u ? 1 : -1];
+typedef char mondzafeky_column_has_no_gap[sizeof(mondzafeky_column) == 8u ? 1 : -1];
+
+/* The column that names a value. */
+static inline mondzafeky_column mondzafeky_is(uint32_t value)
+{
+    mondzafeky_column column;
+    column.mark = 1u;
+    column.value = value;
+    return column;
+}
+
+/* The column that any value fits. */
+static inline mondzafeky_column mondzafeky_star(void)
+{
+    mondzafeky_column column;
+    column.mark = 0u;
+    column.value = 0u;
+    return column;
+}
+
+/* A hall's four memories, in the order in which each of the nine calls takes them. */
+#define MONDZAFEKY_MEMORIES_(hall) \
+    (hall)->table, MONDZAFEKY_TABLE_LEAST, (hall)->nodes, MONDZAFEKY_NODES_LEAST, \
+    (hall)->answers, MONDZAFEKY_ANSWERS_LEAST, (hall)->clients, MONDZAFEKY_CLIENTS_LEAST
+
+/*
+ * Opens the hall with k columns, 1 to 4: no records, no nodes, no answers, the floor 1, every desk
+ * idle. What was in it is gone. Refusal: 2.
+ */
+static inline mondzafeky_reply mondzafeky_hall_open(mondzafeky_hall *hall, uint32_t k)
+{
+    return mondzafeky_open(MONDZAFEKY_MEMORIES_(hall), k);
+}
+
+/*
+ * Begins a read of the records that fit the query, at a desk, 0 to 11. columns: how many the query
+ * has; k. It takes at most 19 steps. Refusals: 2 to 5.
+ */
+static inline mondzafeky_reply mondzafeky_hall_begin_read(
+    mondzafeky_hall *hall, uint32_t client, const mondzafeky_column *query, size_t columns)
+{
+    return mondzafeky_begin_read(MONDZAFEKY_MEMORIES_(hall), client, &query->mark, 2u * columns);
+}
+
+/* Begins an insert of one record; no column is a star. At most 33 steps. Refusals: 2 to 5, 10. */
+static inline mondzafeky_reply mondzafeky_hall_begin_insert(
+    mondzafeky_hall *hall, uint32_t client, const mondzafeky_column *query, size_t columns)
+{
+    return mondzafeky_begin_insert(MONDZAFEKY_MEMORIES_(hall), client, &query->mark, 2u * columns);
+}
+
+/* Begins a delete of all records that fit. At most 33 steps. Refusals: 2 to 5, 10. */
+static inline mondzafeky_reply mondzafeky_hall_begin_delete(
+    mondzafeky_hall *hall, uint32_t client, const mondzafeky_column *query, size_t columns)
+{
+    return mondzafeky_begin_delete(MONDZAFEKY_MEMORIES_(hall), client, &query->mark, 2u * columns);
+}
+
+/*
+ * One step of what is under way at the desk. An answer's records lie in the hall's tray, until
+ * another answer takes their place: see mondzafeky_record. Refusals: 3, 4, 6.
+ */
+static inline mondzafeky_reply mondzafeky_hall_step(mondzafeky_hall *hall, uint32_t client)
+{
+    return mondzafeky_step(
+        MONDZAFEKY_MEMORIES_(hall), hall->tray, MONDZAFEKY_TRAY_LEAST, client);
+}
+
+/* Gives up a read, or a write before its table step. Refusals: 3, 4, 6, 7. */
+static inline mondzafeky_reply mondzafeky_hall_abandon(mondzafeky_hall *hall, uint32_t client)
+{
+    return mondzafeky_abandon(MONDZAFEKY_MEMORIES_(hall), client);
+}
+
+/* Puts out the filed answer at a place, 0 the oldest. Never needed. Refusals: 3, 8. */
+static inline mondzafeky_reply mondzafeky_hall_evict_answer(mondzafeky_hall *hall, uint32_t place)
+{
+    return mondzafeky_evict_answer(MONDZAFEKY_MEMORIES_(hall), place);
+}
+
+/* Puts out the unmarked node at a place, 0 the oldest. Never needed. Refusals: 3, 8, 9. */
+static inline mondzafeky_reply mondzafeky_hall_evict_node(mondzafeky_hall *hall, uint32_t place)
+{
+    return mondzafeky_evict_node(MONDZAFEKY_MEMORIES_(hall), place);
+}
+
+/*
+ * With every desk idle: empties nodes and answers; the table stays. Needed only after a 10.
+ * Refusals: 3, 11.
+ */
+static inline mondzafeky_reply mondzafeky_hall_renew(mondzafeky_hall *hall)
+{
+    return mondzafeky_renew(MONDZAFEKY_MEMORIES_(hall));
+}
+
+#undef MONDZAFEKY_MEMORIES_
+
+/*
+ * Whether the read or write has ended with this reply of a step, by an ending or by 12 or 13. Step
+ * on until then: a loop that waits for an ending other than 0 misses 12 and 13.
+ */
+static inline int mondzafeky_ended(mondzafeky_reply reply)
+{
+    return reply.ending != MONDZAFEKY_NOTHING || reply.number == MONDZAFEKY_LONG
+        || reply.number == MONDZAFEKY_FULL;
+}
+
+/* Whether the call was refused, 1 to 11: then nothing was altered. */
+static inline int mondzafeky_refused(mondzafeky_reply reply)
+{
+    return reply.number >= MONDZAFEKY_SHORT && reply.number <= MONDZAFEKY_OCCUPIED;
+}
+
+/*
+ * Steps a desk until its read or write has ended or a step is refused, and returns that last reply.
+ * It ends whatever the hall holds: a desk's steps are counted in the hall, and a count out of range
+ * is refused.
+ */
+static inline mondzafeky_reply mondzafeky_run(mondzafeky_hall *hall, uint32_t client)
+{
+    mondzafeky_reply reply;
+    do {
+        reply = mondzafeky_hall_step(hall, client);
+    } while (!mondzafeky_ended(reply) && !mondzafeky_refused(reply));
+    return reply;
+}
+
+/* A number's word. */
+static inline const char *mondzafeky_name(uint32_t number)
+{
+    switch (number) {
+    case MONDZAFEKY_ACCEPTED: return "accepted";
+    case MONDZAFEKY_SHORT: return "short";
+    case MONDZAFEKY_COLUMNS: return "columns";
+    case MONDZAFEKY_UNSOUND: return "unsound";
+    case MONDZAFEKY_NO_CLIENT: return "no desk";
+    case MONDZAFEKY_TAKEN: return "taken";
+    case MONDZAFEKY_IDLE: return "idle";
+    case MONDZAFEKY_COMMITTED: return "committed";
+    case MONDZAFEKY_NO_ENTRY: return "no entry";
+    case MONDZAFEKY_PENDING: return "marked";
+    case MONDZAFEKY_WORN: return "worn";
+    case MONDZAFEKY_OCCUPIED: return "occupied";
+    case MONDZAFEKY_LONG: return "long";
+    case MONDZAFEKY_FULL: return "full";
+    default: return "unknown";
+    }
+}
+
+/* What a number means and what to do, in one sentence. */
+static inline const char *mondzafeky_sentence(uint32_t number)
+{
+    switch (number) {
+    case MONDZAFEKY_ACCEPTED:
+        return "The call was accepted; a read or write that it has not ended goes on by a step.";
+    case MONDZAFEKY_SHORT:
+        return "A lent memory is below its least length; lend a longer one.";
+    case MONDZAFEKY_COLUMNS:
+        return "At opening k is not 1 to 4; at a begin the query has not as many columns as the "
+               "hall, or a mark above 1, or a star with a value, or it is an insert with a star; "
+               "open the hall with 1 to 4 columns, or correct the query.";
+    case MONDZAFEKY_UNSOUND:
+        return "k, a count or a filed list's length in memory is out of range, or what stands at "
+               "the desk or at its node is, or no unmarked node can make room; open the hall, or "
+               "load what the calls last left.";
+    case MONDZAFEKY_NO_CLIENT:
+        return "The desk is above 11; name one of 0 to 11.";
+    case MONDZAFEKY_TAKEN:
+        return "The desk is busy; step its read or write to the end, or abandon it, and begin "
+               "again.";
+    case MONDZAFEKY_IDLE:
+        return "The desk is idle, so there is nothing to step or abandon; begin a read or write "
+               "there.";
+    case MONDZAFEKY_COMMITTED:
+        return "The write has made its table step and can no longer be abandoned; step it to its "
+               "end.";
+    case MONDZAFEKY_NO_ENTRY:
+        return "There is no answer or node at this place; name a place below their count.";
+    case MONDZAFEKY_PENDING:
+        return "The node has marks of writes under way; leave it until they have ended.";
+    case MONDZAFEKY_WORN:
+        return "The floor or a counter is above 4,294,967,103; renew when all desks are idle, and "
+               "begin the write again.";
+    case MONDZAFEKY_OCCUPIED:
+        return "A desk is busy; renew when all desks are idle.";
+    case MONDZAFEKY_LONG:
+        return "The read has ended without an answer, for over 32 records match; read them in "
+               "parts, naming a value in more columns.";
+    case MONDZAFEKY_FULL:
+        return "The insert has ended without inserting, for the table held 2,048 records and not "
+               "this one; delete some, and insert again.";
+    default:
+        return "No call returns this number.";
+    }
+}
+
+/*
+ * To look inside. These read the hall where docs/LAYOUT.md says, and nothing of them is proved.
+ * They return what stands there, whatever it is.
+ */
+
+/* k, the number of columns; 0 in a hall that was never opened. */
+static inline uint32_t mondzafeky_columns(const mondzafeky_hall *hall)
+{
+    return hall->clients[0];
+}
+
+/* How many records the table holds. */
+static inline uint32_t mondzafeky_records(const mondzafeky_hall *hall)
+{
+    return hall->table[0];
+}
+
+/* How many answers are filed. */
+static inline uint32_t mondzafeky_answers(const mondzafeky_hall *hall)
+{
+    return hall->answers[0];
+}
+
+/* How many nodes there are. */
+static inline uint32_t mondzafeky_nodes(const mondzafeky_hall *hall)
+{
+    return hall->nodes[1];
+}
+
+/* The floor: the counter that a missing node is added with. */
+static inline uint32_t mondzafeky_floor(const mondzafeky_hall *hall)
+{
+    return hall->nodes[0];
+}
+
+/* What is under way at the desk: 0 nothing, 1 a read, 2 an insert, 3 a delete; 0 above desk 11. */
+static inline uint32_t mondzafeky_work(const mondzafeky_hall *hall, uint32_t client)
+{
+    return client < MONDZAFEKY_CLIENTS ? hall->clients[8u + 157u * client] : 0u;
+}
+
+/* How many steps it has made; 0 above desk 11. */
+static inline uint32_t mondzafeky_steps(const mondzafeky_hall *hall, uint32_t client)
+{
+    return client < MONDZAFEKY_CLIENTS ? hall->clients[8u + 157u * client + 1u] : 0u;
+}
+
+/*
+ * Record i of the answer that lies in the tray, k numbers, for i below the reply's count. NULL
+ * where the tray has no room for a record i.
+ */
+static inline const uint32_t *mondzafeky_record(const mondzafeky_hall *hall, uint32_t i)
+{
+    const uint32_t k = mondzafeky_columns(hall);
+    return k >= 1u && k <= 4u && i < MONDZAFEKY_LIST ? hall->tray + i * k : NULL;
+}
 
 #endif

@@ -1,5 +1,5 @@
-//! Links the archive of the proved library. It is made by `rt staticlib exports`, which proves the library first; this script never makes it.
-//! `MONDZAFEKY_ARCHIVE_DIR` names another folder to take `libexports.a` from.
+//! Links the archive of the proved library, libmondzafeky.a. It is made by tools/archive, which proves the library first; this script never makes
+//! it. `MONDZAFEKY_ARCHIVE_DIR` names another folder to take it from.
 use std::env;
 use std::path::PathBuf;
 use std::process::exit;
@@ -20,17 +20,17 @@ fn main() {
     }
     let folder = match env::var_os("MONDZAFEKY_ARCHIVE_DIR") {
         Some(named) => PathBuf::from(named),
-        None => PathBuf::from(env::var_os("CARGO_MANIFEST_DIR").expect("cargo sets it")).join("../../target/staticlib"),
+        None => PathBuf::from(env::var_os("CARGO_MANIFEST_DIR").expect("cargo sets it")).join("../../target/archive"),
     };
-    let archive = folder.join("libexports.a");
+    let archive = folder.join("libmondzafeky.a");
     println!("cargo:rerun-if-changed={}", archive.display());
     if !archive.is_file() {
         fail(format!(
-            "mondzafeky: there is no archive at {}\nmake it at the repository's root by: rt staticlib exports\n\
-             or name the folder that holds libexports.a in MONDZAFEKY_ARCHIVE_DIR",
+            "mondzafeky: there is no archive at {}\nmake it at the repository's root by: tools/archive\n\
+             or name the folder that holds libmondzafeky.a in MONDZAFEKY_ARCHIVE_DIR",
             archive.display()
         ));
     }
     println!("cargo:rustc-link-search=native={}", folder.display());
-    println!("cargo:rustc-link-lib=static=exports");
+    println!("cargo:rustc-link-lib=static=mondzafeky");
 }

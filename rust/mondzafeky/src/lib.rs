@@ -4,8 +4,51 @@
 //! desks of the documents) each have at most one read or write under way and move it by single steps, mixed in every order. docs/CALLS.md has
 //! the calls, docs/LAYOUT.md what stands where in the memories.
 //!
-//! Every function takes memories of any length and contents and any arguments, and ends. What a call does to every number of every memory is
-//! proved in the library; this crate only hands the slices over. It allocates nothing.
+//! # What is promised
+//!
+//! Every read is answered with a list that was true: exactly the records that matched at some moment between the read's begin and the step that
+//! answers it, whether it came from the file or from the table, and however the steps of the desks were mixed. A read that begins after a write
+//! has ended sees that write: **begin the read after the write's end to see it**. Every read ends within 19 steps and every write within 33. What
+//! a call does to every number of every memory is proved in the library; this crate only hands the memories over.
+//!
+//! # How to call it
+//!
+//! [`Hall`] owns its memories. A call that is turned down returns a [`Refusal`], 1 to 11, and has altered nothing. **12 and 13 are ends**, not
+//! refusals: the read found more than 32 records ([`Outcome::Long`]), the insert found the table full ([`Outcome::Full`]), and the desk is idle
+//! after them as after every other end ([`Outcome::has_ended`]). A correction is a delete and an insert, and between their ends neither record
+//! is there, or both are: the caller chooses by their order.
+//!
+//! Calls are **indivisible towards each other, but not thread-safe**: steps of different desks may follow each other in any order, two calls at
+//! once on one hall may not. Where threads share a hall, put one lock (a `Mutex<Hall>`) around each call; it need not be held from a begin to
+//! its end.
+//!
+//! ```
+//! use mondzafeky::{Hall, Outcome, Query, Refusal};
+//!
+//! fn main() -> Result<(), Refusal> {
+//!     let mut hall = Hall::open(2)?;
+//!     hall.begin_insert(0, &[3, 40])?;
+//!     assert_eq!(hall.run(0)?, Outcome::Changed);
+//!
+//!     // Desk 1 reads (3, *), step by step; other desks may step in between.
+//!     hall.begin_read(1, &Query::from([Some(3), None]))?;
+//!     loop {
+//!         match hall.step(1)? {
+//!             Outcome::UnderWay => continue,
+//!             Outcome::Answered { records, from_file } => println!("{:?}, from file: {from_file}", records),
+//!             end => println!("{end}"),
+//!         }
+//!         break;
+//!     }
+//!     assert_eq!(hall.step(1), Err(Refusal::Idle));
+//!     Ok(())
+//! }
+//! ```
+//!
+//! # The low calls
+//!
+//! [`Memories`] are four memories that the caller keeps, of any length and contents; its calls take any arguments, allocate nothing, and return
+//! the three numbers that C sees. [`Hall::memories`] lends a hall's.
 //!
 //! ```
 //! let (mut table, mut nodes) = ([0; mondzafeky::TABLE_LEAST], [0; mondzafeky::NODES_LEAST]);
@@ -17,12 +60,27 @@
 //! let reply = hall.run(&mut tray, 0);
 //! assert_eq!((reply.count, reply.ending), (0, mondzafeky::ending::FROM_TABLE));
 //! ```
-#![deny(unsafe_op_in_unsafe_fn)]
+//!
+//! [`saved`] is the form in which a hall is kept in a file, [`inspect`] looks inside one; that is plain Rust and unproved, as all of this crate.
+#![deny(unsafe_code, unsafe_op_in_unsafe_fn)]
 #![warn(missing_docs)]
 
+#[allow(unsafe_code)]
 mod calls;
+mod hall;
+pub mod inspect;
+mod layout;
+mod names;
+mod outcome;
+mod query;
+mod refusal;
+pub mod saved;
 
 pub use calls::Reply;
+pub use hall::Hall;
+pub use outcome::{Outcome, Records};
+pub use query::Query;
+pub use refusal::{NoRefusal, Refusal};
 
 /// The least length of the table memory, in 32-bit numbers, as of all that follow.
 pub const TABLE_LEAST: usize = 8_200;
@@ -34,6 +92,12 @@ pub const ANSWERS_LEAST: usize = 10_000;
 pub const CLIENTS_LEAST: usize = 2_000;
 /// The least length of a tray.
 pub const TRAY_LEAST: usize = 128;
+/// The most records of a hall.
+pub const RECORDS: u32 = 2_048;
+/// The most revision nodes of a hall.
+pub const NODES: u32 = 1_024;
+/// The most filed answers of a hall.
+pub const ANSWERS: u32 = 64;
 /// How many clients, or desks, there are: 0 to 11.
 pub const CLIENTS: u32 = 12;
 /// The most records that a read lists.
@@ -41,13 +105,15 @@ pub const LIST: u32 = 32;
 
 /// The numbers that a call returns in [`Reply::number`]. 1 to 11 are refusals: no memory is altered.
 pub mod number {
+    pub use crate::names::{name, sentence};
+
     /// The call was accepted.
     pub const ACCEPTED: u32 = 0;
     /// A lent memory is below its least length.
     pub const SHORT: u32 = 1;
     /// k not 1 to 4 at opening; not a query of k columns; an insert with a star.
     pub const COLUMNS: u32 = 2;
-    /// The memories hold what no call leaves there.
+    /// k, a count or a filed list's length in memory is out of range, or what stands at the desk or at its node is.
     pub const UNSOUND: u32 = 3;
     /// The client, the desk, is above 11.
     pub const NO_CLIENT: u32 = 4;

@@ -1,0 +1,395 @@
+/*
+ * Tests of the C layer: every inline function of mondzafeky.h, on a hall that is static, on the
+ * stack and on the heap. What the calls do is proved, and tried by the harness; here it is asked
+ * that the layer hands the right memories on, in the right order, and reads a hall where
+ * docs/LAYOUT.md says. Compiled as C99 and as C++ by tools/check-c. Prints the first thing that is
+ * not as it must be and ends with status 1; prints nothing otherwise.
+ */
+#include "mondzafeky.h"
+
+#include <stdio.h>
+#include <stdlib.h>
+#include <string.h>
+
+#define ACCEPTED MONDZAFEKY_ACCEPTED
+#define NOTHING MONDZAFEKY_NOTHING
+
+/* Fails, with the place, unless the condition holds. */
+#define CHECK(condition) \
+    do { \
+        if (!(condition)) { \
+            printf("c/check.c, line %d: not so: %s\n", __LINE__, #condition); \
+            exit(1); \
+        } \
+    } while (0)
+
+/* Fails unless a reply has these three numbers. */
+#define REPLIES(call, number, count, ending) \
+    check_reply(__LINE__, #call, call, number, count, ending)
+
+static void check_reply(
+    int line, const char *call, mondzafeky_reply reply, uint32_t number, uint32_t count,
+    uint32_t ending)
+{
+    if (reply.number != number || reply.count != count || reply.ending != ending) {
+        printf("c/check.c, line %d: %s\n  replies number %u (%s), count %u, ending %u\n"
+               "  and not number %u (%s), count %u, ending %u\n",
+               line, call, reply.number, mondzafeky_name(reply.number), reply.count, reply.ending,
+               number, mondzafeky_name(number), count, ending);
+        exit(1);
+    }
+}
+
+static int same(const mondzafeky_hall *one, const mondzafeky_hall *other)
+{
+    return memcmp(one, other, sizeof *one) == 0;
+}
+
+/* ---- a reply and its words */
+
+static mondzafeky_reply reply_of(uint32_t number, uint32_t ending)
+{
+    mondzafeky_reply reply;
+    reply.number = number;
+    reply.count = 0;
+    reply.ending = ending;
+    return reply;
+}
+
+static void check_words(void)
+{
+    static const char *const words[14] = {
+        "accepted", "short", "columns", "unsound", "no desk", "taken", "idle",
+        "committed", "no entry", "marked", "worn", "occupied", "long", "full"};
+    uint32_t number, other, ending;
+    for (number = 0; number <= 13; number++) {
+        const char *sentence = mondzafeky_sentence(number);
+        const size_t length = strlen(sentence);
+        CHECK(strcmp(mondzafeky_name(number), words[number]) == 0);
+        /* one sentence: one full stop, at its end */
+        CHECK(length > 20 && strchr(sentence, '.') == sentence + length - 1);
+        CHECK(strcmp(sentence, mondzafeky_sentence(14)) != 0);
+        for (other = 0; other < number; other++) {
+            CHECK(strcmp(sentence, mondzafeky_sentence(other)) != 0);
+        }
+        CHECK(mondzafeky_refused(reply_of(number, NOTHING)) == (number >= 1 && number <= 11));
+        CHECK(mondzafeky_ended(reply_of(number, NOTHING)) == (number == 12 || number == 13));
+    }
+    for (ending = MONDZAFEKY_FROM_FILE; ending <= MONDZAFEKY_UNCHANGED; ending++) {
+        CHECK(mondzafeky_ended(reply_of(ACCEPTED, ending)));
+        CHECK(!mondzafeky_refused(reply_of(ACCEPTED, ending)));
+    }
+    CHECK(strstr(mondzafeky_sentence(MONDZAFEKY_WORN), "floor") != NULL);
+    CHECK(strstr(mondzafeky_sentence(MONDZAFEKY_WORN), "4,294,967,103") != NULL);
+    CHECK(strcmp(mondzafeky_name(14), "unknown") == 0);
+    CHECK(strcmp(mondzafeky_name(UINT32_MAX), "unknown") == 0);
+    CHECK(strcmp(mondzafeky_sentence(UINT32_MAX), mondzafeky_sentence(14)) == 0);
+    CHECK(strcmp(MONDZAFEKY_VERSION, "0.1.0") == 0);
+}
+
+static void check_columns(void)
+{
+    const mondzafeky_column is = mondzafeky_is(7), star = mondzafeky_star();
+    CHECK(is.mark == 1 && is.value == 7);
+    CHECK(star.mark == 0 && star.value == 0);
+}
+
+/* ---- a hall that was never opened */
+
+static void check_unopened(mondzafeky_hall *hall)
+{
+    static mondzafeky_hall all_zero;
+    const mondzafeky_column query[1] = {mondzafeky_is(5)};
+    memset(hall, 0, sizeof *hall);
+    REPLIES(mondzafeky_hall_begin_read(hall, 0, query, 1), MONDZAFEKY_COLUMNS, 0, NOTHING);
+    REPLIES(mondzafeky_hall_begin_insert(hall, 0, query, 1), MONDZAFEKY_COLUMNS, 0, NOTHING);
+    REPLIES(mondzafeky_hall_begin_delete(hall, 0, query, 1), MONDZAFEKY_COLUMNS, 0, NOTHING);
+    /* no columns are as many as an unopened hall has */
+    REPLIES(mondzafeky_hall_begin_read(hall, 0, query, 0), MONDZAFEKY_UNSOUND, 0, NOTHING);
+    REPLIES(mondzafeky_hall_step(hall, 0), MONDZAFEKY_UNSOUND, 0, NOTHING);
+    REPLIES(mondzafeky_run(hall, 0), MONDZAFEKY_UNSOUND, 0, NOTHING);
+    REPLIES(mondzafeky_hall_abandon(hall, 0), MONDZAFEKY_UNSOUND, 0, NOTHING);
+    REPLIES(mondzafeky_hall_evict_answer(hall, 0), MONDZAFEKY_UNSOUND, 0, NOTHING);
+    REPLIES(mondzafeky_hall_evict_node(hall, 0), MONDZAFEKY_UNSOUND, 0, NOTHING);
+    REPLIES(mondzafeky_hall_renew(hall), MONDZAFEKY_UNSOUND, 0, NOTHING);
+    CHECK(mondzafeky_columns(hall) == 0 && mondzafeky_floor(hall) == 0);
+    CHECK(mondzafeky_record(hall, 0) == NULL);
+    REPLIES(mondzafeky_hall_open(hall, 0), MONDZAFEKY_COLUMNS, 0, NOTHING);
+    REPLIES(mondzafeky_hall_open(hall, 5), MONDZAFEKY_COLUMNS, 0, NOTHING);
+    CHECK(same(hall, &all_zero));
+}
+
+/* ---- each call over a hall does what the low call does, lent the same memories */
+
+#define MEMORIES(hall) \
+    (hall)->table, MONDZAFEKY_TABLE_LEAST, (hall)->nodes, MONDZAFEKY_NODES_LEAST, \
+    (hall)->answers, MONDZAFEKY_ANSWERS_LEAST, (hall)->clients, MONDZAFEKY_CLIENTS_LEAST
+
+static mondzafeky_hall low;
+
+/* A call over the hall and the low call beside it: the same reply, the same hall. */
+static void agree(
+    int line, const mondzafeky_hall *hall, mondzafeky_reply reply, mondzafeky_reply low_reply)
+{
+    check_reply(line, "the call over a hall", reply, low_reply.number, low_reply.count,
+                low_reply.ending);
+    if (!same(hall, &low)) {
+        printf("c/check.c, line %d: the call over a hall leaves something else\n", line);
+        exit(1);
+    }
+}
+
+#define AGREE(call, low_call) agree(__LINE__, hall, call, low_call)
+
+static void check_handed_on(mondzafeky_hall *hall)
+{
+    /* three columns, two of them named: mark and value could not be exchanged unseen */
+    const mondzafeky_column query[3] = {mondzafeky_is(3), mondzafeky_star(), mondzafeky_is(9)};
+    const mondzafeky_column record[3] = {mondzafeky_is(3), mondzafeky_is(4), mondzafeky_is(9)};
+    const uint32_t query_numbers[6] = {1, 3, 0, 0, 1, 9};
+    const uint32_t record_numbers[6] = {1, 3, 1, 4, 1, 9};
+    int i;
+    memset(hall, 255, sizeof *hall);
+    memset(&low, 255, sizeof low);
+    AGREE(mondzafeky_hall_open(hall, 3), mondzafeky_open(MEMORIES(&low), 3));
+    AGREE(mondzafeky_hall_begin_insert(hall, 11, record, 3),
+          mondzafeky_begin_insert(MEMORIES(&low), 11, record_numbers, 6));
+    AGREE(mondzafeky_hall_begin_read(hall, 4, query, 3),
+          mondzafeky_begin_read(MEMORIES(&low), 4, query_numbers, 6));
+    AGREE(mondzafeky_hall_begin_read(hall, 5, query, 2),
+          mondzafeky_begin_read(MEMORIES(&low), 5, query_numbers, 4));
+    for (i = 0; i < 18; i++) {
+        AGREE(mondzafeky_hall_step(hall, 11),
+              mondzafeky_step(MEMORIES(&low), low.tray, MONDZAFEKY_TRAY_LEAST, 11));
+        AGREE(mondzafeky_hall_step(hall, 4),
+              mondzafeky_step(MEMORIES(&low), low.tray, MONDZAFEKY_TRAY_LEAST, 4));
+    }
+    AGREE(mondzafeky_hall_begin_read(hall, 0, query, 3),
+          mondzafeky_begin_read(MEMORIES(&low), 0, query_numbers, 6));
+    for (i = 0; i < 8; i++) {
+        AGREE(mondzafeky_hall_step(hall, 0),
+              mondzafeky_step(MEMORIES(&low), low.tray, MONDZAFEKY_TRAY_LEAST, 0));
+    }
+    AGREE(mondzafeky_hall_begin_delete(hall, 2, query, 3),
+          mondzafeky_begin_delete(MEMORIES(&low), 2, query_numbers, 6));
+    AGREE(mondzafeky_hall_step(hall, 2),
+          mondzafeky_step(MEMORIES(&low), low.tray, MONDZAFEKY_TRAY_LEAST, 2));
+    AGREE(mondzafeky_hall_abandon(hall, 2), mondzafeky_abandon(MEMORIES(&low), 2));
+    AGREE(mondzafeky_hall_evict_answer(hall, 0), mondzafeky_evict_answer(MEMORIES(&low), 0));
+    AGREE(mondzafeky_hall_evict_node(hall, 1), mondzafeky_evict_node(MEMORIES(&low), 1));
+    AGREE(mondzafeky_hall_renew(hall), mondzafeky_renew(MEMORIES(&low)));
+    CHECK(mondzafeky_records(hall) == 1);
+}
+
+/* ---- a hall of two columns: ends, refusals, what is inside */
+
+static mondzafeky_reply write_of(
+    mondzafeky_hall *hall, uint32_t client, int inserts, uint32_t first, uint32_t second)
+{
+    const mondzafeky_column record[2] = {mondzafeky_is(first), mondzafeky_is(second)};
+    const mondzafeky_reply begun = inserts
+        ? mondzafeky_hall_begin_insert(hall, client, record, 2)
+        : mondzafeky_hall_begin_delete(hall, client, record, 2);
+    return mondzafeky_refused(begun) ? begun : mondzafeky_run(hall, client);
+}
+
+static mondzafeky_reply begin_read(mondzafeky_hall *hall, uint32_t client, uint32_t first)
+{
+    const mondzafeky_column query[2] = {mondzafeky_is(first), mondzafeky_star()};
+    return mondzafeky_hall_begin_read(hall, client, query, 2);
+}
+
+static mondzafeky_reply read_of(mondzafeky_hall *hall, uint32_t client, uint32_t first)
+{
+    const mondzafeky_reply begun = begin_read(hall, client, first);
+    return mondzafeky_refused(begun) ? begun : mondzafeky_run(hall, client);
+}
+
+static void steps(mondzafeky_hall *hall, uint32_t client, int count)
+{
+    for (; count > 0; count--) {
+        REPLIES(mondzafeky_hall_step(hall, client), ACCEPTED, 0, NOTHING);
+    }
+}
+
+/* Every way in which a run ends: the four endings, 12, 13, refusals. */
+static void check_ends(mondzafeky_hall *hall)
+{
+    const mondzafeky_column all[2] = {mondzafeky_star(), mondzafeky_star()};
+    uint32_t i;
+    REPLIES(mondzafeky_hall_open(hall, 2), ACCEPTED, 0, NOTHING);
+    CHECK(mondzafeky_columns(hall) == 2);
+    REPLIES(write_of(hall, 0, 1, 3, 41), ACCEPTED, 0, MONDZAFEKY_CHANGED);
+    REPLIES(write_of(hall, 0, 1, 3, 40), ACCEPTED, 0, MONDZAFEKY_CHANGED);
+    REPLIES(write_of(hall, 1, 1, 3, 40), ACCEPTED, 0, MONDZAFEKY_UNCHANGED);
+    REPLIES(read_of(hall, 11, 3), ACCEPTED, 2, MONDZAFEKY_FROM_TABLE);
+    REPLIES(read_of(hall, 2, 3), ACCEPTED, 2, MONDZAFEKY_FROM_FILE);
+    CHECK(mondzafeky_record(hall, 0)[0] == 3 && mondzafeky_record(hall, 0)[1] == 40);
+    CHECK(mondzafeky_record(hall, 1)[0] == 3 && mondzafeky_record(hall, 1)[1] == 41);
+    CHECK(mondzafeky_record(hall, 31) == hall->tray + 62);
+    CHECK(mondzafeky_record(hall, 32) == NULL);
+    REPLIES(write_of(hall, 0, 0, 3, 40), ACCEPTED, 0, MONDZAFEKY_CHANGED);
+    REPLIES(write_of(hall, 0, 0, 3, 40), ACCEPTED, 0, MONDZAFEKY_UNCHANGED);
+    REPLIES(mondzafeky_run(hall, 0), MONDZAFEKY_IDLE, 0, NOTHING);
+    REPLIES(mondzafeky_run(hall, 12), MONDZAFEKY_NO_CLIENT, 0, NOTHING);
+    REPLIES(mondzafeky_run(hall, UINT32_MAX), MONDZAFEKY_NO_CLIENT, 0, NOTHING);
+    for (i = 0; i < 32; i++) {
+        REPLIES(write_of(hall, 0, 1, 7, i), ACCEPTED, 0, MONDZAFEKY_CHANGED);
+    }
+    REPLIES(read_of(hall, 1, 7), ACCEPTED, 32, MONDZAFEKY_FROM_TABLE);
+    CHECK(mondzafeky_record(hall, 31)[1] == 31);
+    REPLIES(mondzafeky_hall_begin_read(hall, 1, all, 2), ACCEPTED, 0, NOTHING);
+    REPLIES(mondzafeky_run(hall, 1), MONDZAFEKY_LONG, 0, NOTHING);
+    CHECK(mondzafeky_work(hall, 1) == 0);
+    for (i = 33; i < MONDZAFEKY_RECORDS; i++) {
+        REPLIES(write_of(hall, 0, 1, 8, i), ACCEPTED, 0, MONDZAFEKY_CHANGED);
+    }
+    CHECK(mondzafeky_records(hall) == MONDZAFEKY_RECORDS);
+    REPLIES(write_of(hall, 0, 1, 9, 1), MONDZAFEKY_FULL, 0, NOTHING);
+    CHECK(mondzafeky_work(hall, 0) == 0);
+    REPLIES(write_of(hall, 0, 1, 7, 0), ACCEPTED, 0, MONDZAFEKY_UNCHANGED);
+}
+
+/* Every refusal, the hall as it was after each. */
+static void check_refusals(mondzafeky_hall *hall)
+{
+    static mondzafeky_hall before;
+    mondzafeky_column query[2];
+    REPLIES(mondzafeky_hall_open(hall, 2), ACCEPTED, 0, NOTHING);
+    /* a write before its table step, one after it, a filed answer, marked nodes from place 2 on */
+    REPLIES(read_of(hall, 5, 1), ACCEPTED, 0, MONDZAFEKY_FROM_TABLE);
+    query[0] = mondzafeky_is(2);
+    query[1] = mondzafeky_is(3);
+    REPLIES(mondzafeky_hall_begin_insert(hall, 0, query, 2), ACCEPTED, 0, NOTHING);
+    REPLIES(mondzafeky_hall_begin_insert(hall, 1, query, 2), ACCEPTED, 0, NOTHING);
+    steps(hall, 0, 3);
+    steps(hall, 1, 5);
+    before = *hall;
+    REPLIES(mondzafeky_open(hall->table, MONDZAFEKY_TABLE_LEAST - 1, hall->nodes,
+                            MONDZAFEKY_NODES_LEAST, hall->answers, MONDZAFEKY_ANSWERS_LEAST,
+                            hall->clients, MONDZAFEKY_CLIENTS_LEAST, 2),
+            MONDZAFEKY_SHORT, 0, NOTHING);
+    REPLIES(mondzafeky_hall_begin_read(hall, 2, query, 1), MONDZAFEKY_COLUMNS, 0, NOTHING);
+    REPLIES(begin_read(hall, 12, 1), MONDZAFEKY_NO_CLIENT, 0, NOTHING);
+    REPLIES(begin_read(hall, 0, 1), MONDZAFEKY_TAKEN, 0, NOTHING);
+    REPLIES(mondzafeky_hall_step(hall, 2), MONDZAFEKY_IDLE, 0, NOTHING);
+    REPLIES(mondzafeky_hall_abandon(hall, 2), MONDZAFEKY_IDLE, 0, NOTHING);
+    REPLIES(mondzafeky_hall_abandon(hall, 1), MONDZAFEKY_COMMITTED, 0, NOTHING);
+    REPLIES(mondzafeky_hall_evict_answer(hall, 1), MONDZAFEKY_NO_ENTRY, 0, NOTHING);
+    REPLIES(mondzafeky_hall_evict_node(hall, 6), MONDZAFEKY_NO_ENTRY, 0, NOTHING);
+    REPLIES(mondzafeky_hall_evict_node(hall, 2), MONDZAFEKY_PENDING, 0, NOTHING);
+    REPLIES(mondzafeky_hall_renew(hall), MONDZAFEKY_OCCUPIED, 0, NOTHING);
+    query[1] = mondzafeky_star();
+    REPLIES(mondzafeky_hall_begin_insert(hall, 2, query, 2), MONDZAFEKY_COLUMNS, 0, NOTHING);
+    query[1].value = 1;
+    REPLIES(mondzafeky_hall_begin_delete(hall, 2, query, 2), MONDZAFEKY_COLUMNS, 0, NOTHING);
+    CHECK(same(hall, &before));
+    /* the nodes are gone, by something else than a call: the first raise of a run finds none */
+    hall->nodes[1] = 0;
+    before = *hall;
+    REPLIES(mondzafeky_run(hall, 1), MONDZAFEKY_UNSOUND, 0, NOTHING);
+    CHECK(same(hall, &before));
+    /* desk 0 still makes its last mark, at a node added, and its table step; then it is refused */
+    REPLIES(mondzafeky_run(hall, 0), MONDZAFEKY_UNSOUND, 0, NOTHING);
+    CHECK(mondzafeky_steps(hall, 0) == 5);
+    REPLIES(mondzafeky_hall_open(hall, 2), ACCEPTED, 0, NOTHING);
+    hall->nodes[0] = 4294967103u;
+    REPLIES(write_of(hall, 0, 1, 1, 1), ACCEPTED, 0, MONDZAFEKY_CHANGED);
+    REPLIES(write_of(hall, 0, 1, 1, 2), MONDZAFEKY_WORN, 0, NOTHING);
+    REPLIES(mondzafeky_hall_renew(hall), ACCEPTED, 0, NOTHING);
+    REPLIES(write_of(hall, 0, 1, 1, 2), ACCEPTED, 0, MONDZAFEKY_CHANGED);
+}
+
+/* What is inside after a few calls, each number another. */
+static void check_inside(mondzafeky_hall *hall)
+{
+    const mondzafeky_column record[2] = {mondzafeky_is(1), mondzafeky_is(1)};
+    uint32_t client;
+    REPLIES(mondzafeky_hall_open(hall, 2), ACCEPTED, 0, NOTHING);
+    CHECK(mondzafeky_columns(hall) == 2 && mondzafeky_floor(hall) == 1);
+    CHECK(mondzafeky_records(hall) == 0 && mondzafeky_answers(hall) == 0);
+    CHECK(mondzafeky_nodes(hall) == 0);
+    REPLIES(write_of(hall, 0, 1, 1, 1), ACCEPTED, 0, MONDZAFEKY_CHANGED);
+    REPLIES(write_of(hall, 0, 1, 1, 2), ACCEPTED, 0, MONDZAFEKY_CHANGED);
+    REPLIES(write_of(hall, 0, 1, 1, 3), ACCEPTED, 0, MONDZAFEKY_CHANGED);
+    REPLIES(read_of(hall, 0, 1), ACCEPTED, 3, MONDZAFEKY_FROM_TABLE);
+    REPLIES(read_of(hall, 0, 5), ACCEPTED, 0, MONDZAFEKY_FROM_TABLE);
+    CHECK(mondzafeky_columns(hall) == 2 && mondzafeky_floor(hall) == 1);
+    CHECK(mondzafeky_records(hall) == 3 && mondzafeky_answers(hall) == 2);
+    /* three each of (1, x) and (*, x), and (1, *), (*, *), (?, *), (5, *) */
+    CHECK(mondzafeky_nodes(hall) == 10);
+    /* (1, *), marked and raised by three inserts, goes at 4 */
+    REPLIES(mondzafeky_hall_evict_node(hall, 2), ACCEPTED, 0, NOTHING);
+    CHECK(mondzafeky_nodes(hall) == 9 && mondzafeky_floor(hall) == 4);
+    REPLIES(mondzafeky_hall_evict_answer(hall, 0), ACCEPTED, 0, NOTHING);
+    CHECK(mondzafeky_answers(hall) == 1);
+    REPLIES(begin_read(hall, 1, 1), ACCEPTED, 0, NOTHING);
+    steps(hall, 1, 1);
+    REPLIES(mondzafeky_hall_begin_insert(hall, 4, record, 2), ACCEPTED, 0, NOTHING);
+    steps(hall, 4, 4);
+    REPLIES(mondzafeky_hall_begin_delete(hall, 11, record, 2), ACCEPTED, 0, NOTHING);
+    steps(hall, 11, 7);
+    for (client = 0; client < 14; client++) {
+        const uint32_t work = client == 1 ? 1 : client == 4 ? 2 : client == 11 ? 3 : 0;
+        const uint32_t made = client == 1 ? 1 : client == 4 ? 4 : client == 11 ? 7 : 0;
+        CHECK(mondzafeky_work(hall, client) == work);
+        CHECK(mondzafeky_steps(hall, client) == made);
+    }
+    CHECK(mondzafeky_work(hall, UINT32_MAX) == 0 && mondzafeky_steps(hall, UINT32_MAX) == 0);
+    REPLIES(mondzafeky_hall_abandon(hall, 1), ACCEPTED, 0, NOTHING);
+    CHECK(mondzafeky_work(hall, 1) == 0 && mondzafeky_steps(hall, 1) == 0);
+    CHECK(mondzafeky_records(hall) == 2);
+}
+
+/*
+ * Saved with works under way, as check_inside leaves them, and loaded into another hall: both go on
+ * alike.
+ */
+static void check_saved(mondzafeky_hall *hall)
+{
+    static mondzafeky_hall loaded;
+    FILE *file = tmpfile();
+    REPLIES(begin_read(hall, 3, 1), ACCEPTED, 0, NOTHING);
+    steps(hall, 3, 2);
+    CHECK(file != NULL);
+    CHECK(fwrite(hall, sizeof(uint32_t), MONDZAFEKY_HALL_NUMBERS, file) == 28400);
+    CHECK(ftell(file) == 113600);
+    rewind(file);
+    memset(&loaded, 255, sizeof loaded);
+    CHECK(fread(&loaded, sizeof(uint32_t), MONDZAFEKY_HALL_NUMBERS, file) == 28400);
+    fclose(file);
+    CHECK(memcmp(hall, &loaded, 113600) == 0);
+    CHECK(loaded.tray[0] == UINT32_MAX);
+    REPLIES(mondzafeky_run(hall, 3), ACCEPTED, 2, MONDZAFEKY_FROM_TABLE);
+    REPLIES(mondzafeky_run(&loaded, 3), ACCEPTED, 2, MONDZAFEKY_FROM_TABLE);
+    CHECK(memcmp(hall, &loaded, 113600) == 0);
+    CHECK(mondzafeky_record(&loaded, 1)[1] == 3);
+    CHECK(loaded.tray[4] == UINT32_MAX);
+}
+
+static void check_hall(mondzafeky_hall *hall)
+{
+    check_unopened(hall);
+    check_handed_on(hall);
+    check_ends(hall);
+    check_refusals(hall);
+    check_inside(hall);
+    check_saved(hall);
+}
+
+static mondzafeky_hall static_hall;
+
+int main(void)
+{
+    mondzafeky_hall stack_hall = {{0}, {0}, {0}, {0}, {0}};
+    mondzafeky_hall *heap_hall = (mondzafeky_hall *)calloc(1, sizeof *heap_hall);
+    CHECK(heap_hall != NULL);
+    CHECK(sizeof(mondzafeky_hall) == 28528 * sizeof(uint32_t));
+    check_words();
+    check_columns();
+    check_hall(&static_hall);
+    check_hall(&stack_hall);
+    check_hall(heap_hall);
+    free(heap_hall);
+    return 0;
+}

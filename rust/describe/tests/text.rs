@@ -1,0 +1,167 @@
+//! The description of a saved hall: the whole text of a busy one; wrong lengths, corrupt contents and an unopened hall with the numbers that calls
+//! give; bytes of any kind and length.
+use describe::describe;
+use mondzafeky::{number, saved, Hall, Outcome, TRAY_LEAST};
+
+/// Two records and a filed answer to (3, *); desk 0 is about to raise, desk 11 looks.
+fn busy_hall() -> Hall {
+    let mut hall = Hall::open(2).unwrap();
+    hall.begin_insert(0, &[3, 40]).unwrap();
+    assert_eq!(hall.run(0), Ok(Outcome::Changed));
+    hall.begin_read(1, &[Some(3), None].into()).unwrap();
+    assert!(hall.run(1).unwrap().has_ended());
+    hall.begin_insert(0, &[3, 41]).unwrap();
+    hall.begin_read(11, &[Some(3), None].into()).unwrap();
+    for client in [0, 0, 0, 0, 0, 11] {
+        assert_eq!(hall.step(client), Ok(Outcome::UnderWay));
+    }
+    hall
+}
+
+const BUSY: &str = "\
+a saved hall, 113,600 bytes
+
+Sizes
+  k        2
+  records  2 of 2,048
+  nodes    7 of 1,024, 4 marked
+  answers  1 of 64
+  floor    1
+
+Desks
+  desk 0: insert of (3, 41), 5 of 9 steps made, next: raise 1 of 4; it has changed the table
+  desk 11: read of (3, *), 1 of 5 steps made, next: look 2 of 2; a look has seen a mark; revisions noted: 2
+  the other 10 are idle
+
+Calls, tried on copies
+  a renewal would give 11, occupied
+  a step at desk 0 would give 0, accepted
+  a step at desk 11 would give 0, accepted
+  a step at any other desk would give 6, idle
+  a write begun at desk 1 would give 0, accepted
+
+Marked nodes, oldest first (all with --all)
+  2: (3, *)  counter 2  marks 1
+  3: (*, *)  counter 2  marks 1
+  5: (3, 41)  counter 1  marks 1
+  6: (*, 41)  counter 1  marks 1
+
+Answers, oldest first
+  0: (3, *)  revisions 2 1  1 record
+
+Records
+  0: (3, 40)
+  1: (3, 41)
+";
+
+#[test]
+fn a_busy_hall() {
+    assert_eq!(describe(&busy_hall().to_bytes(), false), BUSY);
+    let all = describe(&busy_hall().to_bytes(), true);
+    for line in ["Nodes, oldest first\n  0: (3, 40)  counter 2  marks 0\n", "\n  4: (?, *)  counter 1  marks 0\n", "  1 record: (3, 40)\n"] {
+        assert!(all.contains(line), "{line}: {all}");
+    }
+}
+
+#[test]
+fn a_new_hall_and_a_long_table() {
+    let mut hall = Hall::open(1).unwrap();
+    let text = describe(&hall.to_bytes(), true);
+    for line in ["  all 12 are idle\n", "  a renewal would give 0, accepted\n  a step at any desk would give 6, idle\n", "Records\n  none\n"] {
+        assert!(text.contains(line), "{line}: {text}");
+    }
+    for value in 0..20 {
+        hall.begin_insert(3, &[value]).unwrap();
+        assert_eq!(hall.run(3), Ok(Outcome::Changed));
+    }
+    assert!(describe(&hall.to_bytes(), false).ends_with("  15: (15)\n  and 4 more (all with --all)\n"));
+    assert!(describe(&hall.to_bytes(), true).ends_with("  18: (18)\n  19: (19)\n"));
+}
+
+/// One number of a busy hall altered, by its place in the saved form, and what is said then.
+#[test]
+fn corrupt_halls_are_told_with_the_numbers_that_calls_give() {
+    let desk_11 = 26_408 + 11 * 157;
+    let cases: [(usize, u32, &[&str]); 10] = [
+        (
+            26_400,
+            7,
+            &[
+                "k        k out of range: 7, wanted 1 to 4 (clients memory, place 0)",
+                "  desks 0 11: k out of range: 7",
+                "any desk would give 3, unsound",
+            ],
+        ),
+        (26_400, 2 << 24, &["with the highest byte first k would be 2"]),
+        (0, 2_049, &["records  the number of records out of range: 2049", "a renewal would give 3, unsound"]),
+        (0, 3, &["2: (0, 0)  NOT ASCENDING"]),
+        (11, 40, &["0: (3, 40)\n  1: (3, 40)  NOT ASCENDING"]),
+        (8_201, 1_025, &["nodes    the number of nodes out of range: 1025", "a renewal would give 3, unsound"]),
+        (16_415, 33, &["0: (3, *)  revisions 2 1  the list's length out of range: 33", "a step at any desk would give 3, unsound"]),
+        (desk_11, 9, &["desk 11: the kind of a busy desk out of range: 9", "a step at desk 11 would give 3, unsound", "at desk 0 would give 0, acc"]),
+        (8_200, u32::MAX, &["floor    4294967295", "a write begun at desk 1 would give 10, worn"]),
+        (8_208 + 16, 9, &["2: no label: the label's tags out of range: 9", "counter 2  marks 1"]),
+    ];
+    for (place, number, said) in cases {
+        let mut numbers = saved::numbers_of(&busy_hall().to_bytes());
+        numbers[place] = number;
+        let text = describe(&saved::bytes_of(&numbers), false);
+        for words in said {
+            assert!(text.contains(words), "{words}: {text}");
+        }
+    }
+}
+
+#[test]
+fn wrong_lengths_are_described_as_far_as_they_go() {
+    let bytes = busy_hall().to_bytes();
+    let short = describe(&bytes[..50_002], false);
+    for words in [
+        "WRONG LENGTH, 50002 bytes; a saved hall has 113,600",
+        "left out at its end: 2 of the 4 bytes of a number",
+        "records  2 of 2,048",
+        "  2: (3, *)  counter 2  marks 1\n",
+        "give 1, short",
+    ] {
+        assert!(short.contains(words), "{words}: {short}");
+    }
+    let long = describe(&[&bytes[..], &[1]].concat(), false);
+    assert!(long.starts_with("WRONG LENGTH, more than 113,600 bytes") && long.ends_with(BUSY.split_once('\n').unwrap().1));
+    assert!(describe(&[], false).contains("a step at any desk would give 1, short"));
+}
+
+#[test]
+fn an_unopened_hall() {
+    let text = describe(&vec![0; saved::BYTES], false);
+    assert!(text.contains("k is 0 before the opening: a begin would give 2, columns") && text.contains("a renewal would give 3, unsound"), "{text}");
+}
+
+fn any(state: &mut u64) -> u32 {
+    *state = state.wrapping_mul(6_364_136_223_846_793_005).wrapping_add(1_442_695_040_888_963_407);
+    (*state >> 33) as u32
+}
+
+/// Random bytes of random lengths, and busy halls with random numbers put in: nothing panics, and each number told is the one that the call gives.
+#[test]
+fn bytes_of_any_kind_and_length() {
+    let (sound, mut state) = (busy_hall().to_bytes(), 13);
+    for round in 0..300 {
+        let mut bytes: Vec<u8> = match round % 3 {
+            0 => (0..any(&mut state) % 120_000).map(|_| any(&mut state) as u8).collect(),
+            1 => (0..saved::BYTES).map(|i| if i % 4 == 0 { (any(&mut state) % 5) as u8 } else { 0 }).collect(),
+            _ => sound.clone(),
+        };
+        for _ in 0..any(&mut state) % 8 {
+            let place = (any(&mut state) as usize % 28_400) * 4;
+            let place = [place, 0, 32_804, 65_600, 105_600, 105_632, 105_636, 112_540][any(&mut state) as usize % 8];
+            bytes.iter_mut().skip(place).take(1).for_each(|byte| *byte = any(&mut state) as u8);
+        }
+        let text = describe(&bytes, round % 2 == 0);
+        let mut numbers = saved::numbers_of(&bytes);
+        let step = saved::memories(&mut numbers.clone()).step(&mut [0; TRAY_LEAST], 11).number;
+        let renewal = saved::memories(&mut numbers).renew().number;
+        assert!(text.contains(&format!("a renewal would give {renewal}, {}\n", number::name(renewal))), "{text}");
+        let told = ["at desk 11", "at any desk", "at any other desk"].map(|at| format!("a step {at} would give {step}, {}", number::name(step)));
+        assert!(told.iter().any(|words| text.contains(words)), "{step}: {text}");
+    }
+}

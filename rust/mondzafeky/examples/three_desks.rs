@@ -1,0 +1,127 @@
+//! Three desks at one table, as a model for a program in Rust. An answer is filed and given again; a record is corrected, by a delete and an
+//! insert, step by step while other desks read; a refusal is met and named; a read of too many records and an insert into a full table come to
+//! their ends. Leans on the crate alone. The C example tells the same and prints the same.
+use mondzafeky::{number, Hall, Outcome, Query, Refusal, LIST};
+
+/// The most records of a table.
+const RECORDS: u32 = 2_048;
+
+/// What a call replied. 12 and 13 are ends like the others: the desk is idle after them.
+fn tell(replied: Result<Outcome, Refusal>) {
+    let numbered = |how: &str, n: u32| println!("{how} with {n}, {}. {}", number::name(n), number::sentence(n));
+    match replied {
+        Ok(Outcome::Answered { records, from_file }) => {
+            let (place, count) = (if from_file { "file" } else { "table" }, records.len());
+            // the records lie in the tray until the next answer: a few of them are printed
+            let few: Vec<String> = records.take(3).map(|record| format!(" ({}, {})", record[0], record[1])).collect();
+            let colon = if few.is_empty() { "" } else { ":" };
+            println!("answered from {place} with {count}{colon}{}{}", few.join(","), if count > 3 { ", .." } else { "" });
+        }
+        Ok(Outcome::Long) => numbered("ended", number::LONG),
+        Ok(Outcome::Full) => numbered("ended", number::FULL),
+        Ok(other) => println!("{other}"),
+        Err(refusal) => numbered("refused", refusal.number()),
+    }
+}
+
+fn begin_insert(hall: &mut Hall, desk: u32, record: [u32; 2]) -> Result<(), Refusal> {
+    println!("desk {desk} begins to insert ({}, {})", record[0], record[1]);
+    hall.begin_insert(desk, &record)
+}
+
+fn begin_delete(hall: &mut Hall, desk: u32, record: [u32; 2]) -> Result<(), Refusal> {
+    println!("desk {desk} begins to delete ({}, {})", record[0], record[1]);
+    hall.begin_delete(desk, &Query::of_record(&record))
+}
+
+/// Any setting of a bench.
+fn begin_read(hall: &mut Hall, desk: u32, bench: u32) -> Result<(), Refusal> {
+    println!("desk {desk} begins to read ({bench}, *)");
+    hall.begin_read(desk, &Query::from([Some(bench), None]))
+}
+
+/// All steps up to the end, which is told.
+fn run(hall: &mut Hall, desk: u32) {
+    print!("  desk {desk}: ");
+    tell(hall.run(desk));
+}
+
+/// What is under way at a desk, and how many steps it has made.
+fn work(hall: &Hall, desk: u32) -> (String, u32) {
+    match hall.inspect().work(desk) {
+        Ok(Some(work)) => (work.kind.to_string(), work.steps),
+        _ => ("nothing".to_string(), 0),
+    }
+}
+
+/// One step for each place in a row of desks, each told.
+fn steps(hall: &mut Hall, row: &[u32]) {
+    for &desk in row {
+        let (work, made) = work(hall, desk);
+        print!("  desk {desk}, {work}, step {}: ", made + 1);
+        tell(hall.step(desk));
+    }
+}
+
+/// So many records of a bench, settings 1, 2 and so on, inserted at desk 0.
+fn fill(hall: &mut Hall, bench: u32, count: u32) -> Result<(), Refusal> {
+    for setting in 1..=count {
+        hall.begin_insert(0, &[bench, setting])?;
+        let _ = hall.run(0)?;
+    }
+    println!("the table holds {} records", held(hall));
+    Ok(())
+}
+
+fn held(hall: &Hall) -> u32 {
+    hall.inspect().record_count().unwrap_or(0)
+}
+
+fn main() -> Result<(), Refusal> {
+    let mut hall = Hall::open(2)?; // the columns: bench, setting
+    println!("-- an answer is filed at the first read and given again at the second");
+    begin_insert(&mut hall, 0, [3, 40])?;
+    run(&mut hall, 0);
+    for desk in [1, 2] {
+        begin_read(&mut hall, desk, 3)?;
+        run(&mut hall, desk);
+    }
+    println!("-- a correction is a delete and an insert; a read meets the delete's marks");
+    begin_delete(&mut hall, 0, [3, 40])?;
+    steps(&mut hall, &[0, 0, 0]);
+    begin_read(&mut hall, 1, 3)?;
+    steps(&mut hall, &[1, 0, 1, 1, 1, 0]);
+    println!("-- the delete has reached the table, so it cannot be given up; a read sees the gap");
+    print!("desk 0 would abandon it: ");
+    tell(hall.abandon(0).map(|()| Outcome::UnderWay));
+    begin_read(&mut hall, 2, 3)?;
+    steps(&mut hall, &[2, 0, 2, 0, 2, 0, 2, 0]);
+    println!("-- the insert closes the gap while a read is under way");
+    begin_insert(&mut hall, 0, [3, 41])?;
+    steps(&mut hall, &[0, 0, 0, 0]);
+    begin_read(&mut hall, 1, 3)?;
+    steps(&mut hall, &[1, 0, 1, 1, 1, 0, 0, 0, 0]);
+    println!("-- a read that begins after the insert's end sees it; its answer is filed");
+    for desk in [1, 2] {
+        begin_read(&mut hall, desk, 3)?;
+        run(&mut hall, desk);
+    }
+    ends(&mut hall)
+}
+
+/// 12 and 13.
+fn ends(hall: &mut Hall) -> Result<(), Refusal> {
+    println!("-- a read of more than 32 records ends with 12: read in parts");
+    fill(hall, 7, LIST)?;
+    println!("desk 1 begins to read (*, *)");
+    hall.begin_read(1, &Query::from([None, None]))?;
+    run(hall, 1);
+    begin_read(hall, 1, 7)?;
+    run(hall, 1);
+    println!("-- an insert into a full table ends with 13");
+    let left = RECORDS - held(hall);
+    fill(hall, 8, left)?;
+    begin_insert(hall, 2, [9, 1])?;
+    run(hall, 2);
+    Ok(())
+}

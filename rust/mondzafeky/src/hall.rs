@@ -1,0 +1,154 @@
+//! A hall that owns its memories and its tray, so that no memory can be exchanged for another and a call has only what it is about. Thin over the
+//! low calls of `Memories`: each method is one of them, with its reply as a `Result`. Leans on saved, outcome, query and inspect.
+use crate::inspect::Inspect;
+use crate::outcome::accepted;
+use crate::saved::{self, WrongLength};
+use crate::{layout, Memories, Outcome, Query, Refusal, Reply, TRAY_LEAST};
+use std::fmt;
+
+/// An opened hall: one table of records of k columns, the filed answers, the revision nodes, and twelve clients, the desks, 0 to 11.
+///
+/// ```
+/// # fn main() -> Result<(), mondzafeky::Refusal> {
+/// use mondzafeky::{Hall, Outcome, Query};
+/// let mut hall = Hall::open(2)?;
+/// hall.begin_insert(0, &[3, 40])?;
+/// assert_eq!(hall.run(0)?, Outcome::Changed);
+/// hall.begin_read(1, &Query::from([Some(3), None]))?;
+/// match hall.run(1)? {
+///     Outcome::Answered { records, .. } => assert_eq!(records.collect::<Vec<_>>(), [[3, 40]]),
+///     other => println!("{other}"),
+/// }
+/// # Ok(())
+/// # }
+/// ```
+#[derive(Clone)]
+pub struct Hall {
+    /// The four memories one after another, as they are saved.
+    numbers: Box<[u32]>,
+    tray: Box<[u32]>,
+}
+
+impl Hall {
+    /// Opens a hall of `k` columns, 1 to 4: no records, no nodes, no answers, every desk idle. Refused with [`Refusal::Columns`] for another k.
+    pub fn open(k: u32) -> Result<Hall, Refusal> {
+        let mut hall = Hall::over(vec![0; saved::NUMBERS]);
+        accepted(hall.memories().open(k))?;
+        Ok(hall)
+    }
+
+    fn over(numbers: Vec<u32>) -> Hall {
+        Hall { numbers: numbers.into_boxed_slice(), tray: vec![0; TRAY_LEAST].into_boxed_slice() }
+    }
+
+    /// k, the number of columns, as it stands in memory.
+    #[must_use]
+    pub fn columns(&self) -> u32 {
+        let [_, _, _, clients] = saved::parts(&self.numbers);
+        clients[layout::COLUMNS]
+    }
+
+    /// Begins a read at `client`, the desk, 0 to 11. It is answered with the records that match at some moment between this begin and the step that
+    /// answers: begin it after a write's end to see that write. Refusals: `Columns`, `Unsound`, `NoClient`, `Taken`.
+    pub fn begin_read(&mut self, client: u32, query: &Query) -> Result<(), Refusal> {
+        accepted(self.memories().begin_read(client, query.as_numbers()))
+    }
+
+    /// Begins an insert of `record`, k numbers. Refusals: `Columns`, `Unsound`, `NoClient`, `Taken`, `Worn`.
+    pub fn begin_insert(&mut self, client: u32, record: &[u32]) -> Result<(), Refusal> {
+        accepted(self.memories().begin_insert(client, Query::of_record(record).as_numbers()))
+    }
+
+    /// Begins a delete of every record that `query` matches; [`Query::of_record`] is the query of one record. Refusals: `Columns`, `Unsound`,
+    /// `NoClient`, `Taken`, `Worn`.
+    pub fn begin_delete(&mut self, client: u32, query: &Query) -> Result<(), Refusal> {
+        accepted(self.memories().begin_delete(client, query.as_numbers()))
+    }
+
+    /// One step of what is under way at `client`, the desk. Refusals: `Unsound`, `NoClient`, `Idle`.
+    pub fn step(&mut self, client: u32) -> Result<Outcome<'_>, Refusal> {
+        let reply = saved::memories(&mut self.numbers).step(&mut self.tray, client);
+        self.outcome(reply)
+    }
+
+    /// Steps a desk to the end of its read or write, or to the first step that is refused: at most 19 steps of a read, 33 of a write.
+    /// [`Outcome::UnderWay`] is none of its outcomes. Refusals: as for a step.
+    pub fn run(&mut self, client: u32) -> Result<Outcome<'_>, Refusal> {
+        let reply = saved::memories(&mut self.numbers).run(&mut self.tray, client);
+        self.outcome(reply)
+    }
+
+    fn outcome(&self, reply: Reply) -> Result<Outcome<'_>, Refusal> {
+        Outcome::of(reply, &self.tray, self.columns())
+    }
+
+    /// Gives up a read, or a write before its table step. Refusals: `Unsound`, `NoClient`, `Idle`, `Committed`.
+    pub fn abandon(&mut self, client: u32) -> Result<(), Refusal> {
+        accepted(self.memories().abandon(client))
+    }
+
+    /// Puts out the filed answer at `place`, 0 the oldest. Never needed: a full file puts out its oldest by itself. Refusals: `Unsound`, `NoEntry`.
+    pub fn evict_answer(&mut self, place: u32) -> Result<(), Refusal> {
+        accepted(self.memories().evict_answer(place))
+    }
+
+    /// Puts out the node at `place`, 0 the oldest, if no write is pending there. Never needed. Refusals: `Unsound`, `NoEntry`, `Pending`.
+    pub fn evict_node(&mut self, place: u32) -> Result<(), Refusal> {
+        accepted(self.memories().evict_node(place))
+    }
+
+    /// With every desk idle: empties answers and nodes; the table stays. Needed only after [`Refusal::Worn`]. Refusals: `Unsound`, `Occupied`.
+    pub fn renew(&mut self) -> Result<(), Refusal> {
+        accepted(self.memories().renew())
+    }
+
+    /// The four memories, for the low calls, which say what they do in a [`Reply`]. What is written into them by other means is the caller's
+    /// affair: the calls take any contents, but promise only what their definition says of those.
+    #[must_use]
+    pub fn memories(&mut self) -> Memories<'_> {
+        saved::memories(&mut self.numbers)
+    }
+
+    /// To look inside. Unproved, and it alters nothing.
+    pub fn inspect(&self) -> Inspect<'_> {
+        Inspect::of_saved(&self.numbers)
+    }
+
+    /// The saved form: 113,600 bytes, the four memories with what is under way at the desks, without the tray. See [`crate::saved`].
+    #[must_use]
+    pub fn to_bytes(&self) -> Vec<u8> {
+        saved::bytes_of(&self.numbers)
+    }
+
+    /// A hall from its saved form. Only the length is tested: contents that no history of calls leaves are taken, as the calls take them, and most
+    /// are turned down with [`Refusal::Unsound`] at the first call.
+    pub fn from_bytes(bytes: &[u8]) -> Result<Hall, WrongLength> {
+        if bytes.len() != saved::BYTES {
+            return Err(WrongLength { found: bytes.len() });
+        }
+        Ok(Hall::over(saved::numbers_of(bytes)))
+    }
+}
+
+/// Two halls are equal if their memories are. The tray is no part of that: it holds an answer that was given.
+impl PartialEq for Hall {
+    fn eq(&self, other: &Hall) -> bool {
+        self.numbers == other.numbers
+    }
+}
+
+impl Eq for Hall {}
+
+/// The sizes only: the memories are 28,400 numbers.
+impl fmt::Debug for Hall {
+    fn fmt(&self, f: &mut fmt::Formatter<'_>) -> fmt::Result {
+        let inside = self.inspect();
+        f.debug_struct("Hall")
+            .field("columns", &self.columns())
+            .field("records", &inside.record_count())
+            .field("nodes", &inside.node_count())
+            .field("answers", &inside.answer_count())
+            .field("floor", &inside.floor())
+            .finish_non_exhaustive()
+    }
+}

@@ -1,0 +1,58 @@
+//! The filed answers: query, revisions, list; and a query as it is kept, at a desk too. Leans on range.
+use super::range::{below, Memory};
+use super::{Inspect, OutOfRange};
+use crate::layout::{ENTRY_LENGTH, ENTRY_LIST, ENTRY_REVISIONS, ENTRY_WIDTH, HEADER, KEY_RANGE, KEY_VALUES, MAX_COLUMNS, MAX_LOOKS};
+use crate::{Query, Records, LIST};
+
+/// An entry of the answers memory: a filed answer. A query that is out of range is none of this hall's: no read gets that answer. A list's length
+/// that is out of range is 3 at every call but opening.
+#[derive(Clone, Debug, PartialEq, Eq)]
+pub struct Entry<'a> {
+    /// The query that it answers.
+    pub query: Result<Query, OutOfRange>,
+    /// The revisions noted when it was filed, one for each look in the looks' order; all 16 places where the query is out of range.
+    pub revisions: &'a [u32],
+    /// The records.
+    pub list: Result<Records<'a>, OutOfRange>,
+}
+
+impl<'a> Inspect<'a> {
+    /// The filed answer at a place, 0 the oldest.
+    pub fn answer(&self, place: u32) -> Result<Entry<'a>, OutOfRange> {
+        let place = below("the answer's place", place, self.answer_count()?, "below the number of answers")?;
+        let at = HEADER + place * ENTRY_WIDTH;
+        let numbers = self.answers.part(at, ENTRY_WIDTH, "an answer")?;
+        let query = self.columns().and_then(|columns| query_at(&self.answers, at, columns as usize));
+        let looks = query.as_ref().map_or(MAX_LOOKS, looks);
+        let length = self.columns().and_then(|columns| Ok((columns as usize, length_at(&self.answers, at)? as usize)));
+        let list = length.map(|(columns, length)| Records::of(&numbers[ENTRY_LIST..], columns, length));
+        Ok(Entry { query, revisions: &numbers[ENTRY_REVISIONS..][..looks], list })
+    }
+}
+
+/// How many nodes a read of this query looks at: two for each named column, multiplied. At most 16, as a hall's query has at most four.
+pub(super) fn looks(query: &Query) -> usize {
+    1 << query.columns().flatten().count()
+}
+
+/// The length of a kept list, 0 to 32, in the entry that starts at `at`.
+pub(super) fn length_at(memory: &Memory<'_>, at: usize) -> Result<u32, OutOfRange> {
+    memory.checked(at + ENTRY_LENGTH, "the list's length", "0 to 32", |length| length <= LIST)
+}
+
+/// The query in the entry that starts at `at`: marks, values, and two numbers that are kept for a range.
+pub(super) fn query_at(memory: &Memory<'_>, at: usize, columns: usize) -> Result<Query, OutOfRange> {
+    let marks = memory.checked(at, "the marks of the query", "a bit for each named column and no other", |marks| marks >> columns == 0)?;
+    let mut query = Vec::new();
+    for column in 0..MAX_COLUMNS as usize {
+        let named = marks >> column & 1 == 1;
+        let value = memory.checked(at + KEY_VALUES + column, "the query's value", "0 where no value is named", |value| named || value == 0)?;
+        if column < columns {
+            query.push(named.then_some(value));
+        }
+    }
+    for kept in 0..2 {
+        memory.checked(at + KEY_RANGE + kept, "the query's number for a range", "0", |number| number == 0)?;
+    }
+    Ok(Query::from(&query[..]))
+}

@@ -1,0 +1,31 @@
+//! A word and a sentence for each number that a call returns; the words are those of document 01. Leans on nothing.
+
+/// By number: the word, and what it means with what to do. The header for C has the same, letter for letter (tests/header.rs).
+const WORDS: [(&str, &str); 14] = [
+    ("accepted", "The call was accepted; a read or write that it has not ended goes on by a step."),
+    ("short", "A lent memory is below its least length; lend a longer one."),
+    ("columns", "At opening k is not 1 to 4; at a begin the query has not as many columns as the hall, or a mark above 1, or a star with a value, or it is an insert with a star; open the hall with 1 to 4 columns, or correct the query."),
+    ("unsound", "k, a count or a filed list's length in memory is out of range, or what stands at the desk or at its node is, or no unmarked node can make room; open the hall, or load what the calls last left."),
+    ("no desk", "The desk is above 11; name one of 0 to 11."),
+    ("taken", "The desk is busy; step its read or write to the end, or abandon it, and begin again."),
+    ("idle", "The desk is idle, so there is nothing to step or abandon; begin a read or write there."),
+    ("committed", "The write has made its table step and can no longer be abandoned; step it to its end."),
+    ("no entry", "There is no answer or node at this place; name a place below their count."),
+    ("marked", "The node has marks of writes under way; leave it until they have ended."),
+    ("worn", "The floor or a counter is above 4,294,967,103; renew when all desks are idle, and begin the write again."),
+    ("occupied", "A desk is busy; renew when all desks are idle."),
+    ("long", "The read has ended without an answer, for over 32 records match; read them in parts, naming a value in more columns."),
+    ("full", "The insert has ended without inserting, for the table held 2,048 records and not this one; delete some, and insert again."),
+];
+
+/// Document 01's word for a number: "short" for 1 and so on to "full" for 13; "accepted" for 0, "unknown" above 13.
+#[must_use]
+pub fn name(number: u32) -> &'static str {
+    WORDS.get(number as usize).map_or("unknown", |words| words.0)
+}
+
+/// What a number means and what to do, in one sentence.
+#[must_use]
+pub fn sentence(number: u32) -> &'static str {
+    WORDS.get(number as usize).map_or("No call returns this number.", |words| words.1)
+}

@@ -1,0 +1,105 @@
+//! What a call is turned down with: the numbers 1 to 11 as an error. Leans on names and on the numbers in lib.
+use crate::number;
+use std::error::Error;
+use std::fmt;
+
+/// A call was turned down and altered nothing. The smallest number that applies is given. 12 and 13 are not among these: they end a read or a
+/// write, and are [`crate::Outcome::Long`] and [`crate::Outcome::Full`].
+///
+/// ```
+/// let refusal = mondzafeky::Hall::open(5).unwrap_err();
+/// assert_eq!((refusal, refusal.number(), refusal.name()), (mondzafeky::Refusal::Columns, 2, "columns"));
+/// assert!(refusal.to_string().starts_with("2, columns: At opening k is not 1 to 4"));
+/// ```
+#[derive(Clone, Copy, Debug, PartialEq, Eq, PartialOrd, Ord, Hash)]
+#[must_use]
+#[repr(u32)]
+pub enum Refusal {
+    /// 1: a lent memory is below its least length. A [`crate::Hall`] never is.
+    Short = number::SHORT,
+    /// 2: k not 1 to 4 at opening; not a query of k columns; an insert of another number of columns.
+    Columns = number::COLUMNS,
+    /// 3: k, a count or a filed list's length in memory is out of range, or what stands at the desk or at its node is.
+    Unsound = number::UNSOUND,
+    /// 4: the client, the desk, is above 11.
+    NoClient = number::NO_CLIENT,
+    /// 5: a begin at a busy desk.
+    Taken = number::TAKEN,
+    /// 6: a step or an abandoning at an idle desk.
+    Idle = number::IDLE,
+    /// 7: an abandoning of a write after its table step.
+    Committed = number::COMMITTED,
+    /// 8: no answer or node at that place.
+    NoEntry = number::NO_ENTRY,
+    /// 9: a write is pending at that node: it is marked.
+    Pending = number::PENDING,
+    /// 10: a write begins while the floor or a counter is above 4,294,967,103.
+    Worn = number::WORN,
+    /// 11: a renewal with a busy desk.
+    Occupied = number::OCCUPIED,
+}
+
+impl Refusal {
+    /// All of them, by their number.
+    pub const ALL: [Refusal; 11] = [
+        Refusal::Short,
+        Refusal::Columns,
+        Refusal::Unsound,
+        Refusal::NoClient,
+        Refusal::Taken,
+        Refusal::Idle,
+        Refusal::Committed,
+        Refusal::NoEntry,
+        Refusal::Pending,
+        Refusal::Worn,
+        Refusal::Occupied,
+    ];
+
+    /// The number that the call returned, 1 to 11.
+    #[must_use]
+    pub fn number(self) -> u32 {
+        self as u32
+    }
+
+    /// Document 01's word for it.
+    #[must_use]
+    pub fn name(self) -> &'static str {
+        number::name(self.number())
+    }
+
+    /// What it means and what to do.
+    #[must_use]
+    pub fn sentence(self) -> &'static str {
+        number::sentence(self.number())
+    }
+}
+
+/// Number, word and sentence: `5, taken: The desk is busy; ..`.
+impl fmt::Display for Refusal {
+    fn fmt(&self, f: &mut fmt::Formatter<'_>) -> fmt::Result {
+        write!(f, "{}, {}: {}", self.number(), self.name(), self.sentence())
+    }
+}
+
+impl Error for Refusal {}
+
+/// The refusal of a number that a low call returned.
+impl TryFrom<u32> for Refusal {
+    type Error = NoRefusal;
+
+    fn try_from(number: u32) -> Result<Refusal, NoRefusal> {
+        Refusal::ALL.into_iter().find(|refusal| refusal.number() == number).ok_or(NoRefusal(number))
+    }
+}
+
+/// A number that is none of 1 to 11.
+#[derive(Clone, Copy, Debug, PartialEq, Eq)]
+pub struct NoRefusal(pub u32);
+
+impl fmt::Display for NoRefusal {
+    fn fmt(&self, f: &mut fmt::Formatter<'_>) -> fmt::Result {
+        write!(f, "{}, {}, is no refusal: those are 1 to 11", self.0, number::name(self.0))
+    }
+}
+
+impl Error for NoRefusal {}

@@ -1,0 +1,54 @@
+//! The header for C says the same as this crate: the words and sentences of the numbers, the version, the least lengths.
+
+use mondzafeky::number;
+
+const HEADER: &str = include_str!("../../../c/mondzafeky.h");
+
+/// The strings of one function of the header, in the order of its cases: adjacent literals are one.
+fn strings_of(function: &str) -> Vec<String> {
+    let start = HEADER.find(&format!("*{function}(uint32_t number)")).expect("the function stands in the header");
+    let body = &HEADER[start..start + HEADER[start..].find("\n}\n").expect("it ends")];
+    body.split("return ").skip(1).map(literals).collect()
+}
+
+/// What the literals up to the end of the statement say together.
+fn literals(statement: &str) -> String {
+    let (mut text, mut inside) = (String::new(), false);
+    for c in statement.chars() {
+        match c {
+            '"' => inside = !inside,
+            ';' if !inside => break,
+            c if inside => text.push(c),
+            _ => {}
+        }
+    }
+    text
+}
+
+#[test]
+fn words_and_sentences_are_the_same() {
+    let (words, sentences) = (strings_of("mondzafeky_name"), strings_of("mondzafeky_sentence"));
+    assert_eq!((words.len(), sentences.len()), (15, 15), "0 to 13, and what is none of them");
+    for n in 0..15 {
+        assert_eq!((words[n].as_str(), sentences[n].as_str()), (number::name(n as u32), number::sentence(n as u32)));
+    }
+}
+
+#[test]
+fn version_and_lengths_are_the_same() {
+    let defined = |name: &str| {
+        let line = HEADER.lines().find(|line| line.starts_with(&format!("#define {name} "))).expect(name);
+        line.split_whitespace().nth(2).unwrap().trim_end_matches('u').trim_matches('"').to_string()
+    };
+    assert_eq!(defined("MONDZAFEKY_VERSION"), env!("CARGO_PKG_VERSION"));
+    let lengths = [
+        ("TABLE", mondzafeky::TABLE_LEAST),
+        ("NODES", mondzafeky::NODES_LEAST),
+        ("ANSWERS", mondzafeky::ANSWERS_LEAST),
+        ("CLIENTS", mondzafeky::CLIENTS_LEAST),
+        ("TRAY", mondzafeky::TRAY_LEAST),
+    ];
+    for (name, length) in lengths {
+        assert_eq!(defined(&format!("MONDZAFEKY_{name}_LEAST")), length.to_string());
+    }
+}

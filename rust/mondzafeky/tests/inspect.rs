@@ -1,0 +1,218 @@
+//! Looking inside: what is seen of a hall as its desks step, what is said of contents that are out of range, and that it agrees with the numbers
+//! that the proved calls give on damaged halls. Nothing panics on memories of any lengths and contents.
+mod rng;
+
+use mondzafeky::inspect::{Inspect, Kind, Label, OutOfRange, Stage, Term};
+use mondzafeky::{saved, Hall, Memories, Outcome, Query};
+use rng::Rng;
+
+/// Records (3, 40) and (3, 41), a filed answer to (3, *), an insert of (8, 9) that has been at the table, and a read under way.
+fn busy_hall() -> Hall {
+    let mut hall = Hall::open(2).unwrap();
+    for record in [[3, 41], [3, 40]] {
+        hall.begin_insert(0, &record).unwrap();
+        assert_eq!(hall.run(0), Ok(Outcome::Changed));
+    }
+    hall.begin_read(1, &[Some(3), None].into()).unwrap();
+    assert!(hall.run(1).unwrap().has_ended());
+    hall.begin_insert(0, &[8, 9]).unwrap();
+    hall.begin_read(11, &[None, Some(9)].into()).unwrap();
+    for client in [0, 0, 0, 0, 0, 11] {
+        assert_eq!(hall.step(client), Ok(Outcome::UnderWay));
+    }
+    hall
+}
+
+#[test]
+fn sizes_records_nodes_and_answers() {
+    let hall = busy_hall();
+    let inside = hall.inspect();
+    assert_eq!((inside.columns(), inside.record_count(), inside.answer_count(), inside.floor()), (Ok(2), Ok(3), Ok(1), Ok(1)));
+    assert_eq!(inside.records().map(Result::unwrap).collect::<Vec<_>>(), [[3, 40], [3, 41], [8, 9]]);
+    let nodes: Vec<String> = inside.nodes().map(|node| node.unwrap().to_string()).collect();
+    assert_eq!(nodes.len(), inside.node_count().unwrap() as usize);
+    // Made by the first insert, marked by the third; by the read of (3, *); by the third insert; by the read of (*, 9), which found (*, 9) there.
+    for text in ["(3, 41)  counter 2  marks 0", "(*, *)  counter 3  marks 1", "(?, *)  counter 1  marks 0", "(8, *)  counter 1  marks 1"] {
+        assert!(nodes.contains(&text.to_string()), "{text}: {nodes:?}");
+    }
+    let place = nodes.iter().position(|text| text.starts_with("(?, *)")).unwrap();
+    assert_eq!(inside.node(place as u32).unwrap().label, Ok(Label(vec![Term::Any, Term::Wildcard])));
+    let answer = inside.answer(0).unwrap();
+    assert_eq!((answer.query, answer.revisions), (Ok(Query::from([Some(3), None])), &[3, 1][..]));
+    assert_eq!(answer.list.unwrap().collect::<Vec<_>>(), [[3, 40], [3, 41]]);
+}
+
+#[test]
+fn desks_and_how_far_they_are() {
+    let hall = busy_hall();
+    let (insert, read) = (hall.inspect().work(0).unwrap().unwrap(), hall.inspect().work(11).unwrap().unwrap());
+    assert_eq!(insert.to_string(), "insert of (8, 9), 5 of 9 steps made, next: raise 1 of 4");
+    assert_eq!((insert.kind, insert.changed, insert.full, insert.noted.len()), (Kind::Insert, true, false, 0));
+    assert_eq!(read.to_string(), "read of (*, 9), 1 of 5 steps made, next: look 2 of 2");
+    assert_eq!((read.kind, read.saw_pending, read.noted), (Kind::Read, true, vec![1]));
+    assert!((1..11).all(|client| hall.inspect().work(client) == Ok(None)));
+    assert_eq!(hall.inspect().work(12).unwrap_err().to_string(), "the desk out of range: 12, wanted 0 to 11");
+}
+
+/// The stages of a whole read and of a whole delete, as they come.
+#[test]
+fn every_stage_in_its_order() {
+    let mut hall = Hall::open(2).unwrap();
+    let mut stages = |query: Query, read: bool| {
+        let begun = if read { hall.begin_read(6, &query) } else { hall.begin_delete(6, &query) };
+        begun.unwrap();
+        let mut stages = Vec::new();
+        while let Some(work) = hall.inspect().work(6).unwrap() {
+            assert_eq!((work.steps as usize, &work.query), (stages.len(), &query));
+            stages.push(work.stage());
+            assert_eq!(hall.step(6).unwrap().has_ended(), work.steps + 1 == work.of || stages.len() > 40);
+        }
+        stages.iter().map(Stage::to_string).collect::<Vec<_>>().join(", ")
+    };
+    assert_eq!(stages([Some(3), None].into(), true), "look 1 of 2, look 2 of 2, fetch, table, file");
+    assert_eq!(stages([None, None].into(), true), "look 1 of 1, fetch, table, file");
+    let write = "mark 1 of 4, mark 2 of 4, mark 3 of 4, mark 4 of 4, table, raise 1 of 4, raise 2 of 4, raise 3 of 4, raise 4 of 4";
+    assert_eq!(stages([None, Some(2)].into(), false), write);
+}
+
+/// The first thing that is out of range.
+fn first(inside: Inspect<'_>) -> Option<OutOfRange> {
+    let counts = [inside.columns(), inside.record_count(), inside.node_count(), inside.answer_count()];
+    let mut faults: Vec<OutOfRange> = counts.into_iter().filter_map(Result::err).collect();
+    faults.extend(inside.nodes().flatten().filter_map(|node| node.label.err()));
+    faults.extend(inside.answers().flatten().flat_map(|entry| [entry.query.err(), entry.list.err()]).flatten());
+    faults.extend((0..12).filter_map(|client| inside.work(client).err()));
+    faults.into_iter().next()
+}
+
+/// A busy hall with one number altered: the memory (0 table .. 3 clients), the place, the number.
+fn altered(memory: usize, place: usize, number: u32) -> Hall {
+    let mut hall = busy_hall();
+    let m = hall.memories();
+    [m.table, m.nodes, m.answers, m.clients][memory][place] = number;
+    hall
+}
+
+#[test]
+fn the_largest_numbers_are_in_range() {
+    assert_eq!(first(busy_hall().inspect()), None);
+    for (memory, place, number) in [(0, 0, 2_048), (2, 15, 32), (3, 8 + 11 * 157 + 1, 4), (3, 8 + 1, 8), (3, 8 + 12, 32), (1, 13, u32::MAX)] {
+        assert_eq!(first(altered(memory, place, number).inspect()), None);
+    }
+}
+
+/// What is said of one number that is altered.
+#[test]
+fn what_is_out_of_range_is_said() {
+    let desk_11 = 8 + 11 * 157;
+    let cases = [
+        (3, 0, 5, "k out of range: 5, wanted 1 to 4 (clients memory, place 0)"),
+        (0, 0, 2_049, "the number of records out of range: 2049, wanted 0 to 2,048 (table memory, place 0)"),
+        (1, 1, 1_025, "the number of nodes out of range: 1025, wanted 0 to 1,024 (nodes memory, place 1)"),
+        (2, 0, 65, "the number of answers out of range: 65, wanted 0 to 64 (answers memory, place 0)"),
+        (1, 8, 0x0401, "the label's tags out of range: 1025, wanted 1, 2 or 3 in each column's byte, 0 in the others (nodes memory, place 8)"),
+        (1, 11, 1, "the label's value out of range: 1, wanted 0 where the column has none (nodes memory, place 11)"),
+        (2, 8, 4, "the marks of the query out of range: 4, wanted a bit for each named column and no other (answers memory, place 8)"),
+        (2, 15, 33, "the list's length out of range: 33, wanted 0 to 32 (answers memory, place 15)"),
+        (3, desk_11, 4, "the kind of a busy desk out of range: 4, wanted 1 to 3 (clients memory, place 1735)"),
+        (3, desk_11 + 1, 5, "the number of steps made out of range: 5, wanted below the steps of this work (clients memory, place 1736)"),
+        (3, desk_11 + 6, 1, "the query's value out of range: 1, wanted 0 where no value is named (clients memory, place 1741)"),
+        (3, desk_11 + 10, 1, "the query's number for a range out of range: 1, wanted 0 (clients memory, place 1745)"),
+        (3, desk_11 + 12, 33, "the list's length out of range: 33, wanted 0 to 32 (clients memory, place 1747)"),
+        (3, 8 + 5, 1, "the query's value out of range: 9, wanted 0 where no value is named (clients memory, place 15)"),
+    ];
+    for (memory, place, number, words) in cases {
+        assert_eq!(first(altered(memory, place, number).inspect()).map(|fault| fault.to_string()).as_deref(), Some(words));
+    }
+}
+
+#[test]
+fn short_memories_are_told_as_far_as_they_go() {
+    let hall = busy_hall();
+    let numbers = saved::numbers_of(&hall.to_bytes());
+    let cut = |length: usize| Inspect::of_saved(&numbers[..length]);
+    assert_eq!(cut(0).record_count().unwrap_err().to_string(), "the number of records missing: the table memory ends before place 0");
+    assert_eq!((cut(11).record_count(), cut(8_199).floor().is_err()), (Ok(3), true));
+    // A label's own tags tell its columns, if k does not.
+    assert_eq!(cut(8_224).node(0).unwrap().to_string(), "(3, 41)  counter 2  marks 0");
+    assert_eq!(cut(8_224).node(2).unwrap_err().to_string(), "a node missing: the nodes memory ends before place 24");
+    assert!(Inspect::of_saved(&[&numbers[..8_208], &[0; 8]].concat()).node(0).unwrap().label.is_err());
+    // Without k there are no records to tell; with k and a table that ends in the second record there is the first.
+    assert!(cut(12).record(0).is_err());
+    let (mut table, mut clients) = (numbers[..11].to_vec(), numbers[26_400..].to_vec());
+    let m = Memories { table: &mut table, nodes: &mut [], answers: &mut [], clients: &mut clients };
+    let records: Vec<_> = Inspect::of(&m).records().collect();
+    assert_eq!((records.len(), records[0].as_deref()), (2, Ok(&[3, 40][..])));
+    assert_eq!(records[1].as_ref().unwrap_err().to_string(), "a record missing: the table memory ends before place 11");
+}
+
+/// Everything that can be looked at, at places past the last too. How much was seen.
+fn look_at_all(inside: Inspect<'_>) -> usize {
+    let mut text = format!("{:?} {:?}", inside.columns(), inside.floor());
+    inside.records().for_each(|record| text += &format!("{record:?}"));
+    inside.nodes().for_each(|node| text += &node.map_or_else(|fault| fault.to_string(), |node| node.to_string()));
+    inside.answers().for_each(|entry| text += &format!("{entry:?}"));
+    for n in [0, 1, 11, 12, 63, 64, 1_023, 1_024, 2_047, 2_048, u32::MAX] {
+        text += &format!("{:?} {:?} {:?} {:?}", inside.record(n), inside.node(n), inside.answer(n), inside.work(n));
+        text += &inside.work(n).ok().flatten().map_or(String::new(), |work| work.to_string());
+    }
+    text.len()
+}
+
+#[test]
+fn memories_of_any_lengths_and_contents_do_not_panic() {
+    let mut rng = Rng(13);
+    for round in 0..150 {
+        let mut memories = [0; 4].map(|_: u32| {
+            let length = [20, 200, 2_000, 8_200, 10_000][rng.below(5) as usize];
+            let length = rng.below(length + 1);
+            (0..length).map(|_| rng.number()).collect::<Vec<u32>>()
+        });
+        if round % 2 == 0 {
+            // With k in range more is looked at.
+            memories[3].splice(..1.min(memories[3].len()), [1 + rng.below(4)]);
+        }
+        let [table, nodes, answers, clients] = &mut memories;
+        assert!(look_at_all(Inspect::of(&Memories { table, nodes, answers, clients })) > 0);
+    }
+}
+
+/// A busy hall with some numbers altered: headers, and numbers at the desks.
+fn damaged(rng: &mut Rng, sound: &[u32]) -> Vec<u32> {
+    let mut numbers = sound.to_vec();
+    for _ in 0..1 + rng.below(3) {
+        let place = match rng.below(6) {
+            0 => [0, 8_201, 16_400, 26_400][rng.below(4) as usize],
+            1 => 16_400 + 8 + rng.below(152),
+            2 => 26_408 + 157 * rng.below(12) + rng.below(157),
+            _ => 26_408 + 157 * [0, 11][rng.below(2) as usize] + rng.below(14),
+        };
+        numbers[place as usize] = rng.number();
+    }
+    numbers
+}
+
+/// On damaged halls the proved calls decide: 3 at putting out the answer past all places exactly if k, a count or a filed list's length is out of
+/// range here; and if not, a begin is accepted at a desk seen idle, 5 at one seen busy, 3 at one out of range.
+#[test]
+fn what_is_seen_agrees_with_the_numbers_of_the_calls() {
+    let sound = saved::numbers_of(&busy_hall().to_bytes());
+    let (mut rng, mut met) = (Rng(7), [0; 6]);
+    for _ in 0..600 {
+        let mut numbers = damaged(&mut rng, &sound);
+        let inside = Inspect::of_saved(&numbers);
+        let counts = [inside.columns(), inside.record_count(), inside.node_count(), inside.answer_count()];
+        let whole = counts.iter().all(Result::is_ok) && inside.answers().all(|entry| entry.unwrap().list.is_ok());
+        look_at_all(inside);
+        let seen: Vec<_> = (0..12).map(|client| inside.work(client).map(|work| work.is_some())).collect();
+        let stars = vec![0; 2 * inside.columns().unwrap_or(0) as usize];
+        assert_eq!(saved::memories(&mut numbers).evict_answer(u32::MAX).number, if whole { 8 } else { 3 });
+        for (client, seen) in seen.into_iter().enumerate().filter(|_| whole) {
+            let expected = seen.map_or(3, |busy| if busy { 5 } else { 0 });
+            assert_eq!(saved::memories(&mut numbers).begin_read(client as u32, &stars).number, expected, "desk {client}");
+            met[expected as usize] += 1;
+        }
+        met[4] += !whole as u32;
+    }
+    assert!([0, 3, 4, 5].into_iter().all(|n| met[n] > 30), "{met:?}");
+}
