@@ -275,21 +275,21 @@ static inline mondzafeky_reply mondzafeky_hall_open(mondzafeky_hall *hall, uint3
 static inline mondzafeky_reply mondzafeky_hall_begin_read(
     mondzafeky_hall *hall, uint32_t client, const mondzafeky_column *query, size_t columns)
 {
-    return mondzafeky_begin_read(MONDZAFEKY_MEMORIES_(hall), client, &query->mark, 2u * columns);
+    return mondzafeky_begin_read(MONDZAFEKY_MEMORIES_(hall), client, (const uint32_t *)query, 2u * columns);
 }
 
 /* Begins an insert of one record; no column is a star. At most 33 steps. Refusals: 2 to 5, 10. */
 static inline mondzafeky_reply mondzafeky_hall_begin_insert(
     mondzafeky_hall *hall, uint32_t client, const mondzafeky_column *query, size_t columns)
 {
-    return mondzafeky_begin_insert(MONDZAFEKY_MEMORIES_(hall), client, &query->mark, 2u * columns);
+    return mondzafeky_begin_insert(MONDZAFEKY_MEMORIES_(hall), client, (const uint32_t *)query, 2u * columns);
 }
 
 /* Begins a delete of all records that fit. At most 33 steps. Refusals: 2 to 5, 10. */
 static inline mondzafeky_reply mondzafeky_hall_begin_delete(
     mondzafeky_hall *hall, uint32_t client, const mondzafeky_column *query, size_t columns)
 {
-    return mondzafeky_begin_delete(MONDZAFEKY_MEMORIES_(hall), client, &query->mark, 2u * columns);
+    return mondzafeky_begin_delete(MONDZAFEKY_MEMORIES_(hall), client, (const uint32_t *)query, 2u * columns);
 }
 
 /*

@@ -1,5 +1,5 @@
 //! Links the archive of the proved library, libmondzafeky.a. It is made by tools/archive, which proves the library first; this script never makes
-//! it. `MONDZAFEKY_ARCHIVE_DIR` names another folder to take it from.
+//! it. `MONDZAFEKY_ARCHIVE_DIR` names, by its whole path, another folder to take it from.
 use std::env;
 use std::path::PathBuf;
 use std::process::exit;

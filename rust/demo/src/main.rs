@@ -4,6 +4,7 @@ use demo::controller::FAULTY;
 use demo::story::{fault_shows, faulty_half, library_fails, library_half, DIFFERENCE, SETTING};
 use demo::trace::Trace;
 use demo::{script, traced};
+use std::io::Write;
 use std::process::ExitCode;
 
 const USAGE: &str = "wanted: demo calls | demo archive SOURCE | demo traced FILE SOURCE
@@ -28,17 +29,22 @@ fn from_file(path: &str) -> Result<Trace, String> {
     traced::read(&text)
 }
 
+/// To the standard output; a reader that has closed it, as `head` does, has seen enough.
+fn show(text: &str) {
+    let _ = std::io::stdout().write_all(text.as_bytes());
+}
+
 /// Prints the whole, and says whether it was as it should be.
 fn tell(library: &Trace, source: &str) -> Result<(), String> {
     let faulty = Trace::play(&FAULTY);
-    println!("{SETTING}\n\n{}\n\n{}", library_half(library, source), faulty_half(&faulty));
+    show(&format!("{SETTING}\n\n{}\n\n{}\n", library_half(library, source), faulty_half(&faulty)));
     if let Some(what) = library_fails(library) {
         return Err(format!("THE LIBRARY DID NOT KEEP WHAT IT PROMISES: {what}"));
     }
     if !fault_shows(&faulty) {
         return Err("the fault did not show in the faulty controller: the mixing is not the one that was meant".to_string());
     }
-    print!("\n{DIFFERENCE}");
+    show(&format!("\n{DIFFERENCE}"));
     Ok(())
 }
 
@@ -47,7 +53,7 @@ fn main() -> ExitCode {
     let words: Vec<&str> = words.iter().map(String::as_str).collect();
     let done = match words[..] {
         ["calls"] => {
-            print!("{}", script::as_text());
+            show(&script::as_text());
             Ok(())
         }
         ["archive", source] => from_archive().and_then(|trace| tell(&trace, source)),

@@ -3,7 +3,7 @@
 //!
 //! Why the correction takes two desks: a controller that raises first goes wrong for good only if the read looks after the last raise and takes
 //! its list before the first table step. With the delete and the insert one after the other at one desk, the second one's raises put the
-//! mistake of the first out of use. Side by side they also leave the table without a zero for one step only, which is a reason to do it so.
+//! mistake of the first out of use. A program does better to run one after the other (docs/CALLS.md).
 
 /// How many columns the hall has: binding, stored zero.
 pub const K: usize = 2;

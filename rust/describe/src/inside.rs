@@ -10,11 +10,15 @@ fn told<T: ToString>(value: Result<T, OutOfRange>) -> String {
 
 /// k, how many records, nodes and answers there are, the floor; and what a wrong k may come from.
 pub fn sizes(hall: &Inspect<'_>) -> Vec<String> {
-    let marked = hall.nodes().flatten().filter(|node| node.pending > 0).count();
+    let (marked, there) = (hall.nodes().flatten().filter(|node| node.pending > 0).count(), hall.nodes().flatten().count());
+    let nodes = |n: u32| {
+        let among = if there < n as usize { format!(" among the {there} that can be read") } else { String::new() };
+        format!("{n} of 1,024, {marked} marked{among}")
+    };
     let mut lines = vec![
         format!("k        {}", told(hall.columns())),
         format!("records  {}", told(hall.record_count().map(|n| format!("{n} of 2,048")))),
-        format!("nodes    {}", told(hall.node_count().map(|n| format!("{n} of 1,024, {marked} marked")))),
+        format!("nodes    {}", told(hall.node_count().map(nodes))),
         format!("answers  {}", told(hall.answer_count().map(|n| format!("{n} of 64")))),
         format!("floor    {}", told(hall.floor())),
     ];

@@ -22,6 +22,9 @@ use std::fmt;
 /// # Ok(())
 /// # }
 /// ```
+///
+/// # Panics
+/// A call panics if the linked archive gives a number that this crate does not know: then it is one of another version.
 #[derive(Clone)]
 pub struct Hall {
     /// The four memories one after another, as they are saved.
@@ -120,8 +123,8 @@ impl Hall {
         saved::bytes_of(&self.numbers)
     }
 
-    /// A hall from its saved form. Only the length is tested: contents that no history of calls leaves are taken, as the calls take them, and most
-    /// are turned down with [`Refusal::Unsound`] at the first call.
+    /// A hall from its saved form. Only the length is tested: contents that no history of calls leaves are taken, as the calls take them. Only some
+    /// damage is turned down, with [`Refusal::Unsound`]: keep a checksum beside what you save.
     pub fn from_bytes(bytes: &[u8]) -> Result<Hall, WrongLength> {
         if bytes.len() != saved::BYTES {
             return Err(WrongLength { found: bytes.len() });

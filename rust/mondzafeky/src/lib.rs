@@ -113,7 +113,8 @@ pub mod number {
     pub const SHORT: u32 = 1;
     /// k not 1 to 4 at opening; not a query of k columns; an insert with a star.
     pub const COLUMNS: u32 = 2;
-    /// k, a count or a filed list's length in memory is out of range, or what stands at the desk or at its node is.
+    /// k, a count or a filed list's length in memory is out of range, or what stands at the desk or at its node is, or no unmarked node
+    /// can make room.
     pub const UNSOUND: u32 = 3;
     /// The client, the desk, is above 11.
     pub const NO_CLIENT: u32 = 4;
