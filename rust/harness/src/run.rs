@@ -10,10 +10,14 @@ use crate::seen::{self, LIMITS};
 use crate::shrink::Script;
 use crate::side::{Reply, Side};
 use crate::start;
+use std::time::{Duration, Instant};
 
 /// The sorts of scripts, and how many of 100 calls each is given.
 pub const SORTS: [(&str, i64); 5] =
     [("histories from an opening", 50), ("halls near a limit", 18), ("noise", 12), ("damaged halls", 14), ("lengths", 6)];
+
+/// How long a run says nothing.
+const PATIENCE: Duration = Duration::from_secs(8);
 
 /// What a run has done.
 pub struct Tally {
@@ -106,7 +110,12 @@ impl<'a> Run<'a> {
 
     /// Makes the calls; stops at the first difference, or at the checker's first complaint about the left side.
     pub fn go(&mut self) -> Outcome {
+        let mut told = Instant::now();
         while self.tally.calls < self.total {
+            if told.elapsed() > PATIENCE {
+                eprintln!("harness: {} of {} calls so far", self.tally.calls, self.total);
+                told = Instant::now();
+            }
             let calls = self.tally.calls as i64;
             let due = |sort: &usize| SORTS[*sort].1 * calls - 100 * self.tally.calls_of_sort[*sort] as i64;
             let sort = (0..5).max_by_key(due).unwrap();
