@@ -3,6 +3,7 @@
 use crate::query;
 use crate::row;
 use calls::Call;
+use hall::Hall;
 use rules::Outcome;
 ghost use Prim.Native.Nat.{_≤_};
 
@@ -16,8 +17,8 @@ fn stored(row: u64, memory: u8, i: usize, noise: u32, there: u32) -> u32 {
         return there;
     }
     let at = row::at(row);
-    if at as usize == i || at == 4294967295 {
-        return (row::wanted(row) % 4294967296) as u32;
+    if at as usize == i || at == row::EVERY {
+        return (row::wanted(row) % row::WORDS) as u32;
     }
     there
 }
@@ -61,10 +62,10 @@ fn number_at(s: &[u32], place: u32) -> u32 {
 
 // The label of the node at a place, 0 the oldest, as a query; tags are a byte for each column.
 fn label_at(nodes: &[u32], node: u32) -> u32 {
-    if 1023 < node {
+    if Hall::NODES <= node {
         return 0;
     }
-    let p = 8 + node * 8;
+    let p = Hall::HEADER as u32 + node * Hall::NODE_WIDTH as u32;
     let tags = number_at(nodes, p);
     let a = query::joined(0, tags % 256, number_at(nodes, p + 1));
     let b = query::joined(a, tags / 256 % 256, number_at(nodes, p + 2));
@@ -153,14 +154,14 @@ fn given(out: Outcome, step: u32) -> u64 {
             }
             made + row::GOT + count as u64
         }
-        Outcome::Long => made + 12,
+        Outcome::Long => made + Hall::ENDED_LONG as u64,
         Outcome::Ended { changed } => {
             if changed {
                 return made + row::CHANGED;
             }
             made + row::UNCHANGED
         }
-        Outcome::Full => made + 13,
+        Outcome::Full => made + Hall::ENDED_FULL as u64,
     }
 }
 

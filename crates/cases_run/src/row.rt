@@ -21,6 +21,14 @@ pub const CHANGED: u64 = 0x300;
 
 pub const UNCHANGED: u64 = 0x400;
 
+// How many numbers a number of a memory can be.
+pub const WORDS: u64 = 4294967296;
+
+// In a part's text the place that stands for every one, and for the largest desk; and what it is read as.
+const EVERY_WRITTEN: u32 = 65535;
+
+pub const EVERY: u32 = 4294967295;
+
 // ---- Reading
 // What is read so far; which place the next number has: 0 the lowest, 1 desk or place, 2 a query, 3 its later columns, 4 steps; the number.
 struct Reading {
@@ -103,7 +111,7 @@ fn sign(row: u64, place: u32, before: u8, c: u8) -> Reading {
 // One more sign: a digit, the comma before a further column, or another.
 fn next(r: Reading, before: u8, c: u8) -> Reading {
     let d = digit(c);
-    let n = r.number % 4294967296;
+    let n = r.number % WORDS;
     if c == b',' {
         return Reading {
             row: std::num::wrapping_add_u64(r.row, 4096 * QUERY),
@@ -167,8 +175,8 @@ pub fn is_number(row: u64) -> bool {
 
 pub fn at(row: u64) -> u32 {
     let n = (row / AT % 65536) as u32;
-    if n == 65535 {
-        return 4294967295;
+    if n == EVERY_WRITTEN {
+        return EVERY;
     }
     n
 }
@@ -191,7 +199,7 @@ pub fn wanted(row: u64) -> u64 {
         return row / QUERY % 65536;
     }
     if is_number(row) {
-        return row % 4294967296;
+        return row % WORDS;
     }
     row % 65536
 }

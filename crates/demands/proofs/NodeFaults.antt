@@ -17,15 +17,15 @@ use Rattle.query.specs.Shape.{narrow}
 use Rattle.query.specs.Encoding.{labelWidth}
 use Rattle.rules.specs.Layout.{maxNodes, maxPending, maxRevision}
 use Rattle.rules.specs.Work.{Write, writeLabels}
-use Rattle.rules.specs.Nodes.{Words, Node, Store, pending, revision, isPresent, nodeOf, evictNode, added, isFree, oldestFree, makeRoom, addedIn}
+use Rattle.rules.specs.Nodes.{Words, Node, Store, pending, revision, isPresent, nodeOf, added, isFree, oldestFree, makeRoom, addedIn}
 use Rattle.rules.specs.Nodes.{ensured, announcedIn, announced, isPending, mayRetire, retired}
 use Rattle.revisions.specs.EffectiveRevision.{has, pendingOf, tally}
-use Rattle.revisions.proofs.NodeRows.{without-out, out-has, pending-in-absent, last-has, last-pending-in, fresh-label, fresh-pending}
-use Rattle.revisions.proofs.NodeOperations.{present-has, node-pending-of}
+use Rattle.revisions.proofs.NodeRows.{pending-in-absent, last-pending-in, fresh-pending}
+use Rattle.revisions.proofs.NodeOperations.{present-has, node-pending-of, evict-has, added-has}
 use Rattle.revisions.proofs.Retirements.{Apart, allRetirable, retiredEach, retired-tests}
 use Rattle.machine.proofs.PendingLabels.{one-self}
 use Rattle.machine.proofs.Headroom.{write-once, tally-parts}
-use Rattle.demands.specs.RefusalRows.{isUnmarked, allMarked, hasNoRoom, isFullyMarked, isAtLargest, someUnmarked}
+use Rattle.demands.specs.RefusalRows.{isMissingOrFree, noneFree, hasNoRoom, isFullyPending, isAtLargest, someMissingOrFree}
 
 -- the rules have no nodes to go on with
 unfoldable pub isNone : Option Store → Bool
@@ -49,22 +49,22 @@ not-zero x = byTest (eqb x 0)
     (λ e. let n : x ≡ 0 → ⊥ = eqb-false x 0 e in rw (e, lt-ltb 0 x (omega arith)))
 
 -- ---- A look
--- an unmarked node is there exactly where not each is marked
-free-there : (ns : List Node) → ltb (oldestFree ns) (length ns) ≡ not (allMarked ns)
-unfolding oldestFree place isFree allMarked
+-- a free node is there exactly where it is not so that none is
+free-there : (ns : List Node) → ltb (oldestFree ns) (length ns) ≡ not (noneFree ns)
+unfolding oldestFree place noneFree
 free-there [] = refl
 free-there (n ∷ ns) =
-    byTest (eqb (pending n) 0)
-    (λ e. rw (e, not-zero (pending n), e) (lt-ltb 0 (suc (length ns)) (omega arith)))
-    (λ e. rw (e, not-zero (pending n), e) (leb·suc-suc _ (length ns) ∙ free-there ns))
+    byTest (isFree n)
+    (λ e. rw e (lt-ltb 0 (suc (length ns)) (omega arith)))
+    (λ e. rw e (leb·suc-suc _ (length ns) ∙ free-there ns))
 
-room-none : (s : Store) → isNone (makeRoom narrow s) ≡ leb maxNodes (length (s .nodes)) && allMarked (s .nodes)
+room-none : (s : Store) → isNone (makeRoom narrow s) ≡ leb maxNodes (length (s .nodes)) && noneFree (s .nodes)
 unfolding makeRoom isNone
 room-none s =
     byTest (ltb (length (s .nodes)) maxNodes)
     (λ e. let l = ltb-true _ _ e in rw (e, lt-leb maxNodes (length (s .nodes)) l))
     (λ e. let l = ltb-false _ _ e in rw (e, le-leb maxNodes (length (s .nodes)) l, free-there (s .nodes))
-    (byTest (allMarked (s .nodes)) (λ f. rw f) (λ f. rw f)))
+    (byTest (noneFree (s .nodes)) (λ f. rw f) (λ f. rw f)))
 
 added-none : (p : Words) (o : Option Store) → isNone (addedIn narrow p o) ≡ isNone o
 unfolding addedIn isNone
@@ -80,8 +80,7 @@ look-none p s =
 -- a node that is added has no marks
 module _ (p : Words) (five : length p ≡ labelWidth) where
   added-there : (s : Store) → has (s .nodes) p ≡ false → has (added narrow p s .nodes) p ≡ true
-  unfolding added
-  added-there s h = last-has _ (s .nodes) p ∙ rw (h, fresh-label p (s .floor) five, same-refl p) refl
+  added-there s h = added-has p five s p ∙ rw (h, same-refl p) refl
 
   added-none-of : (s : Store) → has (s .nodes) p ≡ false → pendingOf (added narrow p s) p ≡ 0
   unfolding added pendingOf
@@ -96,12 +95,12 @@ module _ (p : Words) (five : length p ≡ labelWidth) where
   AbsentIn (some s) = has (s .nodes) p ≡ false
 
   room-absent : (s : Store) → has (s .nodes) p ≡ false → AbsentIn (makeRoom narrow s)
-  unfolding makeRoom AbsentIn evictNode
+  unfolding makeRoom AbsentIn
   room-absent s h =
       byTest (ltb (length (s .nodes)) maxNodes)
       (λ e. rw e h)
       (λ e. rw e (byTest (ltb (oldestFree (s .nodes)) (length (s .nodes)))
-      (λ f. rw f (out-has p (without-out (s .nodes) (oldestFree (s .nodes)) (ltb-true _ _ f)) h))
+      (λ f. rw f (evict-has (oldestFree (s .nodes)) s p (ltb-true _ _ f) h))
       (λ f. rw f tt)))
 
   mark-added : (o : Option Store) → AbsentIn o → isNone (announcedIn p (addedIn narrow p o)) ≡ isNone o
@@ -109,8 +108,8 @@ module _ (p : Words) (five : length p ≡ labelWidth) where
   mark-added none h = refl
   mark-added (some s) h = rw (added-unmarked s h, lt-leb maxPending 0 (omega arith))
 
-  pub mark-none : (s : Store) → isNone (announced narrow p s) ≡ hasNoRoom p s || isFullyMarked p s
-  unfolding announced ensured announcedIn hasNoRoom isFullyMarked isNone
+  pub mark-none : (s : Store) → isNone (announced narrow p s) ≡ hasNoRoom p s || isFullyPending p s
+  unfolding announced ensured announcedIn hasNoRoom isFullyPending isNone
   mark-none s =
       byTest (isPresent p s)
       (λ e. rw e (byTest (leb maxPending (pending (nodeOf p s))) (λ f. rw f) (λ f. rw f)))
@@ -122,15 +121,15 @@ module _ (p : Words) (five : length p ≡ labelWidth) where
       or-none false = refl
 
 -- ---- A raise, and marks taken back
-unmarked-not : (p : Words) (s : Store) → isUnmarked p s ≡ not (isPending p s)
-unfolding isUnmarked isPending
+unmarked-not : (p : Words) (s : Store) → isMissingOrFree p s ≡ not (isPending p s)
+unfolding isMissingOrFree isPending isFree
 unmarked-not p s =
     byTest (isPresent p s)
     (λ e. rw (e, not-zero (pending (nodeOf p s))) (byTest (eqb (pending (nodeOf p s)) 0) (λ f. rw f) (λ f. rw f)))
     (λ e. rw e)
 
-may-not : (p : Words) (s : Store) → not (mayRetire narrow true p s) ≡ isUnmarked p s || isAtLargest narrow p s
-unfolding mayRetire isPending isUnmarked isAtLargest
+may-not : (p : Words) (s : Store) → not (mayRetire narrow true p s) ≡ isMissingOrFree p s || isAtLargest narrow p s
+unfolding mayRetire isPending isMissingOrFree isFree isAtLargest
 may-not p s =
     byTest (isPresent p s)
     (λ e. rw (e, ← not-less (revision narrow (nodeOf p s)) (maxRevision narrow), not-zero (pending (nodeOf p s)))
@@ -141,7 +140,7 @@ may-not p s =
     go true b = refl
     go false b = refl
 
-pub raise-none : (p : Words) (s : Store) → isNone (retired narrow true (p ∷ []) s) ≡ isUnmarked p s || isAtLargest narrow p s
+pub raise-none : (p : Words) (s : Store) → isNone (retired narrow true (p ∷ []) s) ≡ isMissingOrFree p s || isAtLargest narrow p s
 unfolding retired
 raise-none p s = none-cond (mayRetire narrow true p s) _ ∙ may-not p s
 
@@ -156,19 +155,19 @@ taken-apart : (w : Write) (i : ℕ) → Apart (take i (writeLabels w))
 taken-apart w i =
     once-apart (take i (writeLabels w)) (λ p. let a = write-once w p in let b = tally-parts p i (writeLabels w) in omega arith)
 
-back-not : (ps : List Words) (s : Store) → not (allRetirable false ps s) ≡ someUnmarked ps s
-unfolding allRetirable someUnmarked mayRetire
+back-not : (ps : List Words) (s : Store) → not (allRetirable false ps s) ≡ someMissingOrFree ps s
+unfolding allRetirable someMissingOrFree mayRetire
 back-not [] s = refl
 back-not (p ∷ ps) s =
     go (isPending p s) (allRetirable false ps s)
     ∙ ap (λ (b : Bool). b || not (allRetirable false ps s)) (sym (unmarked-not p s))
-    ∙ ap (λ (b : Bool). isUnmarked p s || b) (back-not ps s)
+    ∙ ap (λ (b : Bool). isMissingOrFree p s || b) (back-not ps s)
   where
     go : (a b : Bool) → not ((a && true) && b) ≡ not a || not b
     go true b = refl
     go false b = refl
 
-pub back-none : (w : Write) (i : ℕ) (s : Store) → isNone (retired narrow false (take i (writeLabels w)) s) ≡ someUnmarked (take i (writeLabels w)) s
+pub back-none : (w : Write) (i : ℕ) (s : Store) → isNone (retired narrow false (take i (writeLabels w)) s) ≡ someMissingOrFree (take i (writeLabels w)) s
 back-none w i s =
     let ps : List Words = take i (writeLabels w) in
     ap isNone (retired-tests false ps s (taken-apart w i))

@@ -12,7 +12,7 @@ use Rattle.query.specs.Shape.{Form, narrow, shapeOf}
 use Rattle.rules.specs.Layout.{maxNodes, maxPending, maxRevision, trayLeast, nodeCountOffset, answerCountOffset, refusedShort, refusedColumns, refusedUnsound, refusedNoClient}
 use Rattle.rules.specs.Layout.{refusedTaken, refusedIdle, refusedCommitted, refusedNoEntry, refusedPending, refusedWorn, refusedOccupied, endedLong, endedFull}
 use Rattle.rules.specs.Work.{readLabels, valueOf, mayAnswer, writeLabels, Work, asking, writing, Request, isWrite, faultOf}
-use Rattle.rules.specs.Nodes.{Words, Node, Store, pending, revision, isPresent, nodeOf, isWorn}
+use Rattle.rules.specs.Nodes.{Words, Node, Store, pending, revision, isPresent, nodeOf, isFree, isWorn}
 use Rattle.rules.specs.Client.{Client, steps, foundFull, isIdle, isBad, workAt}
 use Rattle.rules.specs.Memory.{Mem, recordsIn, storeIn}
 use Rattle.rules.specs.Outcome.{number}
@@ -51,20 +51,20 @@ isBusy m d = isThere d && not (isIdle (form m) (client m d))
 -- By the label p of the node that a step is about, and the nodes s as the call finds them; a node's pending writes are its marks, its revision
 -- is its counter.
 -- "finds its node missing or unmarked"
-unfoldable pub isUnmarked : Words → Store → Bool
-isUnmarked p s = not (isPresent p s) || eqb (pending (nodeOf p s)) 0
+unfoldable pub isMissingOrFree : Words → Store → Bool
+isMissingOrFree p s = not (isPresent p s) || isFree (nodeOf p s)
 
--- "no unmarked node to put out": a node is to be added, "1,024 are there", and each of them is marked
-unfoldable pub allMarked : List Node → Bool
-allMarked [] = true
-allMarked (n ∷ ns) = ltb 0 (pending n) && allMarked ns
+-- "no unmarked node to put out": a node is to be added, "1,024 are there", and none of them is unmarked
+unfoldable pub noneFree : List Node → Bool
+noneFree [] = true
+noneFree (n ∷ ns) = not (isFree n) && noneFree ns
 
 unfoldable pub hasNoRoom : Words → Store → Bool
-hasNoRoom p s = not (isPresent p s) && (leb maxNodes (length (s .nodes)) && allMarked (s .nodes))
+hasNoRoom p s = not (isPresent p s) && (leb maxNodes (length (s .nodes)) && noneFree (s .nodes))
 
 -- "marks at 12 or more to add to"
-unfoldable pub isFullyMarked : Words → Store → Bool
-isFullyMarked p s = isPresent p s && leb maxPending (pending (nodeOf p s))
+unfoldable pub isFullyPending : Words → Store → Bool
+isFullyPending p s = isPresent p s && leb maxPending (pending (nodeOf p s))
 
 -- "a counter at its largest to raise"
 unfoldable pub isAtLargest : Form → Words → Store → Bool
@@ -80,17 +80,17 @@ isUnsoundAt m (writing w) i =
     let n : ℕ = length (writeLabels w) in
     let p : Words = getD (writeLabels w) i [] in
     let q : Words = getD (writeLabels w) (i - (n + 1)) [] in
-    cond (ltb i n) (hasNoRoom p s || isFullyMarked p s) (ltb n i && (isUnmarked q s || isAtLargest (form m) q s))
+    cond (ltb i n) (hasNoRoom p s || isFullyPending p s) (ltb n i && (isMissingOrFree q s || isAtLargest (form m) q s))
 
 -- What an abandoning of work of i steps may find: "the taking back of a mark .. its node missing or unmarked", at any of the i nodes of the
 -- marks. Nor does this 3 apply together with 7, since it is "A writer before its table step" that "takes back the marks it has set".
-unfoldable pub someUnmarked : List Words → Store → Bool
-someUnmarked [] s = false
-someUnmarked (p ∷ ps) s = isUnmarked p s || someUnmarked ps s
+unfoldable pub someMissingOrFree : List Words → Store → Bool
+someMissingOrFree [] s = false
+someMissingOrFree (p ∷ ps) s = isMissingOrFree p s || someMissingOrFree ps s
 
 unfoldable pub isUnsoundBack : Mem → Work → ℕ → Bool
 isUnsoundBack m (asking x) i = false
-isUnsoundBack m (writing w) i = someUnmarked (take i (writeLabels w)) (storeIn (form m) (m .nodes))
+isUnsoundBack m (writing w) i = someMissingOrFree (take i (writeLabels w)) (storeIn (form m) (m .nodes))
 
 -- ---- 12 and 13
 -- "a read's table step finds over 32 records"

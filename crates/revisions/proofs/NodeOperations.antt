@@ -118,7 +118,7 @@ evict-ok i s d r h z =
       out-length o,
     )
 
-evict-has : (i : ℕ) (s : Store) (p : Words) → i < length (s .nodes) → has (s .nodes) p ≡ false → has (evictNode narrow i s .nodes) p ≡ false
+pub evict-has : (i : ℕ) (s : Store) (p : Words) → i < length (s .nodes) → has (s .nodes) p ≡ false → has (evictNode narrow i s .nodes) p ≡ false
 unfolding evictNode
 evict-has i s p h e = out-has p (without-out (s .nodes) i h) e
 
@@ -144,7 +144,7 @@ grew-trans g k back = record {
 }
 
 module _ (p : Words) (five : length p ≡ labelWidth) where
-  added-has : (s : Store) (q : Words) → has (added narrow p s .nodes) q ≡ (has (s .nodes) q || same p q)
+  pub added-has : (s : Store) (q : Words) → has (added narrow p s .nodes) q ≡ (has (s .nodes) q || same p q)
   unfolding added
   added-has s q = last-has _ (s .nodes) q ∙ rw (fresh-label p (s .floor) five) refl
 
