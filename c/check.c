@@ -102,10 +102,12 @@ static void check_unopened(mondzafeky_hall *hall)
     const mondzafeky_column query[1] = {mondzafeky_is(5)};
     memset(hall, 0, sizeof *hall);
     REPLIES(mondzafeky_hall_begin_read(hall, 0, query, 1), MONDZAFEKY_COLUMNS, 0, NOTHING);
+    REPLIES(mondzafeky_hall_begin_count(hall, 0, query, 1), MONDZAFEKY_COLUMNS, 0, NOTHING);
     REPLIES(mondzafeky_hall_begin_insert(hall, 0, query, 1), MONDZAFEKY_COLUMNS, 0, NOTHING);
     REPLIES(mondzafeky_hall_begin_delete(hall, 0, query, 1), MONDZAFEKY_COLUMNS, 0, NOTHING);
     /* no columns are as many as an unopened hall has */
     REPLIES(mondzafeky_hall_begin_read(hall, 0, query, 0), MONDZAFEKY_UNSOUND, 0, NOTHING);
+    REPLIES(mondzafeky_hall_begin_count(hall, 0, query, 0), MONDZAFEKY_UNSOUND, 0, NOTHING);
     REPLIES(mondzafeky_hall_step(hall, 0), MONDZAFEKY_UNSOUND, 0, NOTHING);
     REPLIES(mondzafeky_run(hall, 0), MONDZAFEKY_UNSOUND, 0, NOTHING);
     REPLIES(mondzafeky_hall_abandon(hall, 0), MONDZAFEKY_UNSOUND, 0, NOTHING);
@@ -140,6 +142,9 @@ static void agree(
 }
 
 #define AGREE(call, low_call) agree(__LINE__, hall, call, low_call)
+#define AGREE_STEP(client) \
+    AGREE(mondzafeky_hall_step(hall, client), \
+          mondzafeky_step(MEMORIES(&low), low.tray, MONDZAFEKY_TRAY_LEAST, client))
 
 static void check_handed_on(mondzafeky_hall *hall)
 {
@@ -158,22 +163,23 @@ static void check_handed_on(mondzafeky_hall *hall)
           mondzafeky_begin_read(MEMORIES(&low), 4, query_numbers, 6));
     AGREE(mondzafeky_hall_begin_read(hall, 5, query, 2),
           mondzafeky_begin_read(MEMORIES(&low), 5, query_numbers, 4));
+    AGREE(mondzafeky_hall_begin_count(hall, 6, query, 3),
+          mondzafeky_begin_count(MEMORIES(&low), 6, query_numbers, 6));
+    AGREE(mondzafeky_hall_begin_count(hall, 7, query, 2),
+          mondzafeky_begin_count(MEMORIES(&low), 7, query_numbers, 4));
     for (i = 0; i < 18; i++) {
-        AGREE(mondzafeky_hall_step(hall, 11),
-              mondzafeky_step(MEMORIES(&low), low.tray, MONDZAFEKY_TRAY_LEAST, 11));
-        AGREE(mondzafeky_hall_step(hall, 4),
-              mondzafeky_step(MEMORIES(&low), low.tray, MONDZAFEKY_TRAY_LEAST, 4));
+        AGREE_STEP(11);
+        AGREE_STEP(4);
+        AGREE_STEP(6);
     }
     AGREE(mondzafeky_hall_begin_read(hall, 0, query, 3),
           mondzafeky_begin_read(MEMORIES(&low), 0, query_numbers, 6));
     for (i = 0; i < 8; i++) {
-        AGREE(mondzafeky_hall_step(hall, 0),
-              mondzafeky_step(MEMORIES(&low), low.tray, MONDZAFEKY_TRAY_LEAST, 0));
+        AGREE_STEP(0);
     }
     AGREE(mondzafeky_hall_begin_delete(hall, 2, query, 3),
           mondzafeky_begin_delete(MEMORIES(&low), 2, query_numbers, 6));
-    AGREE(mondzafeky_hall_step(hall, 2),
-          mondzafeky_step(MEMORIES(&low), low.tray, MONDZAFEKY_TRAY_LEAST, 2));
+    AGREE_STEP(2);
     AGREE(mondzafeky_hall_abandon(hall, 2), mondzafeky_abandon(MEMORIES(&low), 2));
     AGREE(mondzafeky_hall_evict_answer(hall, 0), mondzafeky_evict_answer(MEMORIES(&low), 0));
     AGREE(mondzafeky_hall_evict_node(hall, 1), mondzafeky_evict_node(MEMORIES(&low), 1));
@@ -203,6 +209,12 @@ static mondzafeky_reply read_of(mondzafeky_hall *hall, uint32_t client, uint32_t
 {
     const mondzafeky_reply begun = begin_read(hall, client, first);
     return mondzafeky_refused(begun) ? begun : mondzafeky_run(hall, client);
+}
+
+static mondzafeky_reply begin_count(mondzafeky_hall *hall, uint32_t client, uint32_t first)
+{
+    const mondzafeky_column query[2] = {mondzafeky_is(first), mondzafeky_star()};
+    return mondzafeky_hall_begin_count(hall, client, query, 2);
 }
 
 static void steps(mondzafeky_hall *hall, uint32_t client, int count)
@@ -250,6 +262,90 @@ static void check_ends(mondzafeky_hall *hall)
     REPLIES(write_of(hall, 0, 1, 7, 0), ACCEPTED, 0, MONDZAFEKY_UNCHANGED);
 }
 
+/* A whole count at desk 9, which makes so many steps and leaves the tray as it was. */
+static mondzafeky_reply count_of(
+    mondzafeky_hall *hall, const mondzafeky_column *query, int made)
+{
+    static uint32_t tray[MONDZAFEKY_TRAY_LEAST];
+    mondzafeky_reply reply;
+    memset(hall->tray, 9, sizeof tray);
+    memset(tray, 9, sizeof tray);
+    REPLIES(mondzafeky_hall_begin_count(hall, 9, query, 2), ACCEPTED, 0, NOTHING);
+    CHECK(mondzafeky_counts(hall, 9));
+    steps(hall, 9, made - 1);
+    reply = mondzafeky_run(hall, 9);
+    CHECK(mondzafeky_ended(reply) && mondzafeky_work(hall, 9) == 0);
+    CHECK(!mondzafeky_counts(hall, 9) && memcmp(hall->tray, tray, sizeof tray) == 0);
+    return reply;
+}
+
+/* Counts in the hall that check_ends leaves: 1 record of 3, 32 of 7, 2,015 of 8. */
+static void check_counts(mondzafeky_hall *hall)
+{
+    const mondzafeky_column all[2] = {mondzafeky_star(), mondzafeky_star()};
+    const mondzafeky_column eight[2] = {mondzafeky_is(8), mondzafeky_star()};
+    const mondzafeky_column none[2] = {mondzafeky_is(9), mondzafeky_is(9)};
+    REPLIES(mondzafeky_hall_renew(hall), ACCEPTED, 0, NOTHING);
+    REPLIES(count_of(hall, all, 4), ACCEPTED, 2048, MONDZAFEKY_FROM_TABLE);
+    REPLIES(count_of(hall, all, 2), ACCEPTED, 2048, MONDZAFEKY_FROM_FILE);
+    REPLIES(count_of(hall, eight, 5), ACCEPTED, 2015, MONDZAFEKY_FROM_TABLE);
+    REPLIES(count_of(hall, none, 7), ACCEPTED, 0, MONDZAFEKY_FROM_TABLE);
+    REPLIES(count_of(hall, none, 5), ACCEPTED, 0, MONDZAFEKY_FROM_FILE);
+    /* a filed count is no list, and a filed list no count */
+    REPLIES(read_of(hall, 1, 8), MONDZAFEKY_LONG, 0, NOTHING);
+    REPLIES(read_of(hall, 1, 7), ACCEPTED, 32, MONDZAFEKY_FROM_TABLE);
+    REPLIES(begin_count(hall, 1, 7), ACCEPTED, 0, NOTHING);
+    REPLIES(mondzafeky_run(hall, 1), ACCEPTED, 32, MONDZAFEKY_FROM_TABLE);
+    CHECK(mondzafeky_answers(hall) == 5);
+    /* a look that saw a mark: one step fewer, and nothing is filed */
+    REPLIES(mondzafeky_hall_begin_delete(hall, 0, eight, 2), ACCEPTED, 0, NOTHING);
+    steps(hall, 0, 5);
+    REPLIES(count_of(hall, all, 3), ACCEPTED, 33, MONDZAFEKY_FROM_TABLE);
+    REPLIES(mondzafeky_run(hall, 0), ACCEPTED, 0, MONDZAFEKY_CHANGED);
+    REPLIES(count_of(hall, all, 4), ACCEPTED, 33, MONDZAFEKY_FROM_TABLE);
+    CHECK(mondzafeky_answers(hall) == 5);
+}
+
+/* Those of a count, at the hall of check_refusals, in which desk 0 is busy. */
+static void check_count_refusals(mondzafeky_hall *hall)
+{
+    static const uint32_t numbers[4] = {1, 1, 0, 0};
+    const mondzafeky_column query[2] = {mondzafeky_is(1), mondzafeky_star()};
+    REPLIES(mondzafeky_begin_count(hall->table, MONDZAFEKY_TABLE_LEAST, hall->nodes,
+                                   MONDZAFEKY_NODES_LEAST, hall->answers,
+                                   MONDZAFEKY_ANSWERS_LEAST - 1, hall->clients,
+                                   MONDZAFEKY_CLIENTS_LEAST, 2, numbers, 4),
+            MONDZAFEKY_SHORT, 0, NOTHING);
+    REPLIES(mondzafeky_hall_begin_count(hall, 2, query, 1), MONDZAFEKY_COLUMNS, 0, NOTHING);
+    REPLIES(begin_count(hall, 12, 1), MONDZAFEKY_NO_CLIENT, 0, NOTHING);
+    REPLIES(begin_count(hall, 0, 1), MONDZAFEKY_TAKEN, 0, NOTHING);
+    /* its step is lent a tray that is too short; then it is given up */
+    REPLIES(begin_count(hall, 2, 1), ACCEPTED, 0, NOTHING);
+    REPLIES(mondzafeky_step(MEMORIES(hall), hall->tray, MONDZAFEKY_TRAY_LEAST - 1, 2),
+            MONDZAFEKY_SHORT, 0, NOTHING);
+    REPLIES(mondzafeky_hall_abandon(hall, 2), ACCEPTED, 0, NOTHING);
+}
+
+/* 3 and 10, at the hall of check_refusals; desk 1 has been at the table, desk 0 has not. */
+static void check_unsound_and_worn(mondzafeky_hall *hall)
+{
+    static mondzafeky_hall before;
+    /* the nodes are gone, by something else than a call: the first raise of a run finds none */
+    hall->nodes[1] = 0;
+    before = *hall;
+    REPLIES(mondzafeky_run(hall, 1), MONDZAFEKY_UNSOUND, 0, NOTHING);
+    CHECK(same(hall, &before));
+    /* desk 0 still makes its last mark, at a node added, and its table step; then it is refused */
+    REPLIES(mondzafeky_run(hall, 0), MONDZAFEKY_UNSOUND, 0, NOTHING);
+    CHECK(mondzafeky_steps(hall, 0) == 5);
+    REPLIES(mondzafeky_hall_open(hall, 2), ACCEPTED, 0, NOTHING);
+    hall->nodes[0] = 4294967103u;
+    REPLIES(write_of(hall, 0, 1, 1, 1), ACCEPTED, 0, MONDZAFEKY_CHANGED);
+    REPLIES(write_of(hall, 0, 1, 1, 2), MONDZAFEKY_WORN, 0, NOTHING);
+    REPLIES(mondzafeky_hall_renew(hall), ACCEPTED, 0, NOTHING);
+    REPLIES(write_of(hall, 0, 1, 1, 2), ACCEPTED, 0, MONDZAFEKY_CHANGED);
+}
+
 /* Every refusal, the hall as it was after each. */
 static void check_refusals(mondzafeky_hall *hall)
 {
@@ -272,6 +368,7 @@ static void check_refusals(mondzafeky_hall *hall)
     REPLIES(mondzafeky_hall_begin_read(hall, 2, query, 1), MONDZAFEKY_COLUMNS, 0, NOTHING);
     REPLIES(begin_read(hall, 12, 1), MONDZAFEKY_NO_CLIENT, 0, NOTHING);
     REPLIES(begin_read(hall, 0, 1), MONDZAFEKY_TAKEN, 0, NOTHING);
+    check_count_refusals(hall);
     REPLIES(mondzafeky_hall_step(hall, 2), MONDZAFEKY_IDLE, 0, NOTHING);
     REPLIES(mondzafeky_hall_abandon(hall, 2), MONDZAFEKY_IDLE, 0, NOTHING);
     REPLIES(mondzafeky_hall_abandon(hall, 1), MONDZAFEKY_COMMITTED, 0, NOTHING);
@@ -283,28 +380,42 @@ static void check_refusals(mondzafeky_hall *hall)
     REPLIES(mondzafeky_hall_begin_insert(hall, 2, query, 2), MONDZAFEKY_COLUMNS, 0, NOTHING);
     query[1].value = 1;
     REPLIES(mondzafeky_hall_begin_delete(hall, 2, query, 2), MONDZAFEKY_COLUMNS, 0, NOTHING);
+    REPLIES(mondzafeky_hall_begin_count(hall, 2, query, 2), MONDZAFEKY_COLUMNS, 0, NOTHING);
     CHECK(same(hall, &before));
-    /* the nodes are gone, by something else than a call: the first raise of a run finds none */
-    hall->nodes[1] = 0;
-    before = *hall;
-    REPLIES(mondzafeky_run(hall, 1), MONDZAFEKY_UNSOUND, 0, NOTHING);
-    CHECK(same(hall, &before));
-    /* desk 0 still makes its last mark, at a node added, and its table step; then it is refused */
-    REPLIES(mondzafeky_run(hall, 0), MONDZAFEKY_UNSOUND, 0, NOTHING);
-    CHECK(mondzafeky_steps(hall, 0) == 5);
-    REPLIES(mondzafeky_hall_open(hall, 2), ACCEPTED, 0, NOTHING);
-    hall->nodes[0] = 4294967103u;
-    REPLIES(write_of(hall, 0, 1, 1, 1), ACCEPTED, 0, MONDZAFEKY_CHANGED);
-    REPLIES(write_of(hall, 0, 1, 1, 2), MONDZAFEKY_WORN, 0, NOTHING);
-    REPLIES(mondzafeky_hall_renew(hall), ACCEPTED, 0, NOTHING);
-    REPLIES(write_of(hall, 0, 1, 1, 2), ACCEPTED, 0, MONDZAFEKY_CHANGED);
+    check_unsound_and_worn(hall);
+}
+
+/* What is under way at the desks of check_inside: a read, an insert, a count, a delete. */
+static void check_desks(mondzafeky_hall *hall)
+{
+    const mondzafeky_column record[2] = {mondzafeky_is(1), mondzafeky_is(1)};
+    uint32_t client;
+    REPLIES(begin_read(hall, 1, 1), ACCEPTED, 0, NOTHING);
+    steps(hall, 1, 1);
+    REPLIES(mondzafeky_hall_begin_insert(hall, 4, record, 2), ACCEPTED, 0, NOTHING);
+    steps(hall, 4, 4);
+    REPLIES(mondzafeky_hall_begin_delete(hall, 11, record, 2), ACCEPTED, 0, NOTHING);
+    steps(hall, 11, 7);
+    REPLIES(begin_count(hall, 8, 5), ACCEPTED, 0, NOTHING);
+    steps(hall, 8, 2);
+    for (client = 0; client < 14; client++) {
+        const uint32_t read = client == 1 || client == 8 ? 1 : 0;
+        const uint32_t work = client == 4 ? 2 : client == 11 ? 3 : read;
+        const uint32_t made = client == 8 ? 2 : client == 4 ? 4 : client == 11 ? 7 : read;
+        CHECK(mondzafeky_work(hall, client) == work);
+        CHECK(mondzafeky_steps(hall, client) == made);
+        CHECK(mondzafeky_counts(hall, client) == (client == 8));
+    }
+    CHECK(mondzafeky_work(hall, UINT32_MAX) == 0 && mondzafeky_steps(hall, UINT32_MAX) == 0);
+    CHECK(mondzafeky_counts(hall, UINT32_MAX) == 0);
+    REPLIES(mondzafeky_hall_abandon(hall, 1), ACCEPTED, 0, NOTHING);
+    CHECK(mondzafeky_work(hall, 1) == 0 && mondzafeky_steps(hall, 1) == 0);
+    CHECK(mondzafeky_records(hall) == 2);
 }
 
 /* What is inside after a few calls, each number another. */
 static void check_inside(mondzafeky_hall *hall)
 {
-    const mondzafeky_column record[2] = {mondzafeky_is(1), mondzafeky_is(1)};
-    uint32_t client;
     REPLIES(mondzafeky_hall_open(hall, 2), ACCEPTED, 0, NOTHING);
     CHECK(mondzafeky_columns(hall) == 2 && mondzafeky_floor(hall) == 1);
     CHECK(mondzafeky_records(hall) == 0 && mondzafeky_answers(hall) == 0);
@@ -323,22 +434,7 @@ static void check_inside(mondzafeky_hall *hall)
     CHECK(mondzafeky_nodes(hall) == 9 && mondzafeky_floor(hall) == 4);
     REPLIES(mondzafeky_hall_evict_answer(hall, 0), ACCEPTED, 0, NOTHING);
     CHECK(mondzafeky_answers(hall) == 1);
-    REPLIES(begin_read(hall, 1, 1), ACCEPTED, 0, NOTHING);
-    steps(hall, 1, 1);
-    REPLIES(mondzafeky_hall_begin_insert(hall, 4, record, 2), ACCEPTED, 0, NOTHING);
-    steps(hall, 4, 4);
-    REPLIES(mondzafeky_hall_begin_delete(hall, 11, record, 2), ACCEPTED, 0, NOTHING);
-    steps(hall, 11, 7);
-    for (client = 0; client < 14; client++) {
-        const uint32_t work = client == 1 ? 1 : client == 4 ? 2 : client == 11 ? 3 : 0;
-        const uint32_t made = client == 1 ? 1 : client == 4 ? 4 : client == 11 ? 7 : 0;
-        CHECK(mondzafeky_work(hall, client) == work);
-        CHECK(mondzafeky_steps(hall, client) == made);
-    }
-    CHECK(mondzafeky_work(hall, UINT32_MAX) == 0 && mondzafeky_steps(hall, UINT32_MAX) == 0);
-    REPLIES(mondzafeky_hall_abandon(hall, 1), ACCEPTED, 0, NOTHING);
-    CHECK(mondzafeky_work(hall, 1) == 0 && mondzafeky_steps(hall, 1) == 0);
-    CHECK(mondzafeky_records(hall) == 2);
+    check_desks(hall);
 }
 
 /*
@@ -365,6 +461,9 @@ static void check_saved(mondzafeky_hall *hall)
     CHECK(memcmp(hall, &loaded, 113600) == 0);
     CHECK(mondzafeky_record(&loaded, 1)[1] == 3);
     CHECK(loaded.tray[4] == UINT32_MAX);
+    /* desk 8 counts what fits (5, *): no record */
+    REPLIES(mondzafeky_run(&loaded, 8), ACCEPTED, 0, MONDZAFEKY_FROM_TABLE);
+    CHECK(mondzafeky_record(&loaded, 1)[1] == 3);
 }
 
 static void check_hall(mondzafeky_hall *hall)
@@ -372,6 +471,7 @@ static void check_hall(mondzafeky_hall *hall)
     check_unopened(hall);
     check_handed_on(hall);
     check_ends(hall);
+    check_counts(hall);
     check_refusals(hall);
     check_inside(hall);
     check_saved(hall);

@@ -1,7 +1,8 @@
 /*
  * Three desks at one table, as a model for a program in C. An answer is filed and given again; a
  * record is corrected, by a delete and an insert, step by step while other desks read; a refusal is
- * met and named; a read of too many records and an insert into a full table come to their ends.
+ * met and named; a read of too many records and an insert into a full table come to their ends; a
+ * count tells how many there are.
  * Leans on mondzafeky.h alone. The Rust example three_desks tells the same and prints the same.
  */
 #include "mondzafeky.h"
@@ -14,8 +15,16 @@
 
 static mondzafeky_hall hall;
 
-/* What a call replied. 12 and 13 are ends like the others: the desk is idle after them. */
-static void tell(mondzafeky_reply reply)
+static const char *place_of(mondzafeky_reply reply)
+{
+    return reply.ending == MONDZAFEKY_FROM_FILE ? "file" : "table";
+}
+
+/*
+ * What a call replied. 12 and 13 are ends like the others: the desk is idle after them. The reply
+ * does not say whether a count was under way: then there are no records to print.
+ */
+static void tell(mondzafeky_reply reply, int counts)
 {
     uint32_t i;
     if (reply.number != MONDZAFEKY_ACCEPTED) {
@@ -27,9 +36,10 @@ static void tell(mondzafeky_reply reply)
         printf("ended, the table has changed\n");
     } else if (reply.ending == MONDZAFEKY_UNCHANGED) {
         printf("ended, the table is as it was\n");
+    } else if (counts) {
+        printf("counted from %s: %u\n", place_of(reply), reply.count);
     } else {
-        printf("answered from %s with %u", reply.ending == MONDZAFEKY_FROM_FILE ? "file" : "table",
-               reply.count);
+        printf("answered from %s with %u", place_of(reply), reply.count);
         /* the records lie in the tray until the next answer: a few of them are printed */
         for (i = 0; i < reply.count && i < 3; i++) {
             const uint32_t *record = mondzafeky_record(&hall, i);
@@ -43,12 +53,12 @@ static void tell(mondzafeky_reply reply)
 static void must(mondzafeky_reply reply)
 {
     if (mondzafeky_refused(reply)) {
-        tell(reply);
+        tell(reply, 0);
         exit(1);
     }
 }
 
-/* The three begins, told. */
+/* The begins, told. */
 static void begin_insert(uint32_t desk, uint32_t bench, uint32_t setting)
 {
     const mondzafeky_column record[K] = {mondzafeky_is(bench), mondzafeky_is(setting)};
@@ -71,11 +81,20 @@ static void begin_read(uint32_t desk, uint32_t bench)
     must(mondzafeky_hall_begin_read(&hall, desk, query, K));
 }
 
+/* How many records there are, of any bench and setting. */
+static void begin_count_all(uint32_t desk)
+{
+    const mondzafeky_column all[K] = {mondzafeky_star(), mondzafeky_star()};
+    printf("desk %u begins to count (*, *)\n", desk);
+    must(mondzafeky_hall_begin_count(&hall, desk, all, K));
+}
+
 /* All steps up to the end, which is told. */
 static void run(uint32_t desk)
 {
+    const int counts = mondzafeky_counts(&hall, desk);
     printf("  desk %u: ", desk);
-    tell(mondzafeky_run(&hall, desk));
+    tell(mondzafeky_run(&hall, desk), counts);
 }
 
 /* One step for each place in a row of desks, each told. */
@@ -85,8 +104,10 @@ static void steps(const char *row)
     for (; *row != '\0'; row++) {
         const uint32_t desk = (uint32_t)(*row - '0');
         const uint32_t made = mondzafeky_steps(&hall, desk);
-        printf("  desk %u, %s, step %u: ", desk, works[mondzafeky_work(&hall, desk)], made + 1);
-        tell(mondzafeky_hall_step(&hall, desk));
+        const int counts = mondzafeky_counts(&hall, desk);
+        const char *work = counts ? "count" : works[mondzafeky_work(&hall, desk)];
+        printf("  desk %u, %s, step %u: ", desk, work, made + 1);
+        tell(mondzafeky_hall_step(&hall, desk), counts);
     }
 }
 
@@ -102,9 +123,30 @@ static void fill(uint32_t bench, uint32_t count)
     printf("the table holds %u records\n", mondzafeky_records(&hall));
 }
 
-int main(void)
+/* 12, a count, 13. */
+static void ends(void)
 {
     const mondzafeky_column all[K] = {mondzafeky_star(), mondzafeky_star()};
+    printf("-- a read of more than 32 records ends with 12: read in parts\n");
+    fill(7, MONDZAFEKY_LIST);
+    printf("desk 1 begins to read (*, *)\n");
+    must(mondzafeky_hall_begin_read(&hall, 1, all, K));
+    run(1);
+    begin_read(1, 7);
+    run(1);
+    printf("-- a count tells how many there are, past 32 too; it is filed as a list is\n");
+    begin_count_all(1);
+    steps("1111");
+    begin_count_all(2);
+    run(2);
+    printf("-- an insert into a full table ends with 13\n");
+    fill(8, MONDZAFEKY_RECORDS - mondzafeky_records(&hall));
+    begin_insert(2, 9, 1);
+    run(2);
+}
+
+int main(void)
+{
     must(mondzafeky_hall_open(&hall, K));
     printf("-- an answer is filed at the first read and given again at the second\n");
     begin_insert(0, 3, 40);
@@ -120,7 +162,7 @@ int main(void)
     steps("101110");
     printf("-- the delete has reached the table, so it cannot be given up; a read sees the gap\n");
     printf("desk 0 would abandon it: ");
-    tell(mondzafeky_hall_abandon(&hall, 0));
+    tell(mondzafeky_hall_abandon(&hall, 0), 0);
     begin_read(2, 3);
     steps("20202020");
     printf("-- the insert closes the gap while a read is under way\n");
@@ -133,16 +175,6 @@ int main(void)
     run(1);
     begin_read(2, 3);
     run(2);
-    printf("-- a read of more than 32 records ends with 12: read in parts\n");
-    fill(7, MONDZAFEKY_LIST);
-    printf("desk 1 begins to read (*, *)\n");
-    must(mondzafeky_hall_begin_read(&hall, 1, all, K));
-    run(1);
-    begin_read(1, 7);
-    run(1);
-    printf("-- an insert into a full table ends with 13\n");
-    fill(8, MONDZAFEKY_RECORDS - mondzafeky_records(&hall));
-    begin_insert(2, 9, 1);
-    run(2);
+    ends();
     return 0;
 }

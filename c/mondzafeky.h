@@ -24,8 +24,8 @@
  *     query[1] = mondzafeky_star();                      anything in the second
  *     reply = mondzafeky_hall_begin_read(&hall, 0, query, 2);
  *     if (!mondzafeky_refused(reply)) reply = mondzafeky_run(&hall, 0);
- * The inline functions over a hall hand their arguments on to the nine calls of the archive, whose
- * work is proved; they themselves are not proved. The nine calls stand before them, and take each
+ * The inline functions over a hall hand their arguments on to the ten calls of the archive, whose
+ * work is proved; they themselves are not proved. The ten calls stand before them, and take each
  * memory for itself.
  *
  * WHAT YOU OWE at a call over a hall, and this is all:
@@ -64,7 +64,7 @@
 /* What a call answers. */
 typedef struct {
     uint32_t number; /* one of the numbers below */
-    uint32_t count;  /* how many records were answered; 0 of all that is no answer */
+    uint32_t count;  /* how many records were answered, or counted; 0 of all that is no answer */
     uint32_t ending; /* one of the endings below */
 } mondzafeky_reply;
 
@@ -76,9 +76,9 @@ typedef struct {
 #define MONDZAFEKY_ACCEPTED 0u
 #define MONDZAFEKY_SHORT 1u     /* a lent memory is below its least length */
 #define MONDZAFEKY_COLUMNS 2u   /* k not 1 to 4; not a query of k columns; an insert with a star */
-#define MONDZAFEKY_UNSOUND 3u   /* k, a count or a filed list's length in memory is out of range,
-                                   or what stands at the desk or at its node is, or no unmarked
-                                   node can make room */
+#define MONDZAFEKY_UNSOUND 3u   /* k, a number of entries, a filed list's length or a filed count
+                                   in memory is out of range, or what stands at the desk or at its
+                                   node is, or no unmarked node can make room */
 #define MONDZAFEKY_NO_CLIENT 4u /* the client, the desk, is above 11 */
 #define MONDZAFEKY_TAKEN 5u     /* a begin at a busy desk */
 #define MONDZAFEKY_IDLE 6u      /* a step or an abandoning at an idle desk */
@@ -89,19 +89,19 @@ typedef struct {
                                    4,294,967,103 */
 #define MONDZAFEKY_OCCUPIED 11u /* a renewal with a busy desk */
 #define MONDZAFEKY_LONG 12u     /* the read has ended: more than 32 records match; the tray is
-                                   untouched */
+                                   untouched; a count never ends so */
 #define MONDZAFEKY_FULL 13u     /* the insert has ended: the table held 2,048 records and not
                                    this one */
 
 /* Endings: what has ended with this call. */
 #define MONDZAFEKY_NOTHING 0u    /* nothing, or the number says what (12 and 13) */
-#define MONDZAFEKY_FROM_FILE 1u  /* a read, answered with a filed answer */
-#define MONDZAFEKY_FROM_TABLE 2u /* a read, answered from the table */
+#define MONDZAFEKY_FROM_FILE 1u  /* a read or a count, answered with a filed answer */
+#define MONDZAFEKY_FROM_TABLE 2u /* a read or a count, answered from the table */
 #define MONDZAFEKY_CHANGED 3u    /* a write, and it changed the table */
 #define MONDZAFEKY_UNCHANGED 4u  /* a write, and the table is as it was */
 
 /*
- * The nine calls of the archive, each memory for itself. A program with one mondzafeky_hall needs
+ * The ten calls of the archive, each memory for itself. A program with one mondzafeky_hall needs
  * none of them: the functions over a hall stand after them.
  *
  * What a caller owes here, and this is all:
@@ -129,7 +129,7 @@ mondzafeky_reply mondzafeky_open(
     uint32_t k);
 
 /*
- * The three begins start a read or a write at an idle desk; they write that desk's part of the
+ * The four begins start a read or a write at an idle desk; they write that desk's part of the
  * clients memory. client: the desk, 0 to 11. A query has for each column two numbers, its mark and
  * its value: mark 1 names the value, mark 0 is a star, which any value fits, and its value is 0. So
  * query_len is 2 * k. With k 2, "3 in the first column, anything in the second" is {1, 3, 0, 0}.
@@ -137,6 +137,16 @@ mondzafeky_reply mondzafeky_open(
  * begin_read: a read of the records that fit. It takes at most 19 steps. Refusals: 1 to 5.
  */
 mondzafeky_reply mondzafeky_begin_read(
+    uint32_t *table, size_t table_len, uint32_t *nodes, size_t nodes_len,
+    uint32_t *answers, size_t answers_len, uint32_t *clients, size_t clients_len,
+    uint32_t client, const uint32_t *query, size_t query_len);
+
+/*
+ * begin_count: a read that wants only how many records fit. It makes a read's steps, at most 19,
+ * and is answered with the reply's count, 0 to 2,048, never with 12. A tray that is long enough
+ * must be lent to its steps as to all others; none of them writes it. Refusals: 1 to 5.
+ */
+mondzafeky_reply mondzafeky_begin_count(
     uint32_t *table, size_t table_len, uint32_t *nodes, size_t nodes_len,
     uint32_t *answers, size_t answers_len, uint32_t *clients, size_t clients_len,
     uint32_t client, const uint32_t *query, size_t query_len);
@@ -159,8 +169,9 @@ mondzafeky_reply mondzafeky_begin_delete(
 /*
  * One step of what is under way at the desk. It may write each of the four memories. A read's
  * answer writes count records of k numbers each from the tray's start, in ascending order, and
- * leaves the rest of the tray; other steps leave the tray. The desk is idle after an ending other
- * than 0, and after the numbers 12 and 13. Refusals: 1 (of the tray too), 3, 4, 6.
+ * leaves the rest of the tray; other steps, those of a count too, leave the tray. The desk is idle
+ * after an ending other than 0, and after the numbers 12 and 13. Refusals: 1 (of the tray too), 3,
+ * 4, 6.
  */
 mondzafeky_reply mondzafeky_step(
     uint32_t *table, size_t table_len, uint32_t *nodes, size_t nodes_len,
@@ -254,7 +265,7 @@ static inline mondzafeky_column mondzafeky_star(void)
     return column;
 }
 
-/* A hall's four memories, in the order in which each of the nine calls takes them. */
+/* A hall's four memories, in the order in which each of the ten calls takes them. */
 #define MONDZAFEKY_MEMORIES_(hall) \
     (hall)->table, MONDZAFEKY_TABLE_LEAST, (hall)->nodes, MONDZAFEKY_NODES_LEAST, \
     (hall)->answers, MONDZAFEKY_ANSWERS_LEAST, (hall)->clients, MONDZAFEKY_CLIENTS_LEAST
@@ -278,6 +289,17 @@ static inline mondzafeky_reply mondzafeky_hall_begin_read(
     return mondzafeky_begin_read(MONDZAFEKY_MEMORIES_(hall), client, (const uint32_t *)query, 2u * columns);
 }
 
+/*
+ * Begins a count at a desk: a read that wants only how many records fit the query, and makes the
+ * same steps. It is answered with the reply's count, 0 to 2,048, and never with 12; the tray is as
+ * it was, so no record of it lies there. Refusals: 2 to 5.
+ */
+static inline mondzafeky_reply mondzafeky_hall_begin_count(
+    mondzafeky_hall *hall, uint32_t client, const mondzafeky_column *query, size_t columns)
+{
+    return mondzafeky_begin_count(MONDZAFEKY_MEMORIES_(hall), client, (const uint32_t *)query, 2u * columns);
+}
+
 /* Begins an insert of one record; no column is a star. At most 33 steps. Refusals: 2 to 5, 10. */
 static inline mondzafeky_reply mondzafeky_hall_begin_insert(
     mondzafeky_hall *hall, uint32_t client, const mondzafeky_column *query, size_t columns)
@@ -293,8 +315,10 @@ static inline mondzafeky_reply mondzafeky_hall_begin_delete(
 }
 
 /*
- * One step of what is under way at the desk. An answer's records lie in the hall's tray, until
- * another answer takes their place: see mondzafeky_record. Refusals: 3, 4, 6.
+ * One step of what is under way at the desk. A read's records lie in the hall's tray, until another
+ * read's take their place: see mondzafeky_record. The reply does not tell a count from a read: the
+ * program knows what it has begun, or asks mondzafeky_counts before the step or run. Refusals: 3,
+ * 4, 6.
  */
 static inline mondzafeky_reply mondzafeky_hall_step(mondzafeky_hall *hall, uint32_t client)
 {
@@ -396,9 +420,9 @@ static inline const char *mondzafeky_sentence(uint32_t number)
                "hall, or a mark above 1, or a star with a value, or it is an insert with a star; "
                "open the hall with 1 to 4 columns, or correct the query.";
     case MONDZAFEKY_UNSOUND:
-        return "k, a count or a filed list's length in memory is out of range, or what stands at "
-               "the desk or at its node is, or no unmarked node can make room; open the hall, or "
-               "load what the calls last left.";
+        return "k, a number of entries, a filed list's length or a filed count in memory is out of "
+               "range, or what stands at the desk or at its node is, or no unmarked node can make "
+               "room; open the hall, or load what the calls last left.";
     case MONDZAFEKY_NO_CLIENT:
         return "The desk is above 11; name one of 0 to 11.";
     case MONDZAFEKY_TAKEN:
@@ -465,10 +489,22 @@ static inline uint32_t mondzafeky_floor(const mondzafeky_hall *hall)
     return hall->nodes[0];
 }
 
-/* What is under way at the desk: 0 nothing, 1 a read, 2 an insert, 3 a delete; 0 above desk 11. */
+/*
+ * What is under way at the desk: 0 nothing, 1 a read or a count, 2 an insert, 3 a delete; 0 above
+ * desk 11.
+ */
 static inline uint32_t mondzafeky_work(const mondzafeky_hall *hall, uint32_t client)
 {
     return client < MONDZAFEKY_CLIENTS ? hall->clients[8u + 157u * client] : 0u;
+}
+
+/*
+ * Whether a count is under way at the desk, 1 or 0; 0 above desk 11. Ask before the step: after a
+ * count's end the desk is idle.
+ */
+static inline int mondzafeky_counts(const mondzafeky_hall *hall, uint32_t client)
+{
+    return client < MONDZAFEKY_CLIENTS && (hall->clients[8u + 157u * client + 5u] & 16u) != 0u;
 }
 
 /* How many steps it has made; 0 above desk 11. */
@@ -478,8 +514,9 @@ static inline uint32_t mondzafeky_steps(const mondzafeky_hall *hall, uint32_t cl
 }
 
 /*
- * Record i of the answer that lies in the tray, k numbers, for i below the reply's count. NULL
- * where the tray has no room for a record i.
+ * Record i of the list that lies in the tray, k numbers, for i below the count of the list's reply.
+ * NULL where the tray has no room for a record i. A count's reply has no records, and its count may
+ * be above 32.
  */
 static inline const uint32_t *mondzafeky_record(const mondzafeky_hall *hall, uint32_t i)
 {

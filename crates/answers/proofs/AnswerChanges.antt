@@ -1,6 +1,7 @@
 -- Laws of what a change of the filed answers leaves in their memory, in the terms of the code that makes it. Leans on the rules'
 -- definitions and on laws. Assumes nothing.
 use mathlib.Core.Path.{_≡_, refl, sym, ap, _∙_}
+use mathlib.Core.Bool.{true, false}
 use mathlib.Core.List.{List, [], _∷_, _++_, append-assoc, append-nil}
 use Prim.Native.Nat.{ℕ, _+_, _*_, _-_, _≤_, _<_}
 use native.Mathlib.Nat.{mul-le-mul-right}
@@ -11,12 +12,14 @@ use borrow.Author.Tests.{lt-ltb, le-ltb}
 use borrow.Rule.Slice.PartMut.{putMid}
 use Rattle.lists.specs.Lists.{written, without}
 use Rattle.laws.specs.Splice.{removed}
+use Rattle.laws.proofs.WrittenLaws.{written-nil}
 use Rattle.laws.proofs.EntryLaws.{with-append, with-remove, with-replace, with-none}
-use Rattle.rules.specs.Answers.{Entry, lengthIn, listIn, keyPlace, filed}
+use Rattle.rules.specs.Answers.{Entry, lengthIn, isCount, listIn, keyPlace, filed, isLong}
 use Rattle.lists.specs.Lists.{header}
 use Rattle.query.specs.Shape.{shapeOf, maxColumns, narrow}
 use Rattle.rules.specs.Layout.{maxAnswers, maxList, answerCountOffset, lengthOffset, listOffset, listRoom, entryWidth}
 use Rattle.rules.specs.Memory.{answersIn, withAnswers}
+use Rattle.rules.proofs.ClientLaws.{list-short}
 use Rattle.answers.specs.AnswerContracts.{Fit, Gave}
 use Rattle.answers.proofs.AnswerScan.{count-is, part-is}
 use Rattle.answers.proofs.AnswerEntries.{room}
@@ -76,18 +79,23 @@ module _ (s : List ℕ) where
       rw (← e, le-ltb i (length (answersIn narrow s)) (omega arith), le-ltb (length (answersIn narrow s)) maxAnswers (omega arith))
 
 -- ---- what is given
-pub list-fits : (e : Entry) (k : ℕ) → lengthIn e ≤ maxList → k ≤ maxColumns → getD e lengthOffset 0 * k ≤ listRoom
+pub list-fits : (e : Entry) (k : ℕ) → isLong e ≡ false → isCount e ≡ false → k ≤ maxColumns → getD e lengthOffset 0 * k ≤ listRoom
 unfolding lengthIn
-list-fits e k h g = let a : getD e lengthOffset 0 * k ≤ maxList * k = mul-le-mul-right k h in omega arith
+list-fits e k h c g = let a : getD e lengthOffset 0 * k ≤ maxList * k = mul-le-mul-right k (list-short e c h) in omega arith
 
-pub gave : (k : ℕ) (e tray after : List ℕ) → after ≡ written tray 0 (take (listOffset narrow (shapeOf k) + getD e lengthOffset 0 * k - listOffset narrow (shapeOf k)) (drop (listOffset narrow (shapeOf k)) e)) → Gave k e tray (getD e lengthOffset 0) after
+pub gave : (k : ℕ) (e tray after : List ℕ) → isCount e ≡ false → after ≡ written tray 0 (take (listOffset narrow (shapeOf k) + getD e lengthOffset 0 * k - listOffset narrow (shapeOf k)) (drop (listOffset narrow (shapeOf k)) e)) → Gave k e tray (getD e lengthOffset 0) after
 unfolding lengthIn listIn
-gave k e tray after h =
+gave k e tray after c h =
     let m : listOffset narrow (shapeOf k) + getD e lengthOffset 0 * k - listOffset narrow (shapeOf k) ≡ getD e lengthOffset 0 * k = omega arith in
-    record { count = refl; list = rw m at h }
+    record { count = refl; list = rw c (rw m at h) }
 
--- the list of entry i, where it stands in the memory
-pub short-part : (s : List ℕ) (i : ℕ) → lengthIn (getD (answersIn narrow s) i []) ≤ maxList → i < getD s answerCountOffset 0 → lengthIn (take (header + i * entryWidth narrow + entryWidth narrow - (header + i * entryWidth narrow)) (drop (header + i * entryWidth narrow) s)) ≤ maxList
+-- a count leaves the tray
+pub gave-count : (k : ℕ) (e tray : List ℕ) → isCount e ≡ true → Gave k e tray (getD e lengthOffset 0) tray
+unfolding lengthIn listIn
+gave-count k e tray c = record { count = refl; list = rw c (sym (written-nil tray 0)) }
+
+-- entry i, where it stands in the memory
+pub short-part : (s : List ℕ) (i : ℕ) → isLong (getD (answersIn narrow s) i []) ≡ false → i < getD s answerCountOffset 0 → isLong (take (header + i * entryWidth narrow + entryWidth narrow - (header + i * entryWidth narrow)) (drop (header + i * entryWidth narrow) s)) ≡ false
 short-part s i h k = rw (part-is s (header + i * entryWidth narrow) i refl k) h
 
 pub gave-at : (s : List ℕ) (i k r : ℕ) (tray after : List ℕ) → Gave k (take (header + i * entryWidth narrow + entryWidth narrow - (header + i * entryWidth narrow)) (drop (header + i * entryWidth narrow) s)) tray r after → i < getD s answerCountOffset 0

@@ -7,22 +7,41 @@ use Prim.Native.Nat.{ℕ, suc, _+_, _*_, _-_, _≤_, _<_}
 use native.Mathlib.Omega.{arith}
 use lib.Dec.{ltb}
 use lib.ListN.{length, getD, take, drop}
-use lib.Seq.{getD-take, getD-drop}
+use lib.Seq.{getD-take}
 use borrow.Author.Tests.{le-leb, lt-leb, lt-ltb, le-ltb, ltb-false}
 use Rattle.lists.specs.Lists.{same, place, allBelow}
+use Rattle.laws.proofs.TestLaws.{byTest}
 use Rattle.laws.proofs.SearchLaws.{place-start, place-found, place-next, place-none, place-before}
 use Rattle.laws.proofs.EntryLaws.{length-entries, entry-at}
-use Rattle.rules.specs.Answers.{Entry, keyIn, lengthIn, revisionIn, hasKeyOf, atLeast, serves, fetchPlace, keyPlace, isLong, someLong}
+use Rattle.rules.specs.Answers.{Entry, keyIn, lengthIn, revisionIn, isCount, mostIn, hasKeyOf, atLeast, serves, fetchPlace, keyPlace, isLong, someLong}
 use Rattle.lists.specs.Lists.{header}
-use Rattle.query.specs.Encoding.{keyWidth}
+use Rattle.query.specs.Encoding.{keyWidth, countsIn}
 use Rattle.query.specs.Shape.{narrow}
-use Rattle.rules.specs.Layout.{maxList, answerCountOffset, entryWidth}
+use Rattle.rules.specs.Layout.{maxRecords, maxList, answerCountOffset, lengthOffset, entryWidth}
 use Rattle.rules.specs.Memory.{answersIn}
 
 -- ---- one entry
 pub key-same : (e x : Entry) (b : Bool) → b ≡ same (take keyWidth e) (take keyWidth x) → b ≡ hasKeyOf x e
 unfolding hasKeyOf keyIn
 key-same e x b h = h
+
+-- what it is, by its first number
+pub counts-first : (e : Entry) (b : Bool) → ((vs : List ℕ) → b ≡ countsIn (getD e 0 0 ∷ vs)) → b ≡ isCount e
+unfolding countsIn isCount keyIn
+counts-first e b h = h [] ∙ rw (getD-take keyWidth e 0 0 (omega arith))
+
+-- what both may say is not too much; what a count says, and a list above that
+pub long-not : (e : Entry) → getD e lengthOffset 0 ≤ maxList → isLong e ≡ false
+unfolding isLong mostIn lengthIn
+long-not e h = byTest (isCount e) (λ c. rw c (le-ltb maxRecords (getD e lengthOffset 0) (omega arith))) (λ c. rw c (le-ltb maxList (getD e lengthOffset 0) h))
+
+pub long-count : (e : Entry) → isCount e ≡ true → isLong e ≡ ltb maxRecords (getD e lengthOffset 0)
+unfolding isLong mostIn lengthIn
+long-count e c = rw c
+
+pub long-list : (e : Entry) → isCount e ≡ false → maxList < getD e lengthOffset 0 → isLong e ≡ true
+unfolding isLong mostIn lengthIn
+long-list e c h = rw c (lt-ltb maxList (getD e lengthOffset 0) h)
 
 pub newer : (e x : Entry) (j : ℕ) → getD x (8 + j) 0 ≤ getD e (8 + j) 0 → atLeast narrow x e j ≡ true
 unfolding atLeast revisionIn
@@ -64,13 +83,6 @@ part-is s at i h k =
     let m : at + entryWidth narrow - at ≡ entryWidth narrow = omega arith in
     rw (m, h) (sym (entry-at 0 (entryWidth narrow) s i k))
 
--- the length of entry i's list
-pub length-is : (s : List ℕ) (at i : ℕ) → at ≡ header + i * entryWidth narrow → i < getD s answerCountOffset 0 → lengthIn (getD (answersIn narrow s) i []) ≡ getD s (at + 7) 0
-unfolding lengthIn
-length-is s at i h k =
-    let m : 7 < at + entryWidth narrow - at = omega arith in
-    ap (λ (t : List ℕ). getD t 7 0) (sym (part-is s at i h k)) ∙ getD-take (at + entryWidth narrow - at) (drop at s) 7 0 m ∙ getD-drop at s 7 0
-
 -- ---- the loops
 module _ (p : Entry → Bool) (s : List ℕ) where
   pub scan-start : place p (answersIn narrow s) ≡ 0 + place p (drop 0 (answersIn narrow s))
@@ -93,33 +105,24 @@ module _ (p : Entry → Bool) (s : List ℕ) where
       let l : length (answersIn narrow s) ≡ getD s answerCountOffset 0 = count-is s in
       place-none p (answersIn narrow s) i v (omega arith) (omega arith) ∙ l
 
--- ---- the scan for a list that is too long
-module _ (s : List ℕ) (at i : ℕ) (v : place isLong (answersIn narrow s) ≡ i + place isLong (drop i (answersIn narrow s))) (h : at ≡ header + i * entryWidth narrow) (k : i < getD s answerCountOffset 0) where
-  long-part : isLong (take (at + entryWidth narrow - at) (drop at s)) ≡ ltb maxList (getD s (at + 7) 0)
-  unfolding isLong
-  long-part = ap (λ (t : List ℕ). ltb maxList (lengthIn t)) (part-is s at i h k) ∙ ap (ltb maxList) (length-is s at i h k)
-
-  pub long-found : 32 < getD s (at + 7) 0 → someLong (answersIn narrow s) ≡ true
+-- ---- the scan for an entry that says too much
+module _ (s : List ℕ) where
+  pub long-found : (i : ℕ) → place isLong (answersIn narrow s) ≡ i → i < getD s answerCountOffset 0 → someLong (answersIn narrow s) ≡ true
   unfolding someLong
-  long-found e =
-      let q : place isLong (answersIn narrow s) ≡ i = scan-found isLong s at i v h k (long-part ∙ lt-ltb maxList (getD s (at + 7) 0) e) in
+  long-found i e h =
       let l : length (answersIn narrow s) ≡ getD s answerCountOffset 0 = count-is s in
       lt-ltb (place isLong (answersIn narrow s)) (length (answersIn narrow s)) (omega arith)
 
-  pub long-next : getD s (at + 7) 0 ≤ maxList → place isLong (answersIn narrow s) ≡ i + 1 + place isLong (drop (i + 1) (answersIn narrow s))
-  long-next e = scan-next isLong s at i v h k (long-part ∙ le-ltb maxList (getD s (at + 7) 0) e)
+  pub long-none : place isLong (answersIn narrow s) ≡ getD s answerCountOffset 0 → someLong (answersIn narrow s) ≡ false
+  unfolding someLong
+  long-none e =
+      let l : length (answersIn narrow s) ≡ getD s answerCountOffset 0 = count-is s in
+      le-ltb (place isLong (answersIn narrow s)) (length (answersIn narrow s)) (omega arith)
 
-pub long-none : (s : List ℕ) (i : ℕ) → place isLong (answersIn narrow s) ≡ i + place isLong (drop i (answersIn narrow s)) → i ≤ getD s answerCountOffset 0 → getD s answerCountOffset 0 ≤ i → someLong (answersIn narrow s) ≡ false
-unfolding someLong
-long-none s i v h k =
-    let q : place isLong (answersIn narrow s) ≡ getD s answerCountOffset 0 = scan-none isLong s i v h k in
-    let l : length (answersIn narrow s) ≡ getD s answerCountOffset 0 = count-is s in
-    le-ltb (place isLong (answersIn narrow s)) (length (answersIn narrow s)) (omega arith)
-
--- where none is too long, each list has at most 32 records
-pub short-answer : (s : List ℕ) (i : ℕ) → someLong (answersIn narrow s) ≡ false → i < getD s answerCountOffset 0 → lengthIn (getD (answersIn narrow s) i []) ≤ maxList
-unfolding someLong isLong
-short-answer s i e h =
-    let l : length (answersIn narrow s) ≡ getD s answerCountOffset 0 = count-is s in
-    let q : length (answersIn narrow s) ≤ place isLong (answersIn narrow s) = ltb-false (place isLong (answersIn narrow s)) (length (answersIn narrow s)) e in
-    ltb-false 32 (lengthIn (getD (answersIn narrow s) i [])) (place-before isLong (answersIn narrow s) [] i (omega arith))
+  -- where none says too much, entry i does not
+  pub short-answer : (i : ℕ) → someLong (answersIn narrow s) ≡ false → i < getD s answerCountOffset 0 → isLong (getD (answersIn narrow s) i []) ≡ false
+  unfolding someLong
+  short-answer i e h =
+      let l : length (answersIn narrow s) ≡ getD s answerCountOffset 0 = count-is s in
+      let q : length (answersIn narrow s) ≤ place isLong (answersIn narrow s) = ltb-false (place isLong (answersIn narrow s)) (length (answersIn narrow s)) e in
+      place-before isLong (answersIn narrow s) [] i (omega arith)

@@ -14,7 +14,7 @@ pub record Fit (s : List ℕ) : Type 0 where
   pub long : answersEnd narrow ≤ length s
   pub few : getD s answerCountOffset 0 ≤ maxAnswers
 
--- r is the number of records of e, and they stand from the tray's start on; what the tray had behind them stays
+-- r is the number of records of e, and a list's stand from the tray's start on; what the tray had behind them stays, and for a count all of it
 pub record Gave (k : ℕ) (e : Entry) (tray : List ℕ) (r : ℕ) (after : List ℕ) : Type 0 where
   pub count : r ≡ lengthIn e
   pub list : after ≡ written tray 0 (listIn narrow (shapeOf k) e)

@@ -1,27 +1,28 @@
-// The filed answers over their lent memory: search, file, evict, empty, and the copy of a list into the tray. The places in an entry are
-// constants of Hall (docs/LAYOUT.md). The rules stand in the crate rules.
+// The filed answers, lists and counts, over their lent memory: search, file, evict, empty, and the copy of a list into the tray. The places in
+// an entry are constants of Hall (docs/LAYOUT.md). The rules stand in the crate rules.
 use hall::Hall;
 ghost use mathlib.Core.Path.{_≡_};
+ghost use mathlib.Core.Bool.{false};
 ghost use mathlib.Core.List.{[], _∷_, _++_};
 ghost use Prim.Native.Nat.{_≤_, _<_};
 ghost use lib.ListN.{length, getD};
 ghost use Rattle.lists.specs.Lists.{without, allBelow};
-ghost use Rattle.rules.specs.Answers.{hasKeyOf, atLeast, serves, fetchPlace, filed, someLong, lengthIn};
+ghost use Rattle.rules.specs.Answers.{hasKeyOf, atLeast, serves, fetchPlace, filed, isLong, someLong};
 ghost use Rattle.query.specs.Encoding.{keyWidth};
 ghost use Rattle.query.specs.Shape.{maxColumns, narrow};
-ghost use Rattle.rules.specs.Layout.{maxAnswers, maxList, trayLeast, answerCountOffset, lookRoom, entryWidth};
+ghost use Rattle.rules.specs.Layout.{maxAnswers, trayLeast, answerCountOffset, lookRoom, entryWidth};
 ghost use Rattle.rules.specs.Memory.{answersIn, withAnswers};
 ghost use Rattle.answers.specs.AnswerContracts.{Fit, Gave};
 
 // The most answers that are kept.
 const ANSWERS: usize = Hall::ANSWERS as usize;
 
-// Whether the entry e answers x's query.
+// Whether the entry e answers x's query, with what x wants: the key's first number tells a count from a list.
 fn has_key(e: &[u32], x: &[u32]) -> bool
     requires { ⌜ (keyWidth ≤ length (now e)) × (keyWidth ≤ length (now x)) ⌝ }
     ensures { λ r. ⌜ r ≡ hasKeyOf (now (x .entry)) (now (e .entry)) ⌝ }
 {
-    words::same(&e[..Hall::KEY_WIDTH], &x[..Hall::KEY_WIDTH])
+    words::same(&e[0..Hall::KEY_WIDTH], &x[0..Hall::KEY_WIDTH])
 }
 
 // Whether each of e's first n revisions is at least x's.
@@ -71,7 +72,23 @@ pub fn fetch(answers: &[u32], entry: &[u32], n: usize) -> usize
     count
 }
 
-// Whether some filed list's length is out of range.
+// Whether the entry e says more than it may: a count more than a table holds, a list more than are listed. Nearly all say at most 32, which both
+// may: only above that the key is looked at.
+fn is_long(e: &[u32]) -> bool
+    requires { ⌜ length (now e) ≡ entryWidth narrow ⌝ }
+    ensures { λ r. ⌜ r ≡ isLong (now (e .entry)) ⌝ }
+{
+    let n = e[Hall::LENGTH_OFFSET];
+    if n <= Hall::LIST {
+        return false;
+    }
+    if Hall::is_count(e[0]) {
+        return Hall::RECORDS < n;
+    }
+    true
+}
+
+// Whether some filed list's length or some filed count is out of range.
 pub fn some_long(answers: &[u32]) -> bool
     requires { ⌜ Fit (now answers) ⌝ }
     ensures { λ r. ⌜ r ≡ someLong (answersIn narrow (now (answers .entry))) ⌝ }
@@ -80,10 +97,11 @@ pub fn some_long(answers: &[u32]) -> bool
     let mut at = Hall::HEADER;
     let mut i = 0;
     while i < count {
-        if Hall::LIST < answers[at + Hall::LENGTH_OFFSET] {
+        let end = at + Hall::ENTRY_WIDTH;
+        if is_long(&answers[at..end]) {
             return true;
         }
-        at += Hall::ENTRY_WIDTH;
+        at = end;
         i += 1;
     }
     false
@@ -150,13 +168,16 @@ pub fn empty(answers: &mut [u32])
     answers[Hall::ANSWER_COUNT_OFFSET] = 0;
 }
 
-// Copies an entry's list, k numbers for each record, to the tray's start, and gives the number of its records. The entry is a filed answer
-// or a client's own.
+// Copies an entry's list, k numbers for each record, to the tray's start, and gives the number of its records. Of a count nothing is copied.
+// The entry is a filed answer or a client's own.
 pub fn give_list(entry: &[u32], k: usize, tray: &mut [u32]) -> u32
-    requires { ⌜ (length (now entry) ≡ entryWidth narrow) × ((lengthIn (now entry) ≤ maxList) × ((k ≤ maxColumns) × (trayLeast ≤ length (now tray)))) ⌝ }
+    requires { ⌜ (length (now entry) ≡ entryWidth narrow) × ((isLong (now entry) ≡ false) × ((k ≤ maxColumns) × (trayLeast ≤ length (now tray)))) ⌝ }
     ensures { λ r. ⌜ Gave k (now (entry .entry)) (now (tray .entry)) r (now (tray .exit)) ⌝ }
 {
     let count = entry[Hall::LENGTH_OFFSET];
+    if Hall::is_count(entry[0]) {
+        return count;
+    }
     let n = count as usize * k;
     let end = Hall::LIST_OFFSET + n;
     words::write(tray, 0, &entry[Hall::LIST_OFFSET..end]);
@@ -165,7 +186,7 @@ pub fn give_list(entry: &[u32], k: usize, tray: &mut [u32]) -> u32
 
 // The same with the filed answer at place i.
 pub fn give(answers: &[u32], i: usize, k: usize, tray: &mut [u32]) -> u32
-    requires { ⌜ Fit (now answers) × ((i < getD (now answers) answerCountOffset 0) × ((lengthIn (getD (answersIn narrow (now answers)) i []) ≤ maxList) × ((k ≤ maxColumns) × (trayLeast ≤ length (now tray))))) ⌝ }
+    requires { ⌜ Fit (now answers) × ((i < getD (now answers) answerCountOffset 0) × ((isLong (getD (answersIn narrow (now answers)) i []) ≡ false) × ((k ≤ maxColumns) × (trayLeast ≤ length (now tray))))) ⌝ }
     ensures { λ r. ⌜ Gave k (getD (answersIn narrow (now (answers .entry))) i []) (now (tray .entry)) r (now (tray .exit)) ⌝ }
 {
     let at = Hall::HEADER + i * Hall::ENTRY_WIDTH;

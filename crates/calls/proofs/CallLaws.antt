@@ -1,7 +1,7 @@
 -- What each call leaves, by its code: where that is not 0 the memories as they were, where it is 0 the one change; and what running a call as
 -- a value leaves. Leans on the rules' Calls and PassedChecks, on checks and on the laws of clients and reading. Assumes nothing.
 use mathlib.Core.Path.{_≡_, sym, ap, _∙_}
-use mathlib.Core.Bool.{true, false}
+use mathlib.Core.Bool.{Bool, true, false}
 use mathlib.Core.List.{List, []}
 use Prim.Native.Nat.{ℕ, _≤_}
 use native.Mathlib.Omega.{arith}
@@ -43,26 +43,26 @@ module _ (m : Mem) (code n : ℕ) (e : n ≡ code) (x : Result) where
   done h = let z : eqb code 0 ≡ true = eq-eqb _ _ (sym e ∙ h) in rw z
 
 -- ---- Begins, by the number of their kind
-kind-is : (sh : Shape) (x : ℕ) (a : List ℕ) → reads ≤ x → x ≤ deletes → kindOf (workOf sh (requestOf x a)) ≡ x
+kind-is : (sh : Shape) (x : ℕ) (counts : Bool) (a : List ℕ) → reads ≤ x → x ≤ deletes → kindOf (workOf sh (requestOf x counts a)) ≡ x
 unfolding kindOf changeKind workOf
-kind-is sh x a h g = byTest (eqb x reads)
+kind-is sh x counts a h g = byTest (eqb x reads)
     (λ e. rw e (sym (eqb-true x reads e)))
     (λ e. byTest (eqb x inserts) (λ i. rw (e, i) (sym (eqb-true x inserts i)))
     (λ i. let y = eqb-false x reads e in let z = eqb-false x inserts i in rw (e, i) (omega arith)))
 
-module _ (m : Mem) (d x : ℕ) (a : List ℕ) {r : Begun} (f : BeginFound r m d (requestOf x a)) where
-  pub begin-refused : (r .code ≡ 0 → ⊥) → result (Refused (r .code)) m ≡ beginResult m d (requestOf x a)
+module _ (m : Mem) (d x : ℕ) (counts : Bool) (a : List ℕ) {r : Begun} (f : BeginFound r m d (requestOf x counts a)) where
+  pub begin-refused : (r .code ≡ 0 → ⊥) → result (Refused (r .code)) m ≡ beginResult m d (requestOf x counts a)
   unfolding beginResult
-  begin-refused h = refused m (beginCode m d (requestOf x a)) (r .code) (f .code) _ h
+  begin-refused h = refused m (beginCode m d (requestOf x counts a)) (r .code) (f .code) _ h
 
   pub begin-done : (s : List ℕ) → reads ≤ x → x ≤ deletes → r .code ≡ 0 → s ≡ withClient narrow (m .clients) d (begunWith x (r .key))
-      → result Accepted (withClients m s) ≡ beginResult m d (requestOf x a)
+      → result Accepted (withClients m s) ≡ beginResult m d (requestOf x counts a)
   unfolding beginResult nowAt
   begin-done s l o z g =
-      let w : Work = workOf (shape m) (requestOf x a) in
+      let w : Work = workOf (shape m) (requestOf x counts a) in
       let y : begunWith x (r .key) ≡ begun narrow w =
-      ap (λ (i : ℕ). begunWith i (r .key)) (sym (kind-is (shape m) x a l o)) ∙ ap (begunWith (kindOf w)) (f .key (sym (f .code) ∙ z)) ∙ begun-with w in
-      rw (g, y) (done m (beginCode m d (requestOf x a)) (r .code) (f .code) _ z)
+      ap (λ (i : ℕ). begunWith i (r .key)) (sym (kind-is (shape m) x counts a l o)) ∙ ap (begunWith (kindOf w)) (f .key (sym (f .code) ∙ z)) ∙ begun-with w in
+      rw (g, y) (done m (beginCode m d (requestOf x counts a)) (r .code) (f .code) _ z)
 
 -- ---- A step and an abandoning
 pub step-refused : (m : Mem) (tray : List ℕ) (d n : ℕ) → n ≡ stepCode m tray d → (n ≡ 0 → ⊥) → resultWith (Refused n) m tray ≡ stepResult m tray d

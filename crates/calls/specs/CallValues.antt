@@ -1,5 +1,6 @@
 -- The calls of a history as values of the code: which of the rules' calls each stands for, and what running it leaves. Leans on the rules'
 -- History. Definitions only. Assumes nothing.
+use mathlib.Core.Bool.{true, false}
 use mathlib.Core.List.{List}
 use Prim.Native.Nat.{ℕ}
 use Rattle.rules.specs.Work.{readOf, insertOf, deleteOf}
@@ -8,11 +9,12 @@ use Rattle.rules.specs.Outcome.{StepResult, resultWith}
 use Rattle.rules.specs.History as history
 use Rattle.rules.specs.History.{callResult}
 use Rattle.calls.specs.declared.Call.{Call}
-use Rattle.calls.specs.declared.Call.the-variants.{BeginRead, BeginInsert, BeginDelete, Step, Abandon, EvictAnswer, EvictNode, Renew}
+use Rattle.calls.specs.declared.Call.the-variants.{BeginRead, BeginCount, BeginInsert, BeginDelete, Step, Abandon, EvictAnswer, EvictNode, Renew}
 
 -- the rules' call: a begin takes the query that is lent beside the value, a step the tray
 unfoldable pub callOf : Call → List ℕ → List ℕ → history.Call
-callOf (BeginRead d) query tray = history.begin d (readOf query)
+callOf (BeginRead d) query tray = history.begin d (readOf false query)
+callOf (BeginCount d) query tray = history.begin d (readOf true query)
 callOf (BeginInsert d) query tray = history.begin d (insertOf query)
 callOf (BeginDelete d) query tray = history.begin d (deleteOf query)
 callOf (Step d) query tray = history.step d tray
@@ -24,6 +26,7 @@ callOf Renew query tray = history.renew
 -- the tray after a call that leaves t in it: "for a step only"; it is as it was after any other
 unfoldable pub trayAfter : Call → List ℕ → List ℕ → List ℕ
 trayAfter (BeginRead d) tray t = tray
+trayAfter (BeginCount d) tray t = tray
 trayAfter (BeginInsert d) tray t = tray
 trayAfter (BeginDelete d) tray t = tray
 trayAfter (Step d) tray t = t

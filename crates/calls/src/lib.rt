@@ -1,5 +1,5 @@
-// The nine public calls, in one place: the opening (opening.rt), the begins (begins.rt), the step and the abandoning (desks.rt), the evictions
-// and the renewal (upkeep.rt). None asks anything of its caller. A history is an opening and a list of the other eight: here such a call is a
+// The ten public calls, in one place: the opening (opening.rt), the begins (begins.rt), the step and the abandoning (desks.rt), the evictions
+// and the renewal (upkeep.rt). None asks anything of its caller. A history is an opening and a list of the other nine: here such a call is a
 // value of its own, and one function runs it. The rules stand in rules (Calls, History), what a value stands for in specs/CallValues.antt.
 use rules::Outcome;
 ghost use mathlib.Core.Path.{_≡_};
@@ -7,7 +7,7 @@ ghost use Rattle.rules.specs.Memory.{mem};
 ghost use Rattle.rules.specs.Outcome.{resultWith};
 ghost use Rattle.calls.specs.CallValues.{ran};
 
-pub mod begins; // begins.rt: the begins of a read, an insert and a delete
+pub mod begins; // begins.rt: the begins of a read, a count, an insert and a delete
 pub mod desks; // desks.rt: a step, an abandoning
 pub mod opening; // opening.rt: the opening
 pub mod upkeep; // upkeep.rt: both evictions, the renewal
@@ -15,6 +15,7 @@ pub mod upkeep; // upkeep.rt: both evictions, the renewal
 // A call of a history: its kind, and the client or the place that it names. The query of a begin and the tray of a step are lent beside it.
 pub enum Call {
     BeginRead { client: u32 },
+    BeginCount { client: u32 },
     BeginInsert { client: u32 },
     BeginDelete { client: u32 },
     Step { client: u32 },
@@ -39,6 +40,9 @@ pub fn run(
     match call {
         Call::BeginRead { client } => {
             begins::begin_read(table, nodes, answers, clients, client, query)
+        }
+        Call::BeginCount { client } => {
+            begins::begin_count(table, nodes, answers, clients, client, query)
         }
         Call::BeginInsert { client } => {
             begins::begin_insert(table, nodes, answers, clients, client, query)

@@ -126,6 +126,7 @@ fn call_of(row: u64, step: u32) -> Call {
     }
     match act {
         b'r' => Call::BeginRead { client: at },
+        b'C' => Call::BeginCount { client: at },
         b'i' | b'f' => Call::BeginInsert { client: at },
         b'd' => Call::BeginDelete { client: at },
         b'a' => Call::Abandon { client: at },

@@ -40,10 +40,10 @@ fn outcome(given: u64) {
         number(b"+", given / row::STEPS);
         text(b" = ");
     }
-    let how = given % row::STEPS / 256 * 256;
+    let how = given % row::STEPS / row::GOT * row::GOT;
     match how {
-        row::GOT => number(b"got ", given % 256),
-        row::KEPT => number(b"kept ", given % 256),
+        row::GOT => number(b"got ", given % row::GOT),
+        row::KEPT => number(b"kept ", given % row::GOT),
         row::CHANGED => text(b"changed"),
         row::UNCHANGED => text(b"unchanged"),
         _ => number(b"", given % row::STEPS),

@@ -10,16 +10,16 @@ const AT: u64 = 0x0100_0000_0000;
 
 const QUERY: u64 = 0x0100_0000;
 
-pub const STEPS: u64 = 0x1000;
+pub const STEPS: u64 = 0x0001_0000;
 
-// How a call ended: an answer from the table or filed before, a write with the table changed or not.
-pub const GOT: u64 = 0x100;
+// How a call ended: an answer from the table or filed before, a write with the table changed or not. Counts to 2,048 have room below.
+pub const GOT: u64 = 0x1000;
 
-pub const KEPT: u64 = 0x200;
+pub const KEPT: u64 = 0x2000;
 
-pub const CHANGED: u64 = 0x300;
+pub const CHANGED: u64 = 0x3000;
 
-pub const UNCHANGED: u64 = 0x400;
+pub const UNCHANGED: u64 = 0x4000;
 
 // How many numbers a number of a memory can be.
 pub const WORDS: u64 = 4294967296;
@@ -201,7 +201,7 @@ pub fn wanted(row: u64) -> u64 {
     if is_number(row) {
         return row % WORDS;
     }
-    row % 65536
+    row % QUERY
 }
 
 // Of the call that makes this step, or of the begin: 0 before the last.

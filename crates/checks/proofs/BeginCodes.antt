@@ -11,7 +11,7 @@ use borrow.Author.Tests.{eqb-true, eq-eqb, ne-eqb, not-true, not-false}
 use Rattle.laws.proofs.ListLaws.{and-left}
 use Rattle.laws.proofs.TestLaws.{byTest}
 use Rattle.query.specs.declared.Column.{Column}
-use Rattle.query.specs.Query.{naming}
+use Rattle.query.specs.Query.{Query, naming}
 use Rattle.query.specs.Encoding.{queryOf, isQuery, namesAll, recordOf, keyWords}
 use Rattle.query.specs.Shape.{Shape, shapeOf, maxColumns, narrow}
 use Rattle.query.proofs.EncodingLaws.{is-query-length}
@@ -55,35 +55,41 @@ pub insert-asked : (k : ℕ) (a : List ℕ) (q : isQuery (shapeOf k) a ≡ true)
 insert-asked k a q t e c l f = record { code = c ∙ insert-code k a q t e; key = λ z m. insert-key k a q t e _ l f z }
 
 -- by the number of its kind
-of-insert : (x : ℕ) (a : List ℕ) → x ≡ inserts → requestOf x a ≡ insertOf a
-of-insert x a e = rw (ne-eqb x reads (λ z. omega arith), eq-eqb x inserts e)
+of-insert : (x : ℕ) (b : Bool) (a : List ℕ) → x ≡ inserts → requestOf x b a ≡ insertOf a
+of-insert x b a e = rw (ne-eqb x reads (λ z. omega arith), eq-eqb x inserts e)
 
-pub asked-insert : {r : Begun} {k : ℕ} (x : ℕ) (a : List ℕ) → x ≡ inserts → Asked r (shapeOf k) (insertOf a) → Asked r (shapeOf k) (requestOf x a)
-asked-insert x a e h = rw (of-insert x a e) h
+pub asked-insert : {r : Begun} {k : ℕ} (x : ℕ) (b : Bool) (a : List ℕ) → x ≡ inserts → Asked r (shapeOf k) (insertOf a) → Asked r (shapeOf k) (requestOf x b a)
+asked-insert x b a e h = rw (of-insert x b a e) h
 
-module _ (k x : ℕ) (a : List ℕ) where
-  named-or-not : (b c : Bool) → b ≡ false → cond (b && c) 0 refusedColumns ≡ refusedColumns
-  named-or-not b c e = rw e
-
-  pub fault-query : (r : Bool) → r ≡ isQuery (shapeOf k) a → not r ≡ true → refusedColumns ≡ faultOf (shapeOf k) (requestOf x a)
+-- k: the hall's columns, x: the kind, b: whether a read wants a count
+module _ (k x : ℕ) (b : Bool) (a : List ℕ) where
+  pub fault-query : (r : Bool) → r ≡ isQuery (shapeOf k) a → not r ≡ true → refusedColumns ≡ faultOf (shapeOf k) (requestOf x b a)
   unfolding faultOf
   fault-query r e h =
       let f : isQuery (shapeOf k) a ≡ false = sym e ∙ not-true r h in
       byTest (eqb x reads) (λ y. rw (y, f)) (λ y. byTest (eqb x inserts) (λ z. rw (y, z, f)) (λ z. rw (y, z, f)))
 
   module _ (q : isQuery (shapeOf k) a ≡ true) (n : x ≡ inserts → ⊥) where
-    pub fault-plain : 0 ≡ faultOf (shapeOf k) (requestOf x a)
+    pub fault-plain : 0 ≡ faultOf (shapeOf k) (requestOf x b a)
     unfolding faultOf
     fault-plain = byTest (eqb x reads) (λ y. rw (y, q)) (λ y. rw (y, ne-eqb x inserts n, q))
 
-    pub plain-asked : {r : Begun} (cols : List Column) → cols ≡ four (queryOf a) → r .code ≡ 0 → r .key ≡ keyWords (take k cols)
-        → Asked r (shapeOf k) (requestOf x a)
-    unfolding keyOf workOf askKey askOf target
-    plain-asked cols e c f =
-        let g : take k cols ≡ queryOf a = ap (take k) e ∙ four-back k (queryOf a) (is-query-length (shapeOf k) a q) in
-        let w : keyOf (workOf (shapeOf k) (requestOf x a)) ≡ keyWords (queryOf a) =
-        byTest (eqb x reads) (λ y. rw y) (λ y. rw (y, ne-eqb x inserts n)) in
-        record { code = c ∙ fault-plain; key = λ z l. f ∙ ap keyWords g ∙ sym w }
+    -- any but an insert: its columns are its query's
+    module _ (cols : List Column) (e : cols ≡ four (queryOf a)) where
+      columns-are : take k cols ≡ queryOf a
+      columns-are = ap (take k) e ∙ four-back k (queryOf a) (is-query-length (shapeOf k) a q)
+
+      pub read-asked : {r : Begun} → r .code ≡ 0 → x ≡ reads → r .key ≡ askKey (record { shape = shapeOf k; query = take k cols; counts = b }) → Asked r (shapeOf k) (requestOf x b a)
+      unfolding keyOf workOf askOf
+      read-asked c y f =
+          let w : keyOf (workOf (shapeOf k) (requestOf x b a)) ≡ askKey (askOf (shapeOf k) b a) = rw (eq-eqb x reads y) in
+          record { code = c ∙ fault-plain; key = λ z l. f ∙ ap (λ (p : Query). askKey (record { shape = shapeOf k; query = p; counts = b })) columns-are ∙ sym w }
+
+      pub delete-asked : {r : Begun} → r .code ≡ 0 → (x ≡ reads → ⊥) → r .key ≡ keyWords (take k cols) → Asked r (shapeOf k) (requestOf x b a)
+      unfolding keyOf workOf target
+      delete-asked c y f =
+          let w : keyOf (workOf (shapeOf k) (requestOf x b a)) ≡ keyWords (queryOf a) = rw (ne-eqb x reads y, ne-eqb x inserts n) in
+          record { code = c ∙ fault-plain; key = λ z l. f ∙ ap keyWords columns-are ∙ sym w }
 
   pub is-query : (r : Bool) → r ≡ isQuery (shapeOf k) a → not r ≡ false → isQuery (shapeOf k) a ≡ true
   is-query r e h = sym e ∙ not-false r h
@@ -92,11 +98,11 @@ module _ (k x : ℕ) (a : List ℕ) where
   unfolding isQuery
   asked-short q l = let e = eqb-true (length a) (2 * k) (and-left _ _ q) in omega arith
 
-  pub reads-only : x ≡ reads → isWrite (requestOf x a) ≡ false
+  pub reads-only : x ≡ reads → isWrite (requestOf x b a) ≡ false
   unfolding isWrite
   reads-only h = rw (eq-eqb x reads h)
 
-  pub writes-only : (x ≡ reads → ⊥) → isWrite (requestOf x a) ≡ true
+  pub writes-only : (x ≡ reads → ⊥) → isWrite (requestOf x b a) ≡ true
   unfolding isWrite
   writes-only h = byTest (eqb x inserts) (λ i. rw (ne-eqb x reads h, i)) (λ i. rw (ne-eqb x reads h, i))
 

@@ -11,6 +11,7 @@ use borrow.Author.Tests.{lt-ltb, le-ltb, le-leb, lt-leb, eq-eqb, ne-eqb}
 use Rattle.lists.specs.Lists.{allBelow}
 use Rattle.query.specs.Query.{writeCount}
 use Rattle.query.specs.Shape.{maxColumns, narrow}
+use Rattle.query.specs.Encoding.{bareKey}
 use Rattle.query.proofs.EncodingLaws.{query-in-length}
 use Rattle.rules.specs.Layout.{maxRecords, maxNodes, maxAnswers, maxClients, trayLeast, recordCountOffset, nodeCountOffset, answerCountOffset}
 use Rattle.rules.specs.Layout.{columnsOffset, reads, refusedShort, refusedUnsound, refusedNoClient, refusedIdle, refusedCommitted, refusedNoEntry}
@@ -141,7 +142,7 @@ unfolding committed isCommitted client queryAt writeCount
 committed-is {h} m d i =
     let c : Client = clientIn narrow (m .clients) d in
     let n : length (writeLabels (writeAt (shape m) c)) ≡ 2 ^ h .columns =
-    announcements-at (shape m) c ∙ ap (λ (k : ℕ). 2 ^ k) (query-in-length (shape m) (keyIn (entryOf c)) ∙ sym (i .columns)) in
+    announcements-at (shape m) c ∙ ap (λ (k : ℕ). 2 ^ k) (query-in-length (shape m) (bareKey (keyIn (entryOf c))) ∙ sym (i .columns)) in
     rw (n, i .kind, i .steps)
 
 module _ (m : Mem) (d : ℕ) where

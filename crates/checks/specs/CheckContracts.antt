@@ -41,9 +41,9 @@ unfoldable pub committed : Held → Bool
 committed h = not (eqb (h .kind) reads) && ltb (2 ^ h .columns) (h .steps)
 
 -- ---- Begins
--- what begins, by the number of its kind and the numbers that arrive
-abbrev pub requestOf : ℕ → List ℕ → Request
-requestOf kind a = cond (eqb kind reads) (readOf a) (cond (eqb kind inserts) (insertOf a) (deleteOf a))
+-- what begins, by the number of its kind, of a read whether it wants a count, and the numbers that arrive
+abbrev pub requestOf : ℕ → Bool → List ℕ → Request
+requestOf kind counts a = cond (eqb kind reads) (readOf counts a) (cond (eqb kind inserts) (insertOf a) (deleteOf a))
 
 -- r has what x is turned down with for itself, or 0 and the key of its work, in a hall of no more columns than there may be
 pub record Asked (r : Begun) (sh : Shape) (x : Request) : Type 0 where

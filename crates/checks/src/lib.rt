@@ -4,7 +4,7 @@
 use clients::Held;
 use hall::Hall;
 ghost use mathlib.Core.Path.{_≡_};
-ghost use mathlib.Core.Bool.{true, false};
+ghost use mathlib.Core.Bool.{Bool, true, false};
 ghost use mathlib.Core.List.{List};
 ghost use Prim.Native.Nat.{ℕ, _≤_};
 ghost use lib.ListN.{length};
@@ -72,6 +72,7 @@ fn refused(code: u32) -> Checked
         kind: 0,
         steps: 0,
         marks: 0,
+        counts: false,
         values: values,
     };
     Checked { code, held }
@@ -139,9 +140,9 @@ fn insert_asked(k: u32, asked: &[u32]) -> Begun
 }
 
 // What arrives is turned down for itself where it is no query of k columns, or an insert with a wildcard; else it has a key. k may be any number:
-// that it is out of range is tested later.
-fn request_of(k: u32, kind: u32, asked: &[u32]) -> Begun
-    ensures { λ r. ⌜ Asked r (shapeOf k) (requestOf kind (now (asked .entry))) ⌝ }
+// that it is out of range is tested later. Whether a count is wanted is asked of a read alone.
+fn request_of(k: u32, kind: u32, counts: bool, asked: &[u32]) -> Begun
+    ensures { λ r. ⌜ Asked r (shapeOf k) (requestOf kind counts (now (asked .entry))) ⌝ }
 {
     if !columns::is_query(asked, k) {
         return keyless(Hall::REFUSED_COLUMNS);
@@ -153,7 +154,11 @@ fn request_of(k: u32, kind: u32, asked: &[u32]) -> Begun
         return keyless(0);
     }
     let cols = columns::columns_of(asked);
-    let key = columns::keys::key_words(cols, k as usize);
+    if kind != Hall::READS {
+        let key = columns::keys::key_words(cols, k as usize);
+        return Begun { code: 0, key };
+    }
+    let key = columns::keys::ask_key(cols, k as usize, counts);
     Begun { code: 0, key }
 }
 
@@ -167,7 +172,7 @@ fn desk_code(
     d: u32,
 ) -> u32
     requires { ⌜ isShort narrow (shape (mem (now table) (now nodes) (now answers) (now clients))) (mem (now table) (now nodes) (now answers) (now clients)) ≡ false ⌝ }
-    ensures { λ r. ⌜ ((a : List ℕ) → r ≡ deskCode (mem (now (table .entry)) (now (nodes .entry)) (now (answers .entry)) (now (clients .entry))) d (requestOf kind a)) ⌝ }
+    ensures { λ r. ⌜ ((counts : Bool) (a : List ℕ) → r ≡ deskCode (mem (now (table .entry)) (now (nodes .entry)) (now (answers .entry)) (now (clients .entry))) d (requestOf kind counts a)) ⌝ }
 {
     let found = at_client(table, nodes, answers, clients, d);
     if found.code == 0 {
@@ -185,22 +190,23 @@ fn desk_code(
     0
 }
 
-// The checks of a begin. Kinds: 1 read, 2 insert, 3 delete.
+// The checks of a begin. Kinds: 1 read, 2 insert, 3 delete; of a read, whether it wants a count.
 pub fn begin_check(
     table: &[u32],
     nodes: &[u32],
     answers: &[u32],
     clients: &[u32],
     kind: u32,
+    counts: bool,
     d: u32,
     asked: &[u32],
 ) -> Begun
-    ensures { λ r. ⌜ BeginFound r (mem (now (table .entry)) (now (nodes .entry)) (now (answers .entry)) (now (clients .entry))) d (requestOf kind (now (asked .entry))) ⌝ }
+    ensures { λ r. ⌜ BeginFound r (mem (now (table .entry)) (now (nodes .entry)) (now (answers .entry)) (now (clients .entry))) d (requestOf kind counts (now (asked .entry))) ⌝ }
 {
     if Hall::is_short(table, nodes, answers, clients) {
         return keyless(Hall::REFUSED_SHORT);
     }
-    let request = request_of(clients[Hall::COLUMNS_OFFSET], kind, asked);
+    let request = request_of(clients[Hall::COLUMNS_OFFSET], kind, counts, asked);
     if request.code != 0 {
         return request;
     }

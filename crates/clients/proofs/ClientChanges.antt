@@ -3,7 +3,7 @@
 use mathlib.Core.Path.{_≡_, refl, sym, ap, _∙_}
 use mathlib.Core.Bool.{Bool}
 use mathlib.Core.List.{List, [], _∷_, _++_, append-nil}
-use Prim.Native.Nat.{ℕ, _+_, _-_, _*_, _≤_, _<_}
+use Prim.Native.Nat.{ℕ, _+_, _-_, _≤_, _<_}
 use native.Mathlib.Omega.{arith}
 use lib.ListN.{length, getD, take, drop, set, replicate, length-set, length-drop, length-replicate, drop-of-length-le}
 use lib.Seq.{length-take-le, getD-set-other, drop-set-lt, take-set-lt, getD-take, set-getD, take-at}
@@ -18,7 +18,7 @@ use Rattle.query.specs.Encoding.{keyWidth}
 use Rattle.query.specs.Shape.{Shape, shapeOf, narrow}
 use Rattle.rules.specs.Layout.{listRoom, entryOffset, clientWidth, clientOffset, heldLengthOffset, notedOffset, heldListOffset}
 use Rattle.rules.specs.Memory.{clientIn, withClient}
-use Rattle.clients.specs.ClientContracts.{Fit, begunWith, listSet}
+use Rattle.clients.specs.ClientContracts.{Fit, begunWith, valueSet}
 use Rattle.clients.proofs.ClientMemory.{client-room, length-client, with-self, client-same, with-twice, with-words, part-cleared, length-kept}
 
 -- ---- each has as many numbers as a client
@@ -58,19 +58,19 @@ quiet c j revision pending z =
     let b : getD (set u (notedOffset narrow j) revision) 2 0 ≡ getD c 2 0 = getD-set-other u (notedOffset narrow j) 2 revision 0 (λ h. absurd (omega arith)) ∙ a in
     rw (eq-eqb pending 0 z, ← b) (set-getD (set u (notedOffset narrow j) revision) 2 0)
 
--- zeros behind the list
-list-in : (c : Client) (n k : ℕ) → length c ≡ clientWidth narrow → n * k ≤ listRoom
-    → listSet n (shapeOf k) c ≡ written (set (stepped c) heldLengthOffset n) (heldListOffset narrow (shapeOf k) + n * k) (replicate (clientWidth narrow - (heldListOffset narrow (shapeOf k) + n * k)) 0)
-unfolding listSet padded stepped
-list-in c n k e h =
+-- zeros behind the numbers that are in their place
+value-in : (c : Client) (n used : ℕ) (sh : Shape) → length c ≡ clientWidth narrow → used ≤ listRoom
+    → valueSet n used sh c ≡ written (set (stepped c) heldLengthOffset n) (heldListOffset narrow sh + used) (replicate (clientWidth narrow - (heldListOffset narrow sh + used)) 0)
+unfolding valueSet padded stepped
+value-in c n used sh e h =
     let u : List ℕ = set (set c 1 (steps c + 1)) heldLengthOffset n in
     let l : length u ≡ clientWidth narrow = simp length-set e in
-    let a : drop (heldListOffset narrow (shapeOf k)) u ≡ drop (heldListOffset narrow (shapeOf k)) c = drop-set-lt (heldListOffset narrow (shapeOf k)) (set c 1 (steps c + 1)) heldLengthOffset n (omega arith) ∙ drop-set-lt (heldListOffset narrow (shapeOf k)) c 1 (steps c + 1) (omega arith) in
-    let m : length (take (n * k) (drop (heldListOffset narrow (shapeOf k)) c)) ≡ n * k = length-take-le (n * k) (drop (heldListOffset narrow (shapeOf k)) c) (rw length-drop (omega arith)) in
-    let z : listRoom - n * k ≡ clientWidth narrow - (heldListOffset narrow (shapeOf k) + n * k) = omega arith in
-    rw (m, z, ← a) (written-front u (heldListOffset narrow (shapeOf k)) (n * k) (replicate (clientWidth narrow - (heldListOffset narrow (shapeOf k) + n * k)) 0) (omega arith))
+    let a : drop (heldListOffset narrow sh) u ≡ drop (heldListOffset narrow sh) c = drop-set-lt (heldListOffset narrow sh) (set c 1 (steps c + 1)) heldLengthOffset n (omega arith) ∙ drop-set-lt (heldListOffset narrow sh) c 1 (steps c + 1) (omega arith) in
+    let m : length (take used (drop (heldListOffset narrow sh) c)) ≡ used = length-take-le used (drop (heldListOffset narrow sh) c) (rw length-drop (omega arith)) in
+    let z : listRoom - used ≡ clientWidth narrow - (heldListOffset narrow sh + used) = omega arith in
+    rw (m, z, ← a) (written-front u (heldListOffset narrow sh) used (replicate (clientWidth narrow - (heldListOffset narrow sh + used)) 0) (omega arith))
 
--- whatever lay in the list's place before, the list taken there and set is the table step's
+-- whatever lay in the list's place before, what was taken there and set is the table step's
 head-set : (sh : Shape) (c₁ c : Client) (n : ℕ) → take (heldListOffset narrow sh) c₁ ≡ take (heldListOffset narrow sh) c → take (heldListOffset narrow sh) (set (stepped c₁) heldLengthOffset n) ≡ take (heldListOffset narrow sh) (set (stepped c) heldLengthOffset n)
 unfolding stepped steps
 head-set sh c₁ c n e =
@@ -82,15 +82,15 @@ behind-head : (sh : Shape) (x v : List ℕ) → length x ≡ clientWidth narrow 
 unfolding written
 behind-head sh x v h k = let l : length x ≤ heldListOffset narrow sh + length v = omega arith in rw (drop-of-length-le x l) (append-nil (take (heldListOffset narrow sh) x ++ v))
 
-pub list-holds : (c₁ c : Client) (n k : ℕ) (v : Value) → length c₁ ≡ clientWidth narrow → length c ≡ clientWidth narrow → take (heldListOffset narrow (shapeOf k)) c₁ ≡ take (heldListOffset narrow (shapeOf k)) c → take (n * k) (drop (heldListOffset narrow (shapeOf k)) c₁) ≡ v .numbers → v .count ≡ n
-    → length (v .numbers) ≤ listRoom → listSet n (shapeOf k) c₁ ≡ holding narrow (shapeOf k) v c
-unfolding listSet holding
-list-holds c₁ c n k v h g e f m o =
+pub value-holds : (c₁ c : Client) (n used : ℕ) (sh : Shape) (v : Value) → length c₁ ≡ clientWidth narrow → length c ≡ clientWidth narrow → take (heldListOffset narrow sh) c₁ ≡ take (heldListOffset narrow sh) c → take used (drop (heldListOffset narrow sh) c₁) ≡ v .numbers → v .count ≡ n
+    → length (v .numbers) ≤ listRoom → valueSet n used sh c₁ ≡ holding narrow sh v c
+unfolding valueSet holding
+value-holds c₁ c n used sh v h g e f m o =
     let p : List ℕ = padded listRoom (v .numbers) in
     let q : length p ≡ listRoom = length-padded listRoom (v .numbers) o in
     let a : length (set (stepped c₁) heldLengthOffset n) ≡ clientWidth narrow = length-set (stepped c₁) heldLengthOffset n ∙ length-stepped c₁ ∙ h in
     let b : length (set (stepped c) heldLengthOffset n) ≡ clientWidth narrow = length-set (stepped c) heldLengthOffset n ∙ length-stepped c ∙ g in
-    rw (f, m) (behind-head (shapeOf k) (set (stepped c₁) heldLengthOffset n) p a q ∙ rw (head-set (shapeOf k) c₁ c n e) (sym (behind-head (shapeOf k) (set (stepped c) heldLengthOffset n) p b q)))
+    rw (f, m) (behind-head sh (set (stepped c₁) heldLengthOffset n) p a q ∙ rw (head-set sh c₁ c n e) (sym (behind-head sh (set (stepped c) heldLengthOffset n) p b q)))
 
 -- ---- one number stored, and one more
 module _ (s : List ℕ) (d : ℕ) (f : Fit s d) where
@@ -152,35 +152,40 @@ module _ (s : List ℕ) (d : ℕ) (f : Fit s d) where
       let n : length c ≡ clientWidth narrow = length-set (stepped (clientIn narrow s d)) 3 a ∙ length-after in
       rw (← p, ← q) (put-more s₂ s₃ c 4 b (put-more s₁ s₂ (stepped (clientIn narrow s d)) 3 a e g length-after) h n)
 
-  pub list-left : (s₁ s₂ t : List ℕ) (n k : ℕ) → s₁ ≡ withClient narrow s d (stepped (clientIn narrow s d)) → s₂ ≡ withClient narrow s₁ d (set (clientIn narrow s₁ d) heldLengthOffset n)
-      → t ≡ replicate (clientWidth narrow - (heldListOffset narrow (shapeOf k) + n * k)) 0 ++ drop (clientWidth narrow - (heldListOffset narrow (shapeOf k) + n * k)) (take (clientOffset narrow d + clientWidth narrow - (clientOffset narrow d + (heldListOffset narrow (shapeOf k) + n * k))) (drop (clientOffset narrow d + (heldListOffset narrow (shapeOf k) + n * k)) s₂))
-      → n * k ≤ listRoom → putMid (clientOffset narrow d + (heldListOffset narrow (shapeOf k) + n * k)) (clientOffset narrow d + clientWidth narrow - (clientOffset narrow d + (heldListOffset narrow (shapeOf k) + n * k))) s₂ t ≡ withClient narrow s d (listSet n (shapeOf k) (clientIn narrow s d))
-  list-left s₁ s₂ t n k e g h m =
+  pub value-left : (s₁ s₂ t : List ℕ) (n used : ℕ) (sh : Shape) → s₁ ≡ withClient narrow s d (stepped (clientIn narrow s d)) → s₂ ≡ withClient narrow s₁ d (set (clientIn narrow s₁ d) heldLengthOffset n)
+      → t ≡ replicate (clientWidth narrow - (heldListOffset narrow sh + used)) 0 ++ drop (clientWidth narrow - (heldListOffset narrow sh + used)) (take (clientOffset narrow d + clientWidth narrow - (clientOffset narrow d + (heldListOffset narrow sh + used))) (drop (clientOffset narrow d + (heldListOffset narrow sh + used)) s₂))
+      → used ≤ listRoom → putMid (clientOffset narrow d + (heldListOffset narrow sh + used)) (clientOffset narrow d + clientWidth narrow - (clientOffset narrow d + (heldListOffset narrow sh + used))) s₂ t ≡ withClient narrow s d (valueSet n used sh (clientIn narrow s d))
+  value-left s₁ s₂ t n used sh e g h m =
       let c : Client = set (stepped (clientIn narrow s d)) heldLengthOffset n in
       let o : length c ≡ clientWidth narrow = length-set (stepped (clientIn narrow s d)) heldLengthOffset n ∙ length-after in
       let p : s₂ ≡ withClient narrow s d c = put-more s₁ s₂ (stepped (clientIn narrow s d)) heldLengthOffset n e g length-after in
       let l : length s₂ ≡ length s = ap length p ∙ length-kept s d f c o in
-      let r : length (replicate {A = ℕ} (clientWidth narrow - (heldListOffset narrow (shapeOf k) + n * k)) 0) ≡ clientWidth narrow - (heldListOffset narrow (shapeOf k) + n * k) = length-replicate (clientWidth narrow - (heldListOffset narrow (shapeOf k) + n * k)) 0 in
-      part-cleared s₂ (clientOffset narrow d + (heldListOffset narrow (shapeOf k) + n * k)) (clientOffset narrow d + clientWidth narrow) (clientWidth narrow - (heldListOffset narrow (shapeOf k) + n * k)) t h (omega arith) (omega arith)
-      ∙ rw p (with-words s d f c o (heldListOffset narrow (shapeOf k) + n * k) (replicate (clientWidth narrow - (heldListOffset narrow (shapeOf k) + n * k)) 0) (omega arith))
-      ∙ ap (withClient narrow s d) (sym (list-in (clientIn narrow s d) n k (length-client s d f) m))
+      let r : length (replicate {A = ℕ} (clientWidth narrow - (heldListOffset narrow sh + used)) 0) ≡ clientWidth narrow - (heldListOffset narrow sh + used) = length-replicate (clientWidth narrow - (heldListOffset narrow sh + used)) 0 in
+      part-cleared s₂ (clientOffset narrow d + (heldListOffset narrow sh + used)) (clientOffset narrow d + clientWidth narrow) (clientWidth narrow - (heldListOffset narrow sh + used)) t h (omega arith) (omega arith)
+      ∙ rw p (with-words s d f c o (heldListOffset narrow sh + used) (replicate (clientWidth narrow - (heldListOffset narrow sh + used)) 0) (omega arith))
+      ∙ ap (withClient narrow s d) (sym (value-in (clientIn narrow s d) n used sh (length-client s d f) m))
 
--- ---- a list written into its place and then set
-pub list-held : (s : List ℕ) (d : ℕ) → Fit s d → (s₁ c₁ : List ℕ) (n k : ℕ) (v : Value) → s₁ ≡ withClient narrow s d c₁ → length c₁ ≡ clientWidth narrow
-    → take (heldListOffset narrow (shapeOf k)) c₁ ≡ take (heldListOffset narrow (shapeOf k)) (clientIn narrow s d) → take (n * k) (drop (heldListOffset narrow (shapeOf k)) c₁) ≡ v .numbers → v .count ≡ n → length (v .numbers) ≤ listRoom
-    → withClient narrow s₁ d (listSet n (shapeOf k) (clientIn narrow s₁ d)) ≡ withClient narrow s d (holding narrow (shapeOf k) v (clientIn narrow s d))
-list-held s d f s₁ c₁ n k v e h g q m o =
-    let a : listSet n (shapeOf k) c₁ ≡ holding narrow (shapeOf k) v (clientIn narrow s d) = list-holds c₁ (clientIn narrow s d) n k v h (length-client s d f) g q m o in
-    rw (e, client-same s d f c₁ h, a) (with-twice s d f c₁ h (holding narrow (shapeOf k) v (clientIn narrow s d)) (length-holding (clientIn narrow s d) (shapeOf k) v o (length-client s d f)))
+-- ---- a list written into its place and then set; a count set
+pub value-held : (s : List ℕ) (d : ℕ) → Fit s d → (s₁ c₁ : List ℕ) (n used : ℕ) (sh : Shape) (v : Value) → s₁ ≡ withClient narrow s d c₁ → length c₁ ≡ clientWidth narrow
+    → take (heldListOffset narrow sh) c₁ ≡ take (heldListOffset narrow sh) (clientIn narrow s d) → take used (drop (heldListOffset narrow sh) c₁) ≡ v .numbers → v .count ≡ n → length (v .numbers) ≤ listRoom
+    → withClient narrow s₁ d (valueSet n used sh (clientIn narrow s₁ d)) ≡ withClient narrow s d (holding narrow sh v (clientIn narrow s d))
+value-held s d f s₁ c₁ n used sh v e h g q m o =
+    let a : valueSet n used sh c₁ ≡ holding narrow sh v (clientIn narrow s d) = value-holds c₁ (clientIn narrow s d) n used sh v h (length-client s d f) g q m o in
+    rw (e, client-same s d f c₁ h, a) (with-twice s d f c₁ h (holding narrow sh v (clientIn narrow s d)) (length-holding (clientIn narrow s d) sh v o (length-client s d f)))
 
-pub list-written : (s : List ℕ) (d : ℕ) → Fit s d → (s₁ : List ℕ) (n k : ℕ) (v : Value) → s₁ ≡ written s (clientOffset narrow d + heldListOffset narrow (shapeOf k)) (v .numbers) → v .count ≡ n
-    → length (v .numbers) ≡ n * k → n * k ≤ listRoom → withClient narrow s₁ d (listSet n (shapeOf k) (clientIn narrow s₁ d)) ≡ withClient narrow s d (holding narrow (shapeOf k) v (clientIn narrow s d))
-list-written s d f s₁ n k v e m q o =
+pub value-written : (s : List ℕ) (d : ℕ) → Fit s d → (s₁ : List ℕ) (n used : ℕ) (sh : Shape) (v : Value) → s₁ ≡ written s (clientOffset narrow d + heldListOffset narrow sh) (v .numbers) → v .count ≡ n
+    → length (v .numbers) ≡ used → used ≤ listRoom → withClient narrow s₁ d (valueSet n used sh (clientIn narrow s₁ d)) ≡ withClient narrow s d (holding narrow sh v (clientIn narrow s d))
+value-written s d f s₁ n used sh v e m q o =
     let c : Client = clientIn narrow s d in
     let j : length c ≡ clientWidth narrow = length-client s d f in
-    let c₁ : Client = written c (heldListOffset narrow (shapeOf k)) (v .numbers) in
-    let h : length c₁ ≡ clientWidth narrow = length-written c (heldListOffset narrow (shapeOf k)) (v .numbers) (omega arith) ∙ j in
-    let w : s₁ ≡ withClient narrow s d c₁ = e ∙ ap (λ (x : List ℕ). written x (clientOffset narrow d + heldListOffset narrow (shapeOf k)) (v .numbers)) (sym (with-self s d f)) ∙ with-words s d f c j (heldListOffset narrow (shapeOf k)) (v .numbers) (omega arith) in
-    let t : take (n * k) (drop (heldListOffset narrow (shapeOf k)) c₁) ≡ v .numbers =
-    ap (take (n * k)) (drop-of-written c (heldListOffset narrow (shapeOf k)) (v .numbers) (omega arith)) ∙ take-at (v .numbers) (drop (heldListOffset narrow (shapeOf k) + length (v .numbers)) c) (n * k) q in
-    list-held s d f s₁ c₁ n k v w h (take-written c (heldListOffset narrow (shapeOf k)) (v .numbers) (omega arith) (heldListOffset narrow (shapeOf k)) (omega arith)) t m (omega arith)
+    let c₁ : Client = written c (heldListOffset narrow sh) (v .numbers) in
+    let h : length c₁ ≡ clientWidth narrow = length-written c (heldListOffset narrow sh) (v .numbers) (omega arith) ∙ j in
+    let w : s₁ ≡ withClient narrow s d c₁ = e ∙ ap (λ (x : List ℕ). written x (clientOffset narrow d + heldListOffset narrow sh) (v .numbers)) (sym (with-self s d f)) ∙ with-words s d f c j (heldListOffset narrow sh) (v .numbers) (omega arith) in
+    let t : take used (drop (heldListOffset narrow sh) c₁) ≡ v .numbers =
+    ap (take used) (drop-of-written c (heldListOffset narrow sh) (v .numbers) (omega arith)) ∙ take-at (v .numbers) (drop (heldListOffset narrow sh + length (v .numbers)) c) used q in
+    value-held s d f s₁ c₁ n used sh v w h (take-written c (heldListOffset narrow sh) (v .numbers) (omega arith) (heldListOffset narrow sh) (omega arith)) t m (omega arith)
+
+-- a count has no numbers: the whole of the list's place is cleared
+pub count-set : (c : Client) (n : ℕ) (sh : Shape) (v : Value) → v .count ≡ n → v .numbers ≡ [] → valueSet n 0 sh c ≡ holding narrow sh v c
+unfolding valueSet holding
+count-set c n sh v e f = rw (e, f)

@@ -2,21 +2,23 @@
 use mathlib.Core.Path.{_≡_, refl, sym, ap, _∙_}
 use mathlib.Core.Bool.{Bool, true, false, not}
 use mathlib.Core.List.{List, [], _∷_}
-use Prim.Native.Nat.{ℕ, suc, _+_, _-_, _≤_, _<_}
+use Prim.Native.Nat.{ℕ, suc, _+_, _-_, _/_, _%_, _≤_, _<_}
 use native.Mathlib.Numerals.{add-one}
 use native.Mathlib.Omega.{arith}
-use lib.ListN.{length-drop, length, getD, take, drop, replicate}
+use lib.Dec.{eqb, ltb}
+use lib.ListN.{length-drop, length-set, length, getD, take, drop, replicate}
 use lib.Seq.{take-all, take-take, getD-take, getD-drop, drop-cons, drop-drop}
 use Rattle.lists.specs.Lists.{same, allBelow}
 use Rattle.laws.proofs.ListLaws.{below-next, below-not}
+use Rattle.laws.proofs.TestLaws.{byTest}
 use Rattle.laws.proofs.WrittenLaws.{drop-take}
-use Rattle.rules.specs.Answers.{keyIn, lengthIn}
+use Rattle.rules.specs.Answers.{keyIn, lengthIn, isCount, mostIn, isLong}
 use Rattle.rules.specs.Client.{Client, entryOf, isIdle, idle}
 use Rattle.rules.specs.Memory.{Mem, clientIn}
 use Rattle.rules.specs.Refusals.{client, allIdle}
-use Rattle.query.specs.Encoding.{keyWidth}
+use Rattle.query.specs.Encoding.{keyWidth, countBit, countsIn, bareKey}
 use Rattle.query.specs.Shape.{maxColumns, narrow}
-use Rattle.rules.specs.Layout.{maxClients, entryWidth, entryOffset, clientWidth, clientOffset, heldValuesOffset, heldLengthOffset}
+use Rattle.rules.specs.Layout.{maxRecords, maxClients, maxList, entryWidth, entryOffset, clientWidth, clientOffset, heldValuesOffset, heldLengthOffset}
 use Rattle.clients.specs.ClientContracts.{Fit, idleAt}
 use Rattle.clients.proofs.ClientMemory.{length-client, part-at}
 
@@ -52,23 +54,50 @@ unfolding allIdle idleAt client
 all-idle m = refl
 
 -- ---- the query
-pub key-read : (s : List ℕ) (d : ℕ) → take (clientOffset narrow d + entryOffset + 7 - (clientOffset narrow d + entryOffset)) (drop (clientOffset narrow d + entryOffset) s) ≡ keyIn (entryOf (clientIn narrow s d))
-unfolding keyIn entryOf
-key-read s d =
-    let n : clientOffset narrow d + entryOffset + 7 - (clientOffset narrow d + entryOffset) ≡ keyWidth = omega arith in
-    rw n (sym (part-at s d 5 7 (omega arith)))
+-- a key's first number tells the marks and what is wanted; the rest of it is the rest of the key without the bit
+pub bare-first : (m : ℕ) (key : List ℕ) → m ≡ getD key 0 0 → getD (bareKey (m ∷ [])) 0 0 ≡ getD (bareKey key) 0 0
+unfolding bareKey countsIn
+bare-first m [] e = rw e
+bare-first m (x ∷ key) e = rw e (byTest (eqb (x / countBit % 2) 1) (λ h. rw h) (λ h. rw h))
 
--- its marks and its first four values, from the client's numbers
-pub marks-read : (c : Client) → getD c entryOffset 0 ≡ getD (keyIn (entryOf c)) 0 0
+pub bare-rest : (key : List ℕ) → drop 1 (bareKey key) ≡ drop 1 key
+unfolding bareKey
+bare-rest [] = byTest (countsIn []) (λ h. rw h) (λ h. rw h)
+bare-rest (x ∷ key) = byTest (countsIn (x ∷ key)) (λ h. rw h) (λ h. rw h)
+
+pub length-bare : (key : List ℕ) → length (bareKey key) ≡ length key
+unfolding bareKey
+length-bare key = byTest (countsIn key) (λ h. rw (h, length-set)) (λ h. rw h)
+
+-- so a key without the bit is its marks and the rest
+pub bare-parts : (key : List ℕ) → 0 < length key → getD (bareKey key) 0 0 ∷ drop 1 key ≡ bareKey key
+bare-parts key h = ap (λ (l : List ℕ). getD (bareKey key) 0 0 ∷ l) (sym (bare-rest key)) ∙ sym (drop-cons (bareKey key) 0 0 (let l = length-bare key in omega arith))
+
+-- the key's first number, its marks and what it says, and its first four values, from the client's numbers
+pub first-read : (c : Client) → getD c entryOffset 0 ≡ getD (keyIn (entryOf c)) 0 0
 unfolding keyIn entryOf
-marks-read c = sym (getD-take keyWidth (drop entryOffset c) 0 0 (omega arith) ∙ getD-drop entryOffset c 0 0)
+first-read c = sym (getD-take keyWidth (drop entryOffset c) 0 0 (omega arith) ∙ getD-drop entryOffset c 0 0)
+
+module _ (c : Client) (m : ℕ) (e : m ≡ getD c entryOffset 0) where
+  pub marks-read : (n : ℕ) → ((vs : List ℕ) → n ≡ getD (bareKey (m ∷ vs)) 0 0) → n ≡ getD (bareKey (keyIn (entryOf c))) 0 0
+  marks-read n f = f [] ∙ bare-first m (keyIn (entryOf c)) (e ∙ first-read c)
+
+  pub counts-read : (r : Bool) → ((vs : List ℕ) → r ≡ countsIn (m ∷ vs)) → r ≡ isCount (entryOf c)
+  unfolding isCount countsIn
+  counts-read r f = f [] ∙ ap (λ (x : ℕ). eqb (x / countBit % 2) 1) (e ∙ first-read c)
+
+key-rest : (c : Client) → drop 1 (keyIn (entryOf c)) ≡ take (keyWidth - 1) (drop heldValuesOffset c)
+unfolding keyIn entryOf
+key-rest c = drop-take 1 keyWidth (drop entryOffset c) ∙ ap (take (keyWidth - 1)) (drop-drop 1 entryOffset c)
+
+-- the part that holds all of the key but its first number
+pub rest-read : (s : List ℕ) (d : ℕ) → take (clientOffset narrow d + heldValuesOffset + keyWidth - 1 - (clientOffset narrow d + heldValuesOffset)) (drop (clientOffset narrow d + heldValuesOffset) s) ≡ drop 1 (keyIn (entryOf (clientIn narrow s d)))
+rest-read s d =
+    let n : clientOffset narrow d + heldValuesOffset + keyWidth - 1 - (clientOffset narrow d + heldValuesOffset) ≡ keyWidth - 1 = omega arith in
+    rw n (sym (part-at s d heldValuesOffset (keyWidth - 1) (omega arith)) ∙ sym (key-rest (clientIn narrow s d)))
 
 values-in : (c : Client) → take maxColumns (drop heldValuesOffset c) ≡ take maxColumns (drop 1 (keyIn (entryOf c)))
-unfolding keyIn entryOf
-values-in c =
-    let w : ℕ = keyWidth - 1 in
-    sym (ap (take maxColumns) (drop-take 1 keyWidth (drop entryOffset c) ∙ ap (take w) (drop-drop 1 entryOffset c))
-    ∙ take-take maxColumns w (drop heldValuesOffset c) (omega arith))
+values-in c = sym (ap (take maxColumns) (key-rest c) ∙ take-take maxColumns (keyWidth - 1) (drop heldValuesOffset c) (omega arith))
 
 -- four numbers, one after another
 next-one : (s : List ℕ) (i j n : ℕ) → i < length s → i + 1 ≡ j → getD s i 0 ∷ take n (drop j s) ≡ take (suc n) (drop i s)
@@ -89,10 +118,20 @@ values-read s d i f e =
     let b = f .below in
     four-at s i (omega arith) ∙ rw e (sym (part-at s d heldValuesOffset maxColumns (omega arith)) ∙ values-in (clientIn narrow s d))
 
--- ---- the list
+-- ---- the list's length, or the count
 pub length-read : (c : Client) → getD c heldLengthOffset 0 ≡ lengthIn (entryOf c)
 unfolding lengthIn entryOf
 length-read c = sym (getD-drop 5 c 7 0)
+
+-- it is tested by what the entry is: a count, or a list
+module _ (c : Client) (n : ℕ) (e : n ≡ getD c heldLengthOffset 0) (counts : Bool) (f : counts ≡ isCount (entryOf c)) where
+  pub long-count : counts ≡ true → ltb maxRecords n ≡ isLong (entryOf c)
+  unfolding isLong mostIn
+  long-count h = rw (← f, h) (ap (ltb maxRecords) (e ∙ length-read c))
+
+  pub long-list : counts ≡ false → ltb maxList n ≡ isLong (entryOf c)
+  unfolding isLong mostIn
+  long-list h = rw (← f, h) (ap (ltb maxList) (e ∙ length-read c))
 
 -- the part that holds a client's entry
 pub entry-part : (s : List ℕ) (d : ℕ) → Fit s d

@@ -3,16 +3,16 @@
 use mathlib.Core.Path.{_≡_}
 use mathlib.Core.Bool.{Bool, cond}
 use mathlib.Core.List.{List, _∷_}
-use Prim.Native.Nat.{ℕ, _+_, _*_, _≤_, _<_}
+use Prim.Native.Nat.{ℕ, _+_, _≤_, _<_}
 use lib.Dec.{eqb}
 use lib.ListN.{length, getD, take, drop, set}
 use Rattle.lists.specs.Lists.{padded, written}
 use Rattle.query.specs.Query.{Query, readCount, writeCount}
-use Rattle.query.specs.Encoding.{columnsIn}
+use Rattle.query.specs.Encoding.{columnsIn, bareKey}
 use Rattle.query.specs.Shape.{Shape, narrow, maxColumns}
 use Rattle.rules.specs.Layout.{maxClients, listWidth, clientWidth, clientsEnd, heldLengthOffset, heldListOffset, reads}
 use Rattle.rules.specs.Work.{Ask, Write, Work, asking, writing}
-use Rattle.rules.specs.Answers.{keyIn}
+use Rattle.rules.specs.Answers.{keyIn, isCount}
 use Rattle.rules.specs.Client.{Client, kind, steps, entryOf, isIdle, askAt, writeAt, stepped}
 use Rattle.rules.specs.Memory.{shapeIn, clientIn}
 use Rattle.rules.specs.Sound.{Busy}
@@ -23,12 +23,14 @@ pub record Fit (s : List ℕ) (d : ℕ) : Type 0 where
   pub long : clientsEnd narrow ≤ length s
   pub below : d < maxClients
 
--- h is what was read of client d: the hall's columns, and of the client its kind, its steps, the marks and the values of its key
+-- h is what was read of client d: the hall's columns, and of the client its kind, its steps, of its key the marks, whether it says "count",
+-- and the values
 pub record IsHeld (h : Held) (s : List ℕ) (d : ℕ) : Type 0 where
   pub columns : h .columns ≡ shapeIn s .columns
   pub kind : h .kind ≡ kind (clientIn narrow s d)
   pub steps : h .steps ≡ steps (clientIn narrow s d)
-  pub marks : h .marks ≡ getD (keyIn (entryOf (clientIn narrow s d))) 0 0
+  pub marks : h .marks ≡ getD (bareKey (keyIn (entryOf (clientIn narrow s d)))) 0 0
+  pub counts : h .counts ≡ isCount (entryOf (clientIn narrow s d))
   pub values : h .values ≡ take maxColumns (drop 1 (keyIn (entryOf (clientIn narrow s d))))
 
 -- the query that its marks and values say
@@ -66,8 +68,9 @@ begunWith x key = padded (clientWidth narrow) (x ∷ 0 ∷ 0 ∷ 0 ∷ 0 ∷ key
 unfoldable pub stepsOfKind : ℕ → Query → ℕ
 stepsOfKind x q = cond (eqb x reads) (readCount q + 3) (writeCount q + 1 + writeCount q)
 
--- a client whose list of n records is in its place already: the length, zeros behind the list, and one step more
-unfoldable pub listSet : ℕ → Shape → Client → Client
-listSet n sh c =
+-- a client that got a list of n records, the `used` numbers of which are in their place already, or a count of n, which has none: the number n,
+-- zeros behind the numbers, and one step more
+unfoldable pub valueSet : ℕ → ℕ → Shape → Client → Client
+valueSet n used sh c =
     written (set (stepped c) heldLengthOffset n) (heldListOffset narrow sh)
-    (padded (listWidth sh) (take (n * sh .columns) (drop (heldListOffset narrow sh) c)))
+    (padded (listWidth sh) (take used (drop (heldListOffset narrow sh) c)))

@@ -3,29 +3,30 @@
 use hall::Hall;
 ghost use mathlib.Core.Path.{_≡_};
 ghost use mathlib.Core.Bool.{not, _&&_};
-ghost use mathlib.Core.List.{List};
+ghost use mathlib.Core.List.{List, _∷_};
 ghost use Prim.Native.Nat.{ℕ, _+_, _*_, _^_, _<_, _≤_};
 ghost use lib.Dec.{eqb};
-ghost use lib.ListN.{length, getD, set};
+ghost use lib.ListN.{length, getD, drop, set};
 ghost use Rattle.lists.specs.Lists.{allBelow};
 ghost use Rattle.query.specs.Encoding.{columnsIn, isKey, keyWidth, namesAll};
-ghost use Rattle.query.specs.Shape.{shapeOf, maxColumns, narrow};
-ghost use Rattle.rules.specs.Answers.{keyIn, isLong};
+ghost use Rattle.query.specs.Shape.{Shape, shapeOf, maxColumns, narrow};
+ghost use Rattle.rules.specs.Answers.{keyIn, isCount, isLong};
 ghost use Rattle.rules.specs.Client.{steps, sawPending, didChange, foundFull, entryOf, idle, isIdle, isBad, stepped, flag, noted, wrote};
-ghost use Rattle.rules.specs.Layout.{maxClients, maxList, maxWord, lookRoom, clientWidth, clientOffset, clientsEnd, heldListOffset, inserts};
+ghost use Rattle.rules.specs.Layout.{maxRecords, maxClients, maxWord, lookRoom, listRoom, clientWidth, clientOffset, clientsEnd, heldListOffset, reads, inserts};
 ghost use Rattle.rules.specs.Memory.{shapeIn, clientIn, withClient};
-ghost use Rattle.clients.specs.ClientContracts.{Fit, IsHeld, idleAt, begunWith, stepsOfKind, listSet};
+ghost use Rattle.clients.specs.ClientContracts.{Fit, IsHeld, idleAt, begunWith, stepsOfKind, valueSet};
 
 // How many clients there are.
 const CLIENTS: usize = Hall::CLIENTS as usize;
 
-// What a call reads of its client, once: the hall's columns, the client's kind, how many steps it has made, and its query as marks and values.
-// Whoever is called next gets it by value.
+// What a call reads of its client, once: the hall's columns, the client's kind, how many steps it has made, its query as marks and values, and
+// whether it wants a count. Whoever is called next gets it by value.
 pub struct Held {
     pub columns: usize,
     pub kind: u32,
     pub steps: usize,
     pub marks: u32,
+    pub counts: bool,
     pub values: [u32; Hall::COLUMN_SLOTS],
 }
 
@@ -100,6 +101,7 @@ pub fn read(clients: &[u32], d: usize) -> Held
     ensures { λ r. ⌜ IsHeld r (now (clients .entry)) d ⌝ }
 {
     let steps = steps_of(clients, d);
+    let first = word(clients, d, Hall::ENTRY_OFFSET);
     let from = Hall::HEADER + d * Hall::CLIENT_WIDTH + Hall::HELD_VALUES_OFFSET;
     let values = [
         clients[from],
@@ -111,12 +113,13 @@ pub fn read(clients: &[u32], d: usize) -> Held
         columns: clients[Hall::COLUMNS_OFFSET] as usize,
         kind: word(clients, d, Hall::KIND_OFFSET),
         steps: steps as usize,
-        marks: word(clients, d, Hall::ENTRY_OFFSET),
+        marks: columns::keys::bare_marks(first),
+        counts: Hall::is_count(first),
         values: values,
     }
 }
 
-// A client's own entry: its query's key, the list's length, the revisions noted, the list.
+// A client's own entry: its query's key with what it wants, the list's length or the count, the revisions noted, the list.
 pub fn entry<'a>(clients: &'a [u32], d: usize) -> &'a [u32]
     requires { ⌜ Fit (now clients) d ⌝ }
     ensures { λ r. ⌜ now r ≡ entryOf (clientIn narrow (now (clients .entry)) d) ⌝ }
@@ -203,17 +206,18 @@ pub fn set_wrote(clients: &mut [u32], d: usize, changed: bool, full: bool)
     put(clients, d, Hall::FULL_OFFSET, flag(full));
 }
 
-// A read's table step, the list being in its place already: sets its length, clears what is behind it, and counts the step.
-pub fn set_list(clients: &mut [u32], d: usize, n: usize, k: usize)
-    requires { ⌜ Fit (now clients) d × ((n ≤ maxList) × ((1 ≤ k) × ((k ≤ maxColumns) × (steps (clientIn narrow (now clients) d) < maxWord)))) ⌝ }
-    ensures { λ _. ⌜ now (clients .exit) ≡ withClient narrow (now (clients .entry)) d (listSet n (shapeOf k) (clientIn narrow (now (clients .entry)) d)) ⌝ }
+// A read's table step, a list's numbers being in their place already: sets the list's length or the count, clears what is behind the first
+// `used` numbers of the list's place (of a count all of it), and counts the step.
+pub fn set_value(clients: &mut [u32], d: usize, n: usize, used: usize)
+    requires { ⌜ Fit (now clients) d × ((n ≤ maxRecords) × ((used ≤ listRoom) × (steps (clientIn narrow (now clients) d) < maxWord))) ⌝ }
+    ensures { λ _. ⌜ ((sh : Shape) → now (clients .exit) ≡ withClient narrow (now (clients .entry)) d (valueSet n used sh (clientIn narrow (now (clients .entry)) d))) ⌝ }
 {
     advance(clients, d);
     put(clients, d, Hall::HELD_LENGTH_OFFSET, n as u32);
-    let used = Hall::HELD_LIST_OFFSET + n * k;
-    let from = Hall::HEADER + d * Hall::CLIENT_WIDTH + used;
+    let kept = Hall::HELD_LIST_OFFSET + used;
+    let from = Hall::HEADER + d * Hall::CLIENT_WIDTH + kept;
     let end = Hall::HEADER + d * Hall::CLIENT_WIDTH + Hall::CLIENT_WIDTH;
-    words::clear(&mut clients[from..end], Hall::CLIENT_WIDTH - used);
+    words::clear(&mut clients[from..end], Hall::CLIENT_WIDTH - kept);
 }
 
 // ---- Soundness
@@ -229,14 +233,24 @@ fn steps_in_all(kind: u32, k: usize, marks: u32) -> usize
     count + 1 + count
 }
 
-// Whether a client's key is that of no query of k columns.
-fn bad_key(clients: &[u32], d: usize, k: usize) -> bool
+// Whether a client's key, with these marks in place of its first number, is that of no query of k columns.
+fn bad_key(clients: &[u32], d: usize, k: usize, marks: u32) -> bool
     requires { ⌜ Fit (now clients) d × (k ≤ maxColumns) ⌝ }
-    ensures { λ r. ⌜ r ≡ not (isKey (shapeOf k) (keyIn (entryOf (clientIn narrow (now (clients .entry)) d)))) ⌝ }
+    ensures { λ r. ⌜ r ≡ not (isKey (shapeOf k) (marks ∷ drop 1 (keyIn (entryOf (clientIn narrow (now (clients .entry)) d))))) ⌝ }
 {
-    let at = Hall::HEADER + d * Hall::CLIENT_WIDTH + Hall::ENTRY_OFFSET;
-    let end = at + Hall::KEY_WIDTH;
-    !columns::keys::is_key(k, &clients[at..end])
+    let at = Hall::HEADER + d * Hall::CLIENT_WIDTH + Hall::HELD_VALUES_OFFSET;
+    let end = at + Hall::KEY_WIDTH - 1;
+    !columns::keys::is_key(k, marks, &clients[at..end])
+}
+
+// Whether a client that says "count" is a writer: only a read may want one.
+fn bad_wanting(kind: u32, counts: bool) -> bool
+    ensures { λ r. ⌜ r ≡ (not (eqb kind reads) && counts) ⌝ }
+{
+    if kind != Hall::READS {
+        return counts;
+    }
+    false
 }
 
 // Whether an insert has a wildcard.
@@ -250,16 +264,20 @@ fn bad_insert(kind: u32, k: usize, marks: u32) -> bool
     !columns::keys::names_all(k, marks)
 }
 
-// Whether a client's list is longer than any.
-fn bad_length(clients: &[u32], d: usize) -> bool
-    requires { ⌜ Fit (now clients) d ⌝ }
+// Whether a client's list is longer than any, or its count above any.
+fn bad_length(clients: &[u32], d: usize, counts: bool) -> bool
+    requires { ⌜ Fit (now clients) d × (counts ≡ isCount (entryOf (clientIn narrow (now clients) d))) ⌝ }
     ensures { λ r. ⌜ r ≡ isLong (entryOf (clientIn narrow (now (clients .entry)) d)) ⌝ }
 {
-    Hall::LIST < word(clients, d, Hall::HELD_LENGTH_OFFSET)
+    let n = word(clients, d, Hall::HELD_LENGTH_OFFSET);
+    if counts {
+        return Hall::RECORDS < n;
+    }
+    Hall::LIST < n
 }
 
-// Whether a client, of which h was read, is not idle and its kind, query, step or list length is out of range. Only where the kind is 0 are all
-// its numbers read.
+// Whether a client, of which h was read, is not idle and its kind, query, wanting, step or list length is out of range. Only where the kind is 0
+// are all its numbers read.
 pub fn is_bad(clients: &[u32], d: usize, h: Held) -> bool
     requires { ⌜ Fit (now clients) d × (IsHeld h (now clients) d × (h .columns ≤ maxColumns)) ⌝ }
     ensures { λ r. ⌜ r ≡ isBad narrow (shapeIn (now (clients .entry))) (clientIn narrow (now (clients .entry)) d) ⌝ }
@@ -270,7 +288,10 @@ pub fn is_bad(clients: &[u32], d: usize, h: Held) -> bool
     if Hall::DELETES < h.kind {
         return true;
     }
-    if bad_key(clients, d, h.columns) {
+    if bad_key(clients, d, h.columns, h.marks) {
+        return true;
+    }
+    if bad_wanting(h.kind, h.counts) {
         return true;
     }
     if bad_insert(h.kind, h.columns, h.marks) {
@@ -279,5 +300,5 @@ pub fn is_bad(clients: &[u32], d: usize, h: Held) -> bool
     if steps_in_all(h.kind, h.columns, h.marks) <= h.steps {
         return true;
     }
-    bad_length(clients, d)
+    bad_length(clients, d, h.counts)
 }

@@ -8,15 +8,16 @@ use native.Mathlib.Numerals.{add-one}
 use native.Mathlib.Omega.{arith}
 use lib.Dec.{eqb, ltb}
 use lib.ListN.{length, take, drop, getD, set, replicate, length-take, length-drop, length-map, drop-of-length-le}
-use lib.Seq.{take-all, drop-cons, getD-drop, drop-drop}
+use lib.Seq.{drop-cons, getD-drop, drop-drop}
 use borrow.Author.Tests.{eq-eqb, ne-eqb, lt-ltb, le-ltb, eqb-true, ltb-true, not-true, not-false}
 use Rattle.lists.specs.Lists.{padded, same}
 use Rattle.query.specs.declared.Column.{Column}
 use Rattle.query.specs.declared.Column.the-variants.{Is, Wildcard}
 use Rattle.query.specs.Query.{Query}
-use Rattle.query.specs.Encoding.{columnOf, columnValue, marks, columnsIn, queryIn, keyWords, isKey}
+use Rattle.query.specs.Encoding.{columnOf, columnValue, marks, columnsIn, queryIn, keyWords, isKey, countBit, countsIn, countKey, bareKey}
 use Rattle.query.specs.Shape.{shapeOf}
 use Rattle.query.proofs.EncodingLaws.{columns-length}
+use Rattle.rules.specs.Work.{Ask, askKey}
 use Rattle.columns.specs.ColumnContracts.{four}
 use Rattle.columns.specs.KeyContracts.{markOf, keeps, zeroUnder}
 use Rattle.columns.proofs.FillLoop.{Filled, next-rest, fill-none, fill-more, fill-all, drop-map}
@@ -200,11 +201,35 @@ key-whole k (m ∷ vs) b h =
     let n : 6 - k ≡ length vs - k = omega arith in
     rw (length-map (columnsIn k m vs) columnValue, columns-length k m vs, n) (key-rule k m vs l)
 
-pub key-high : (k p : ℕ) (key : List ℕ) → p ≡ 2 ^ k → k ≤ 4 → length key ≡ 7 → p ≤ getD key 0 0 → false ≡ isKey (shapeOf k) key
-key-high k p key e b h l = rw (key-whole k key b h, ← e, le-ltb (getD key 0 0) p l)
+pub key-high : (k p m : ℕ) (vs : List ℕ) → p ≡ 2 ^ k → k ≤ 4 → length vs ≡ 6 → p ≤ m → false ≡ isKey (shapeOf k) (m ∷ vs)
+key-high k p m vs e b h l = rw (key-whole k (m ∷ vs) b (omega arith), ← e, le-ltb m p l)
 
-pub key-low : (k p : ℕ) (key : List ℕ) (r : Bool) → p ≡ 2 ^ k → k ≤ 4 → length key ≡ 7 → getD key 0 0 < p
-    → r ≡ zeroUnder (getD key 0 0) (take (length key - 1) (drop 1 key)) → r ≡ isKey (shapeOf k) key
-key-low k p key r e b h l z =
-    let w : length (drop 1 key) ≤ length key - 1 = simp length-drop (omega arith) in
-    rw (key-whole k key b h, ← e, lt-ltb (getD key 0 0) p l) (rw (take-all (length key - 1) (drop 1 key) w) at z)
+pub key-low : (k p m : ℕ) (vs : List ℕ) (r : Bool) → p ≡ 2 ^ k → k ≤ 4 → length vs ≡ 6 → m < p → r ≡ zeroUnder m vs → r ≡ isKey (shapeOf k) (m ∷ vs)
+key-low k p m vs r e b h l z = rw (key-whole k (m ∷ vs) b (omega arith), ← e, lt-ltb m p l) z
+
+-- ---- What is wanted
+-- a first number that says "count" has the bit
+pub count-bit : (m : ℕ) (r : Bool) → ((vs : List ℕ) → r ≡ countsIn (m ∷ vs)) → r ≡ true → countBit ≤ m
+unfolding countsIn
+count-bit m r e h = let z = eqb-true (m / countBit % 2) 1 (sym (e []) ∙ h) in omega arith
+
+pub bare-of : (m : ℕ) (r : Bool) → ((vs : List ℕ) → r ≡ countsIn (m ∷ vs)) → r ≡ true → (vs : List ℕ) → m - countBit ≡ getD (bareKey (m ∷ vs)) 0 0
+unfolding bareKey
+bare-of m r e h vs = rw (← e vs, h)
+
+pub bare-is : (m : ℕ) (r : Bool) → ((vs : List ℕ) → r ≡ countsIn (m ∷ vs)) → r ≡ false → (vs : List ℕ) → m ≡ getD (bareKey (m ∷ vs)) 0 0
+unfolding bareKey
+bare-is m r e h vs = rw (← e vs, h)
+
+-- the key of a read
+pub first-small : (cols : List Column) (k : ℕ) (key : List ℕ) → key ≡ keyWords (take k cols) → k ≤ 4 → getD key 0 0 ≤ 15
+unfolding keyWords
+first-small cols k key e h = rw e (marks-four k 0 cols h)
+
+pub ask-counts : (x : Ask) (key : List ℕ) → key ≡ keyWords (x .query) → x .counts ≡ true → set key 0 (getD key 0 0 + countBit) ≡ askKey x
+unfolding askKey countKey
+ask-counts x key e h = rw (h, e)
+
+pub ask-lists : (x : Ask) (key : List ℕ) → key ≡ keyWords (x .query) → x .counts ≡ false → key ≡ askKey x
+unfolding askKey
+ask-lists x key e h = rw (h, e)

@@ -1,13 +1,14 @@
-// Queries as numbers in memory (docs/LAYOUT.md): marks, values, keys.
+// Queries as numbers in memory (docs/LAYOUT.md): marks, values, keys, and what a read wants.
 use hall::Hall;
 ghost use mathlib.Core.Path.{_≡_};
-ghost use mathlib.Core.List.{List, map};
+ghost use mathlib.Core.List.{List, _∷_, map};
 ghost use Prim.Native.Nat.{ℕ, _-_, _%_, _≤_, _<_, _^_};
-ghost use lib.ListN.{length, take};
+ghost use lib.ListN.{length, getD, take};
 ghost use Rattle.query.specs.Query.{naming, readCount};
 ghost use Rattle.query.specs.Encoding.{keyWidth};
 ghost use Rattle.query.specs.Shape.{shapeOf, maxColumns};
-ghost use Rattle.query.specs.Encoding.{marks, columnOf, columnsIn, columnValue, keyWords, namesAll, isKey};
+ghost use Rattle.query.specs.Encoding.{marks, columnOf, columnsIn, columnValue, keyWords, namesAll, isKey, bareKey};
+ghost use Rattle.rules.specs.Work.{askKey};
 ghost use Rattle.columns.specs.ColumnContracts.{four};
 ghost use Rattle.columns.specs.KeyContracts.{markOf, keeps, zeroUnder};
 use query::Column;
@@ -186,15 +187,36 @@ fn zero_under(marks: u32, values: &[u32]) -> bool
     true
 }
 
-// Whether seven numbers are the key of a query of k columns: marks for k columns at most, and no value without a mark.
-pub fn is_key(k: usize, key: &[u32]) -> bool
-    requires { ⌜ (k ≤ maxColumns) × (length (now key) ≡ keyWidth) ⌝ }
-    ensures { λ r. ⌜ r ≡ isKey (shapeOf k) (now (key .entry)) ⌝ }
+// Whether marks and the six numbers behind them are the key of a query of k columns: marks for k columns at most, and no value without a mark.
+pub fn is_key(k: usize, marks: u32, values: &[u32]) -> bool
+    requires { ⌜ (k ≤ maxColumns) × (length (now values) ≡ keyWidth - 1) ⌝ }
+    ensures { λ r. ⌜ r ≡ isKey (shapeOf k) (marks ∷ now (values .entry)) ⌝ }
 {
-    let marks = key[0];
     if power(k) <= marks {
         return false;
     }
-    let values = &key[1..];
     zero_under(marks, values)
+}
+
+// ---- What is wanted
+// The marks in a key's first number, which says besides whether a count is wanted.
+pub fn bare_marks(first: u32) -> u32
+    ensures { λ r. ⌜ ((vs : List ℕ) → r ≡ getD (bareKey (first ∷ vs)) 0 0) ⌝ }
+{
+    if Hall::is_count(first) {
+        return first - Hall::COUNT_BIT;
+    }
+    first
+}
+
+// The key of a read: its query's, and in the first number what it wants.
+pub fn ask_key(cols: [Column; Hall::COLUMN_SLOTS], k: usize, counts: bool) -> [u32; Hall::KEY_WIDTH]
+    requires { ⌜ k ≤ maxColumns ⌝ }
+    ensures { λ r. ⌜ r ≡ askKey (record { shape = shapeOf k; query = take k cols; counts = counts }) ⌝ }
+{
+    let mut key = key_words(cols, k);
+    if counts {
+        key[0] = key[0] + Hall::COUNT_BIT;
+    }
+    key
 }

@@ -6,7 +6,7 @@ use Prim.Native.Nat.{ℕ, zero, suc, _≤_, _<_}
 use native.Mathlib.Omega.{arith}
 use lib.ListN.{length, getD}
 use Rattle.lists.specs.Lists.{same}
-use Rattle.laws.proofs.ListLaws.{same-refl}
+use Rattle.laws.proofs.ListLaws.{same-refl, keep-le}
 use Rattle.laws.proofs.TestLaws.{or-false-l, or-false-r, clash}
 use Rattle.query.specs.Query.{Query, Record, lies}
 use Rattle.query.specs.Encoding.{queryOf}
@@ -16,9 +16,9 @@ use Rattle.rules.specs.History.{begin}
 use Rattle.rules.specs.Table.{Table, insert, delete, listOf, has, changes, noRoom, Ascending, Distinct}
 use Rattle.records.proofs.RecordSets.{has-list}
 use Rattle.records.proofs.RecordsAscending.{ascending-distinct}
-use Rattle.demands.specs.WholeHistory.{History, plainAt, callAt, resultAt, shapeAt}
-use Rattle.demands.specs.Demand3.{IsList}
-use Rattle.demands.specs.Corollaries.{Ends, Unopposed, EveryAnswer, InsertsSeen, DeletesSeen, Answers, ListAt, tableAt, OneRead, SeesEarlier}
+use Rattle.demands.specs.WholeHistory.{History, plainAt, callAt, shapeAt}
+use Rattle.demands.specs.Demand3.{AnswerIs}
+use Rattle.demands.specs.Corollaries.{Ends, Unopposed, EveryAnswer, InsertsSeen, DeletesSeen, Answers, TrueAt, tableAt, OneRead, SeesEarlier, CountsFit, QuietCount}
 use Rattle.demands.specs.Corollaries.{NeverBack, QuietIsNow, AnswersAscend, NoneTwice, Corollaries}
 use Rattle.demands.proofs.HistoryRuns.{sound}
 use Rattle.demands.proofs.Demand3Holds.{tables, answers, result-is, steps-by-nodes}
@@ -29,68 +29,95 @@ use Rattle.demands.proofs.Steady.{lists-stay, answer-short, answer-step
 use Rattle.demands.proofs.WriteEnds.{writes-take}
 use Rattle.demands.proofs.Seen.{inserted, deleted, keeps}
 use Rattle.rules.specs.Work.{askOf, asking, readOf}
+use Rattle.demands.specs.Demand1.{trayOf}
+use Rattle.rules.specs.Layout.{maxRecords}
+use Rattle.demands.proofs.FromFile.{file-serves}
 
 -- ---- Answers
 every-answer : (h : History) → EveryAnswer h
 every-answer h n count cached l e =
     let s = answer-steps h n _ cached l (result-is h n count cached (sound h n (omega arith) .shape) e) in
     let w = answers h n (s .0) (s .1) count cached l (s .2) e in
-    (s .0, w .asked, w .b, record { tray = s .1; within = l; calls = s .2; runs = w .runs; says = e })
+    (s .0, w .counts, w .asked, w .b, record { tray = s .1; within = l; calls = s .2; runs = w .runs; says = e })
 
 -- ---- One read at a desk
-asked-eq : {d e : ℕ} {a c : List ℕ} → begin d (readOf a) ≡ begin e (readOf c) → a ≡ c
+asked-eq : {d e : ℕ} {v w : Bool} {a c : List ℕ} → begin d (readOf v a) ≡ begin e (readOf w c) → a ≡ c
 asked-eq i = cc
 
+wanted-eq : {d e : ℕ} {v w : Bool} {a c : List ℕ} → begin d (readOf v a) ≡ begin e (readOf w c) → v ≡ w
+wanted-eq i = cc
+
 one-read : (h : History) → OneRead h
-one-read h d a a′ b b′ n l u v =
-    let e = one-work h d (asking (askOf (shapeAt h) a)) (asking (askOf (shapeAt h) a′)) b b′ n (since-read h d b n a l u) (since-read h d b′ n a′ l v) in
-    (e, asked-eq (sym (u .begins) ∙ ap (callAt h) e ∙ v .begins))
+one-read h d counts counts′ a a′ b b′ n l u v =
+    let e = one-work h d (asking (askOf (shapeAt h) counts a)) (asking (askOf (shapeAt h) counts′ a′)) b b′ n (since-read h d b n counts a l u) (since-read h d b′ n counts′ a′ l v) in
+    let z = sym (u .begins) ∙ ap (callAt h) e ∙ v .begins in
+    (e, wanted-eq z, asked-eq z)
 
 -- ---- The moment of an answer
-moment : (h : History) (d : ℕ) (a : List ℕ) (b n count : ℕ) (cached : Bool) → Answers h d a b n count cached
-    → (j : ℕ) × (b < j) × (j ≤ suc n) × ListAt h a n count j
-moment h d a b n count cached x =
+moment : (h : History) (d : ℕ) (counts : Bool) (a : List ℕ) (b n count : ℕ) (cached : Bool) → Answers h d counts a b n count cached
+    → (j : ℕ) × (b < j) × (j ≤ suc n) × TrueAt h counts a n count j
+moment h d counts a b n count cached x =
     let w = answers h n d (x .tray) count cached (x .within) (x .calls) (x .says) in
     let l = x .within in
-    let e = one-read h d a (w .asked) b (w .b) n (omega arith) (x .runs) (w .runs) in
+    let e = one-read h d counts (w .counts) a (w .asked) b (w .b) n (omega arith) (x .runs) (w .runs) in
     let i = e .0 in
     let after = w .after in
-    (w .j, omega arith, w .upto, rw (e .1) (w .was))
+    (w .j, omega arith, w .upto, rw (e .1, e .2) (w .was))
 
 never-back : (h : History) → NeverBack h
-never-back h d d′ a a′ b n b′ n′ count count′ cached cached′ x y l =
-    let z = moment h d a b n count cached x in
-    let w = moment h d′ a′ b′ n′ count′ cached′ y in
+never-back h d d′ counts counts′ a a′ b n b′ n′ count count′ cached cached′ x y l =
+    let z = moment h d counts a b n count cached x in
+    let w = moment h d′ counts′ a′ b′ n′ count′ cached′ y in
     (z .0, w .0, (let i = z .2 in let j = w .1 in omega arith), z .3, w .3)
 
 sees-earlier : (h : History) → SeesEarlier h
-sees-earlier h d a b n count cached x e l =
-    let z = moment h d a b n count cached x in
+sees-earlier h d counts a b n count cached x e l =
+    let z = moment h d counts a b n count cached x in
     (z .0, (let i = z .1 in omega arith), z .2, z .3)
 
 -- the plain table is the table memory's
-table-list : (h : History) (a : List ℕ) (n count j : ℕ) → j ≤ length (h .calls) → ListAt h a n count j
-    → IsList (h .k) (listOf (queryOf a) (tableAt h j)) count (resultAt h n .tray)
-table-list h a n count j l x = rw (tables h j l) x
+table-list : (h : History) (counts : Bool) (a : List ℕ) (n count j : ℕ) → j ≤ length (h .calls) → TrueAt h counts a n count j
+    → AnswerIs h counts n count (listOf (queryOf a) (tableAt h j))
+table-list h counts a n count j l x = rw (tables h j l) x
 
 quiet-is-now : (h : History) → QuietIsNow h
 unfolding askOf
-quiet-is-now h d a b n count cached x k =
-    let z = moment h d a b n count cached x in
+quiet-is-now h d counts a b n count cached x k =
+    let z = moment h d counts a b n count cached x in
     let l = x .within in
     let up = z .2 in
-    let e = lists-stay h (askOf (shapeAt h) a) b (suc n) (z .0) (omega arith) (z .1) up (λ i o m. k i o (omega arith)) in
-    rw e (table-list h a n count (z .0) (omega arith) (z .3))
+    let e = lists-stay h (askOf (shapeAt h) counts a) b (suc n) (z .0) (omega arith) (z .1) up (λ i o m. k i o (omega arith)) in
+    rw e (table-list h counts a n count (z .0) (omega arith) (z .3))
+
+quiet-count : (h : History) → QuietCount h
+quiet-count h d a b n count cached x k = quiet-is-now h d true a b n count cached x k .counted
+
+-- no more records lie in a query than the plain table has
+count-most : (h : History) (a : List ℕ) (j : ℕ) → j ≤ length (h .calls) → length (listOf (queryOf a) (plainAt h j .table)) ≤ maxRecords
+unfolding listOf
+count-most h a j l =
+    let m = keep-le (lies (queryOf a)) (plainAt h j .table) in
+    let t = ap length (tables h j l) in
+    let g = good-table h j l .most in
+    omega arith
+
+counts-fit : (h : History) → CountsFit h
+unfolding trayOf
+counts-fit h d a b n count cached x =
+    let z = moment h d true a b n count cached x in
+    let l = x .within in
+    let up = z .2 in
+    (rw (z .3 .counted) (count-most h a (z .0) (omega arith)), z .3 .untouched ∙ ap trayOf (x .calls))
 
 answers-ascend : (h : History) → AnswersAscend h
 answers-ascend h d a b n count cached x =
-    let z = moment h d a b n count cached x in
+    let z = moment h d false a b n count cached x in
     let l = x .within in
     let up = z .2 in (
       z .0,
       z .3,
       subst (λ t. Ascending (listOf (queryOf a) t)) (tables h (z .0) (omega arith)) (demand-2-ascending h (z .0) (omega arith) .1 (queryOf a)),
-      answer-short h n _ cached (x .within) (result-is h n count cached (sound h n (omega arith) .shape) (x .says)),
+      answer-short h d a b n count cached x,
     )
 
 -- ---- No record twice
@@ -140,8 +167,8 @@ delete-stays h d q r b e n o x y m l u j low up =
     (ap (has r) (tables h (suc t) (omega arith) ∙ z .3) ∙ deleted q r (plainAt h t .table) y) j (omega arith) up
 
 inserts-seen : (h : History) → InsertsSeen h
-inserts-seen h d r b e changed x d′ a b′ n count cached y m i u =
-    let z = moment h d′ a b′ n count cached y in
+inserts-seen h d r b e changed x d′ counts a b′ n count cached y m i u =
+    let z = moment h d′ counts a b′ n count cached y in
     let l = y .within in
     let low = z .1 in
     let up = z .2 in
@@ -153,8 +180,8 @@ inserts-seen h d r b e changed x d′ a b′ n count cached y m i u =
     )
 
 deletes-seen : (h : History) → DeletesSeen h
-deletes-seen h d q b e o x d′ a b′ n count cached y m r i u =
-    let z = moment h d′ a b′ n count cached y in
+deletes-seen h d q b e o x d′ counts a b′ n count cached y m r i u =
+    let z = moment h d′ counts a b′ n count cached y in
     let l = y .within in
     let low = z .1 in
     let up = z .2 in
@@ -169,12 +196,15 @@ pub corollaries : (h : History) → Corollaries h
 corollaries h = record {
   every-answer = every-answer h;
   one-read = one-read h;
-  file-was-true = λ d a b n count x. moment h d a b n count true x;
+  file-was-true = λ d counts a b n count x. moment h d counts a b n count true x;
+  file-serves = file-serves h;
   sees-earlier = sees-earlier h;
   never-back = never-back h;
   quiet-is-now = quiet-is-now h;
+  quiet-count = quiet-count h;
   steps-by-nodes = steps-by-nodes h;
   answers-ascend = answers-ascend h;
+  counts-fit = counts-fit h;
   none-twice = none-twice h;
   writes-take = writes-take h;
   inserts-seen = inserts-seen h;

@@ -1,28 +1,28 @@
 -- Demand 1: of any memories and any arguments, every call leaves each memory unaltered past its least length, and all of them where it is
 -- refused. Leans on UnalteredMemories, on rules' PassedChecks and on refinement's RefusedCalls. Assumes nothing.
 use mathlib.Core.Path.{_≡_, refl, ap}
-use mathlib.Core.Bool.{Bool, true, false, cond, not, _&&_}
+use mathlib.Core.Bool.{Bool, true, false, cond, not, _&&_, _||_}
 use mathlib.Core.List.{List, []}
 use mathlib.Core.Option.{Option, none, some}
 use Prim.Native.Nat.{ℕ, _+_, _*_, _≤_, _<_}
 use native.Mathlib.Omega.{arith}
-use lib.Dec.{eqb, ltb}
+use lib.Dec.{eqb, ltb, leb}
 use lib.ListN.{length, getD, length-take, length-drop}
 use borrow.Author.Tests.{ltb-true, eqb-true, eqb-false, leb-true}
 use Rattle.laws.proofs.TestLaws.{byTest, clash}
 use Rattle.laws.proofs.ListLaws.{length-without, and-right}
 use Rattle.laws.proofs.RowLaws.{wide-nil, wide-keep, wide-without, wide-at, length-flat}
-use Rattle.query.specs.Query.{lies}
+use Rattle.query.specs.Query.{lies, Query, Record}
 use Rattle.query.specs.Shape.{narrow, Shape, shapeOf}
-use Rattle.rules.specs.Layout.{maxClients, listRoom, trayLeast, entryWidth, clientWidth}
+use Rattle.rules.specs.Layout.{maxClients, listRoom, trayLeast, entryWidth, clientWidth, maxList}
 use Rattle.rules.specs.declared.Outcome.{Outcome}
 use Rattle.rules.specs.declared.Outcome.the-variants.{Refused, Accepted, Answered, Long, Ended, Full}
 use Rattle.rules.specs.Table.{listOf}
-use Rattle.rules.specs.Work.{Ask, Value, ofRecords, valueOf, mayAnswer, readLabels, Write, writeLabels, Work, asking, writing, Request, workOf}
+use Rattle.rules.specs.Work.{Ask, Value, ofRecords, valueOf, mayAnswer, readLabels, Write, writeLabels, Work, asking, writing, Request, workOf, ofNumber, valueFor}
 use Rattle.rules.specs.Nodes.{Words, Store, store}
-use Rattle.rules.specs.Answers.{Entry, valueIn, listIn}
+use Rattle.rules.specs.Answers.{Entry, valueIn, listIn, isCount}
 use Rattle.rules.specs.Client.{steps, sawPending, foundFull, entryOf}
-use Rattle.rules.specs.Memory.{Mem, storeIn, answersIn, opened, renewed}
+use Rattle.rules.specs.Memory.{Mem, storeIn, answersIn, opened, renewed, recordsIn}
 use Rattle.rules.specs.Outcome.{Result, resultWith, number}
 use Rattle.rules.specs.Refusals.{form, shape, columns, client, badColumns, isShort, openCode, beginCode, stepCode, abandonCode, evictAnswerCode, evictNodeCode, renewCode}
 use Rattle.rules.specs.Steps.{nowAt, answered, lookResult, fetchResult, tableResult, fileResult, readResult, announceResult, writeTableResult, endOf, raiseResult, writeResult, progressOf, progress}
@@ -43,6 +43,8 @@ use Rattle.demands.specs.Demand1.{Unaltered, Leaves, trayOf, Demand1}
 use Rattle.demands.proofs.UnalteredMemories.{unaltered-same, unaltered-then, unaltered-written, unaltered-set, unaltered-cleared, unaltered-store, unaltered-answers}
 use Rattle.demands.proofs.UnalteredMemories.{AllUnaltered, all-same, all-now, all-store, all-filed, all-table, sized-in, wide-held, wide-filed-in}
 use Rattle.demands.proofs.UnalteredMemories.{AllSized, sized-evict, sized-ensured, sized-announced, sized-retired, stepped-wide, noted-wide, wrote-wide, holding-wide, idle-wide}
+use Rattle.lists.specs.Lists.{flat}
+use Rattle.demands.proofs.CountTray.{count-tray}
 
 -- ---- A refused call
 pub refused-leaves : (sh : Shape) (m : Mem) (tray : List ℕ) (n : ℕ) → n ≤ 11 → (n ≡ 0 → ⊥) → Leaves narrow sh m tray (resultWith (Refused n) m tray)
@@ -141,7 +143,7 @@ module _ (m : Mem) (s : Sound m) (tray : List ℕ) (room : trayLeast ≤ length 
   -- what an entry keeps has no more numbers than it has room for
   entry-list : (e : Entry) → length e ≡ entryWidth narrow → length (valueIn narrow (shape m) e .numbers) ≤ listRoom
   unfolding valueIn listIn
-  entry-list e w = rw (length-take, length-drop) (omega arith)
+  entry-list e w = byTest (isCount e) (λ t. rw t (omega arith)) (λ t. rw (t, length-take, length-drop) (omega arith))
 
   module _ {w : Work} (b : Busy narrow (shape m) (client m d) w) where
     look-leaves : (j : ℕ) (p : Words) (o : Option Store) → AllSized o → Leaves narrow (shape m) m tray (lookResult m tray d j p o)
@@ -158,15 +160,14 @@ module _ (m : Mem) (s : Sound m) (tray : List ℕ) (room : trayLeast ≤ length 
         (entry-list (getD es i []) (wide-at (entryWidth narrow) es i (wide-filed-in m s .0) (ltb-true i (length es) (and-right (not (sawPending (client m d))) _ e))))))
         (λ e. rw e (accepted-leaves (shape m) m _ tray (now m _ (all-same (shape m) m) (stepped-wide (client m d) (b .wide)))))
 
-    table-leaves : (x : Ask) (v : Value) → length (v .numbers) ≡ v .count * columns m → Leaves narrow (shape m) m tray (tableResult m tray d x v)
-    unfolding tableResult mayAnswer isAccepted number isRefused
+    -- what may be answered has no more numbers than there is room for
+    table-leaves : (x : Ask) (v : Value) → (mayAnswer x v ≡ true → length (v .numbers) ≤ listRoom) → Leaves narrow (shape m) m tray (tableResult m tray d x v)
+    unfolding tableResult isAccepted number isRefused
     table-leaves x v l =
         byTest (mayAnswer x v)
-        (λ t.
-        let h = list-room (v .count) (columns m) (leb-true _ _ t) (s .most) in
-        rw t (byTest (sawPending (client m d))
-        (λ u. rw u (answered-leaves m v false (all-same (shape m) m) (omega arith)))
-        (λ u. rw u (accepted-leaves (shape m) m _ tray (now m _ (all-same (shape m) m) (holding-wide (client m d) (b .wide) (shape m) v (omega arith)))))))
+        (λ t. rw t (byTest (sawPending (client m d))
+        (λ u. rw u (answered-leaves m v false (all-same (shape m) m) (l t)))
+        (λ u. rw u (accepted-leaves (shape m) m _ tray (now m _ (all-same (shape m) m) (holding-wide (client m d) (b .wide) (shape m) v (l t)))))))
         (λ t. rw t (went-leaves (shape m) m _ tray tray Long (refl, refl) (now m _ (all-same (shape m) m) idle-wide) (unaltered-same _ _)))
 
     file-leaves : Leaves narrow (shape m) m tray (fileResult m tray d (entryOf (client m d)))
@@ -192,8 +193,23 @@ module _ (m : Mem) (s : Sound m) (tray : List ℕ) (room : trayLeast ≤ length 
     raise-leaves false (some t) z = accepted-leaves (shape m) m _ tray (now _ _ (all-store m t s z) (stepped-wide (client m d) (b .wide)))
     raise-leaves true (some t) z = went-leaves (shape m) m _ tray tray (endOf (client m d)) end-went (now _ _ (all-store m t s z) idle-wide) (unaltered-same _ _)
 
+  -- the numbers of a list, and of a value that may be answered
+  list-whole : (q : Query) → length (flat (listOf q (recordsIn (columns m) (m .table)))) ≡ length (listOf q (recordsIn (columns m) (m .table))) * columns m
+  unfolding listOf
+  list-whole q = length-flat (columns m) _ (wide-keep (columns m) (lies q) _ (wide-held m s .0))
+
+  value-room : (counts : Bool) (l : List Record) → length (flat l) ≡ length l * columns m → counts || leb (valueFor counts l .count) maxList ≡ true
+      → length (valueFor counts l .numbers) ≤ listRoom
+  unfolding ofRecords ofNumber
+  value-room true l w t = omega arith
+  value-room false l w t = let h = list-room (length l) (columns m) (leb-true _ _ t) (s .most) in omega arith
+
+  taken-room : (x : Ask) → mayAnswer x (valueOf x (recordsIn (columns m) (m .table))) ≡ true → length (valueOf x (recordsIn (columns m) (m .table)) .numbers) ≤ listRoom
+  unfolding mayAnswer valueOf
+  taken-room x e = value-room (x .counts) (listOf (x .query) (recordsIn (columns m) (m .table))) (list-whole (x .query)) e
+
   read-leaves : {x : Ask} → Busy narrow (shape m) (client m d) (asking x) → Leaves narrow (shape m) m tray (readResult m tray d x (steps (client m d)))
-  unfolding readResult valueOf ofRecords listOf
+  unfolding readResult
   read-leaves {x} b =
       let i : ℕ = steps (client m d) in
       let n : ℕ = length (readLabels x) in
@@ -204,7 +220,7 @@ module _ (m : Mem) (s : Sound m) (tray : List ℕ) (room : trayLeast ≤ length 
       (λ t. rw t (byTest (eqb i n)
       (λ u. rw u (fetch-leaves b _))
       (λ u. rw u (byTest (eqb i (n + 1))
-      (λ v. rw v (table-leaves b x _ (length-flat (columns m) _ (wide-keep (columns m) (lies (x .query)) _ (wide-held m s .0)))))
+      (λ v. rw v (table-leaves b x (valueOf x (recordsIn (columns m) (m .table))) (taken-room x)))
       (λ v. rw v (file-leaves b))))))
 
   write-table-leaves : {w : Write} → Busy narrow (shape m) (client m d) (writing w) → Leaves narrow (shape m) m tray (writeTableResult m tray d (w .change))
@@ -300,4 +316,5 @@ call-leaves m (evictNode i) = evict-node-leaves m i
 call-leaves m renew = renew-leaves m
 
 pub demand-1 : Demand1
-demand-1 = record { opening = open-leaves; calls = call-leaves }
+unfolding callResult
+demand-1 = record { opening = open-leaves; calls = call-leaves; counts = count-tray }

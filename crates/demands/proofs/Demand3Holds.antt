@@ -1,6 +1,6 @@
 -- Demand 3, for every history of the calls that the contracts cite. Leans on HistoryRuns and LogPlaces, and on the machine's theorems. Assumes nothing.
 use mathlib.Core.Path.{_≡_, refl, sym, ap, _∙_, subst}
-use mathlib.Core.Bool.{Bool}
+use mathlib.Core.Bool.{Bool, true, false}
 use mathlib.Core.List.{List, [], _∷_, _++_}
 use Prim.Native.Nat.{ℕ, suc, _*_, _≤_, _<_}
 use native.Mathlib.Omega.{arith}
@@ -10,20 +10,28 @@ use Rattle.rules.specs.declared.Outcome.the-variants.{Answered}
 use Rattle.rules.specs.Table.{Table, listOf}
 use Rattle.rules.specs.Memory.{recordsIn}
 use Rattle.rules.specs.Outcome.{StepResult}
-use Rattle.rules.specs.Refusals.{shape}
-use Rattle.rules.specs.History.{Plain, step}
-use Rattle.rules.specs.Work.{Ask, Value, valueOf, askOf, deleteOf, insertOf, readOf, workOf, ofRecords, Request}
+use Rattle.rules.specs.Refusals.{shape, client}
+use Rattle.rules.specs.Answers.{isCount}
+use Rattle.rules.specs.Client.{entryOf}
+use Rattle.rules.specs.Sound.{Busy}
+use Rattle.rules.proofs.ClientLaws.{asked-counts}
+use Rattle.rules.specs.History.{Call, Plain, step, callResult}
+use Rattle.rules.specs.Work.{Value, valueOf, askOf, deleteOf, insertOf, readOf, workOf, ofRecords, ofNumber, Request}
 use Rattle.machine.specs.Machine.{answered}
 use Rattle.machine.specs.Transition.{Transition}
 use Rattle.machine.proofs.Log.{entry, plainTable}
-use Rattle.refinement.proofs.Abstraction.{stateOf, callOf, responseIn, responseOf}
+use Rattle.refinement.proofs.Abstraction.{stateOf, callOf, said, responseIn, responseOf, countsAt}
+use Rattle.refinement.proofs.StepFrame.{busy-at}
 use Rattle.machine.proofs.Asks.{limit}
 use Rattle.demands.specs.Corollaries.{StepsByNodes}
 use Rattle.demands.specs.WholeHistory.{History, shapeAt, memAt, plainAt, callAt, resultAt, UnderWay, stepsIn}
-use Rattle.demands.specs.Demand3.{IsList, WasTrue, Demand3}
+use Rattle.demands.specs.Demand3.{IsAnswer, WasTrue, Demand3}
+use Rattle.demands.specs.Demand1.{trayOf}
 use Rattle.demands.proofs.HistoryRuns.{responseAt, entryAt, logTo, sound, transition-at, few-columns, plain-at}
 use Rattle.demands.proofs.LogPlaces.{length-log, take-log, under-log, read-places, steps-log}
-use Rattle.query.specs.Shape.{Shape}
+use Rattle.demands.proofs.WorksBegun.{begun-busy, works-client}
+use Rattle.demands.proofs.CountTray.{count-tray}
+use Rattle.query.specs.Shape.{Shape, narrow}
 use Rattle.machine.specs.Machine as machine
 use Rattle.machine.proofs.Histories as histories
 use Rattle.machine.proofs.Histories.{limits}
@@ -42,43 +50,58 @@ tables h n l =
     sym (table-is h n l) ∙ histories.tables (shapeAt h) (few-columns h) (logTo h n) (stateOf (memAt h n)) (sound h n l .run) ∙ plain-table h n l
 
 -- ---- The answers
-abbrev pub said : Shape → List ℕ → ℕ → Value
-said sh tray count = record { count = count; numbers = take (count * sh .columns) tray }
-
-answer-is : (sh : Shape) (x : StepResult) (count : ℕ) (cached : Bool) → x .out ≡ Answered count cached → responseOf sh x ≡ answered (said sh (x .tray) count) cached
+answer-is : (sh : Shape) (counts : Bool) (x : StepResult) (count : ℕ) (cached : Bool) → x .out ≡ Answered count cached
+    → responseOf sh counts x ≡ answered (said sh counts (x .tray) count) cached
 unfolding responseOf responseIn
-answer-is sh x count cached e = ap (responseIn sh (x .tray)) e
+answer-is sh counts x count cached e = ap (responseIn sh counts (x .tray)) e
+
+-- what the called desk wants, by its key: what the calls say that the read at it wants
+abbrev pub wantedAt : History → ℕ → Bool
+wantedAt h n = countsAt (memAt h n) (callOf (shapeAt h) (callAt h n))
+
+pub wanted-is : (h : History) (n d : ℕ) (tray : List ℕ) (counts : Bool) (a : List ℕ) (b : ℕ) → n ≤ length (h .calls) → callAt h n ≡ step d tray
+    → UnderWay h (readOf counts a) d b n → (wantedAt h n ≡ counts) × (isCount (entryOf (client (memAt h n) d)) ≡ counts)
+unfolding callOf countsAt workOf askOf
+wanted-is h n d tray counts a b l c u =
+    let m = memAt h n in
+    let w = works-client m d (workOf (shapeAt h) (readOf counts a)) (begun-busy h (readOf counts a) d b n l u n (u .earlier) (omega arith)) in
+    let y = subst (Busy narrow (shape m) (client m d)) (w .works) (busy-at m (sound h n l .fits) d (w .below) (w .busy)) in
+    (ap (λ (z : Call). countsAt m (callOf (shapeAt h) z)) c ∙ asked-counts y, asked-counts y)
 
 step-is : (h : History) (n d : ℕ) (tray : List ℕ) → callAt h n ≡ step d tray → callOf (shapeAt h) (callAt h n) ≡ machine.step d
 unfolding callOf
 step-is h n d tray e = ap (callOf (shapeAt h)) e
 
 pub result-is : (h : History) (n count : ℕ) (cached : Bool) → shape (memAt h n) ≡ shapeAt h → resultAt h n .out ≡ Answered count cached
-    → responseAt h n ≡ answered (said (shapeAt h) (resultAt h n .tray) count) cached
+    → responseAt h n ≡ answered (said (shapeAt h) (wantedAt h n) (resultAt h n .tray) count) cached
 unfolding responseAt
-result-is h n count cached k e = ap (λ x. responseOf x (resultAt h n)) k ∙ answer-is (shapeAt h) (resultAt h n) count cached e
+result-is h n count cached k e = ap (λ x. responseOf x (wantedAt h n) (resultAt h n)) k ∙ answer-is (shapeAt h) (wantedAt h n) (resultAt h n) count cached e
 
 log-more : (h : History) (n d : ℕ) (v : Value) (cached : Bool) → callOf (shapeAt h) (callAt h n) ≡ machine.step d → responseAt h n ≡ answered v cached
     → logTo h n ++ (entry (machine.step d) (answered v cached) ∷ []) ≡ logTo h (suc n)
 unfolding logTo entryAt
 log-more h n d v cached c a = rw (c, a) refl
 
--- a value told is a list told
-is-list : (sh : Shape) (q : Ask) (t : Table) (tray : List ℕ) (count : ℕ) → said sh tray count ≡ valueOf q t → IsList (sh .columns) (listOf (q .query) t) count tray
-unfolding valueOf ofRecords
-is-list sh q t tray count e =
-    let c : count ≡ length (listOf (q .query) t) = ap (λ (v : Value). v .count) e in
+-- a value told is a list told, or a count
+told-answer : (sh : Shape) (counts : Bool) (a : List ℕ) (t : Table) (count : ℕ) (lent tray : List ℕ) → said sh counts tray count ≡ valueOf (askOf sh counts a) t
+    → (counts ≡ true → tray ≡ lent) → IsAnswer counts (sh .columns) (listOf (queryOf a) t) count lent tray
+unfolding valueOf ofRecords ofNumber askOf
+told-answer sh true a t count lent tray e k = record { counted = ap (λ (v : Value). v .count) e; untouched = k refl }
+told-answer sh false a t count lent tray e k =
+    let c : count ≡ length (listOf (queryOf a) t) = ap (λ (v : Value). v .count) e in
     record { counted = c; records = ap (λ n. take (n * sh .columns) tray) (sym c) ∙ ap (λ (v : Value). v .numbers) e }
 
-asked-query : (h : History) (a : List ℕ) (q : Ask) → askOf (shapeAt h) a ≡ q → queryOf a ≡ q .query
-unfolding askOf
-asked-query h a q e = ap (λ (x : Ask). x .query) e
+-- the tray that a count's step is lent stays
+pub tray-stays : (h : History) (n d : ℕ) (tray : List ℕ) → callAt h n ≡ step d tray → isCount (entryOf (client (memAt h n) d)) ≡ true
+    → resultAt h n .tray ≡ trayOf (callAt h n)
+unfolding resultAt callResult trayOf
+tray-stays h n d tray c i = ap (λ (z : Call). callResult (memAt h n) z .tray) c ∙ count-tray (memAt h n) tray d i ∙ ap trayOf (sym c)
 
 pub answers : (h : History) (n d : ℕ) (tray : List ℕ) (count : ℕ) (cached : Bool) → n < length (h .calls) → callAt h n ≡ step d tray
     → resultAt h n .out ≡ Answered count cached → WasTrue h d n count
 answers h n d tray count cached l c e =
     let s = sound h n (omega arith) in
-    let v = said (shapeAt h) (resultAt h n .tray) count in
+    let v = said (shapeAt h) (wantedAt h n) (resultAt h n .tray) count in
     let a = result-is h n count cached (s .shape) e in
     let o : Transition (stateOf (memAt h n)) (machine.step d) (answered v cached) (stateOf (memAt h (suc n))) =
     subst (λ x. Transition (stateOf (memAt h n)) (machine.step d) x (stateOf (memAt h (suc n)))) a
@@ -89,15 +112,21 @@ answers h n d tray count cached l c e =
     let up : w .moment ≤ suc n = let z = w .upto in omega arith in
     let m : take (w .moment) (logTo h n ++ (entry (machine.step d) (answered v cached) ∷ [])) ≡ logTo h (w .moment) =
     ap (take (w .moment)) (log-more h n d v cached (step-is h n d tray c) a) ∙ take-log h (w .moment) (suc n) up in
+    let i = wanted-is h n d tray (u .counts) (u .asked) (length (w .underWay .earlier)) (omega arith) c (u .runs) in
+    let T = plainAt h (w .moment) .table in
+    let e : said (shapeAt h) (u .counts) (resultAt h n .tray) count ≡ valueOf (askOf (shapeAt h) (u .counts) (u .asked)) T =
+    ap (λ x. said (shapeAt h) x (resultAt h n .tray) count) (sym (i .0))
+    ∙ w .was ∙ ap (λ x. valueOf (w .key) (plainTable (shapeAt h) x)) m ∙ ap (valueOf (w .key)) (plain-table h (w .moment) (omega arith))
+    ∙ ap (λ x. valueOf x T) (sym (u .asks)) in
     record {
+      counts = u .counts;
       asked = u .asked;
       b = length (w .underWay .earlier);
       runs = u .runs;
       j = w .moment;
       after = w .later;
       upto = up;
-      was = rw (asked-query h (u .asked) (w .key) (u .asks)) (is-list (shapeAt h) (w .key) (plainAt h (w .moment) .table) (resultAt h n .tray) count
-          (w .was ∙ ap (λ x. valueOf (w .key) (plainTable (shapeAt h) x)) m ∙ ap (valueOf (w .key)) (plain-table h (w .moment) (omega arith))));
+      was = told-answer (shapeAt h) (u .counts) (u .asked) T count (trayOf (callAt h n)) (resultAt h n .tray) e (λ y. tray-stays h n d tray c (i .1 ∙ y));
     }
 
 -- ---- The limits
@@ -120,7 +149,7 @@ unfolding workOf
 demand-3 h = record {
   tables = tables h;
   answers = answers h;
-  reads-end = λ d a b n l u. ends-by h d (readOf a) b n l u;
+  reads-end = λ d counts a b n l u. ends-by h d (readOf counts a) b n l u;
   inserts-end = λ d a b n l u. ends-by h d (insertOf a) b n l u;
   deletes-end = λ d a b n l u. ends-by h d (deleteOf a) b n l u;
 }

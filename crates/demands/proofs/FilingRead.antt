@@ -18,7 +18,7 @@ use Rattle.laws.proofs.Members.{in-append, in-none, in-at}
 use Rattle.query.specs.Shape.{Shape, narrow}
 use Rattle.rules.specs.Layout.{entryWidth, maxAnswers, maxClients}
 use Rattle.rules.specs.Nodes.{Store}
-use Rattle.rules.specs.Answers.{Entry, keyIn, keyPlace, filed}
+use Rattle.rules.specs.Answers.{Entry, keyIn, keyPlace, filed, isCount}
 use Rattle.rules.specs.Client.{steps, entryOf, sawPending, workAt, askAt}
 use Rattle.rules.specs.Memory.{Mem, answersIn, opened, renewed}
 use Rattle.rules.specs.Refusals.{shape, client, stepCode, beginCode, abandonCode, evictAnswerCode, evictNodeCode, renewCode}
@@ -232,8 +232,8 @@ files-of h n l y =
     let s = sound h n (omega arith) in
     let z = filing-there m d (y .asks) (s .fits) (y .reads) in
     let r : isRefused (responseAt h n) ≡ false =
-    ap isRefused (step-reply h n d (y .tray) (y .calls) ∙ ap (responseOf (shape m)) (file-step m (y .tray) d (y .asks) (y .takes) (y .reads)))
-    ∙ file-accepted (shape m) m (y .tray) d (entryOf (client m d)) in
+    ap isRefused (step-reply h n d (y .tray) (y .calls) ∙ ap (responseOf (shape m) (isCount (entryOf (client m d)))) (file-step m (y .tray) d (y .asks) (y .takes) (y .reads)))
+    ∙ file-accepted (shape m) _ m (y .tray) d (entryOf (client m d)) in
     files-now (shapeAt h) (stateOf m) (callAt h n) (responseAt h n) (y .asks) d (y .tray) (z .0) (z .1) (y .calls) r (z .2)
 
 abbrev filed-step : (h : History) (x : Ask) (b n : ℕ) → Filed h x b n → FileStep (memAt h n) (callAt h n)
@@ -353,16 +353,11 @@ pub record FilingRead (h : History) (x : Ask) (n : ℕ) (e : Entry) : Type 0 whe
   pub last : LastFiled h x by n
   pub entry : e ≡ entryOf (client (memAt h by) (filing .client))
 
-pub filing-read : (h : History) (x : Ask) (b n : ℕ) (e : Entry) → Fetches h x b n e → FilingRead h x n e
+-- of an entry that is on file and is of x
+pub filing-of : (h : History) (x : Ask) (n : ℕ) (e : Entry) → n ≤ length (h .calls) → In e (answersIn narrow (memAt h n .answers)) → asksOf h e ≡ x → FilingRead h x n e
 unfolding filesAt
-filing-read h x b n e y =
-    let m = memAt h n in
-    let w = y .within in
-    let es = answersIn narrow (m .answers) in
-    let s = sound h n (omega arith) in
-    let k : asksOf h e ≡ x =
-    ap (λ sh. askIn sh (keyIn e)) (sym (s .shape)) ∙ sym (ans-ask (shape m) e) ∙ its-key m (y .client) x (length (readLabels x)) e (y .fetches) (y .key) in
-    let z = filed-by h n (omega arith) e (subst (λ a. In a es) (y .is) (in-at [] es (y .place) (y .there))) in
+filing-of h x n e w i k =
+    let z = filed-by h n w e i in
     let l = z .before in
     let F : Filed h x (z .b) (z .f) = subst (λ a. Filed h a (z .b) (z .f)) k (z .did) in
     record {
@@ -394,3 +389,13 @@ one-filing h x b f b′ f′ n w y l y′ l′ =
   where
     step-client : {d e : ℕ} {s t : List ℕ} → step d s ≡ step e t → d ≡ e
     step-client i = cc
+
+-- of one that a fetch finds
+pub filing-read : (h : History) (x : Ask) (b n : ℕ) (e : Entry) → Fetches h x b n e → FilingRead h x n e
+filing-read h x b n e y =
+    let m = memAt h n in
+    let w = y .within in
+    let es = answersIn narrow (m .answers) in
+    let s = sound h n (omega arith) in
+    filing-of h x n e (omega arith) (subst (λ a. In a es) (y .is) (in-at [] es (y .place) (y .there)))
+    (ap (λ sh. askIn sh (keyIn e)) (sym (s .shape)) ∙ sym (ans-ask (shape m) e) ∙ its-key m (y .client) x (length (readLabels x)) e (s .fits .few) (y .fetches) (y .key))

@@ -23,7 +23,7 @@ use Rattle.machine.proofs.Claims.{fresh}
 use Rattle.machine.proofs.Log.{after, JobFrom, linked}
 use Rattle.machine.proofs.Quiescence.{quiescent, filesAt, files, clientOf, quiescent-next}
 use Rattle.machine.proofs.Frames.{phaseWork}
-use Rattle.refinement.proofs.Abstraction.{stateOf, callOf, responseOf}
+use Rattle.refinement.proofs.Abstraction.{stateOf, callOf, responseOf, countsAt}
 use Rattle.demands.specs.WholeHistory.{shapeAt, History, memAt, callAt, resultAt}
 use Rattle.demands.specs.Demand2.{Quiescent, Filed, LastFiled}
 use Rattle.demands.proofs.HistoryRuns.{responseAt, logTo, sound}
@@ -38,11 +38,12 @@ use Rattle.rules.specs.History as rules
 use Rattle.machine.specs.Machine as machine
 use Rattle.machine.proofs.Log as log
 use Rattle.machine.proofs.Quiescence as machine-quiescent
+use Rattle.rules.specs.Answers.{isCount}
 
 -- ---- A step's reply
-pub step-reply : (h : History) (n d : ℕ) (tray : List ℕ) → callAt h n ≡ rules.step d tray → responseAt h n ≡ responseOf (shape (memAt h n)) (stepResult (memAt h n) tray d)
-unfolding responseAt resultAt callResult
-step-reply h n d tray e = ap (λ c. responseOf (shape (memAt h n)) (callResult (memAt h n) c)) e
+pub step-reply : (h : History) (n d : ℕ) (tray : List ℕ) → callAt h n ≡ rules.step d tray → responseAt h n ≡ responseOf (shape (memAt h n)) (isCount (entryOf (client (memAt h n) d))) (stepResult (memAt h n) tray d)
+unfolding responseAt resultAt callResult callOf countsAt
+step-reply h n d tray e = ap (λ c. responseOf (shape (memAt h n)) (countsAt (memAt h n) (callOf (shapeAt h) c)) (callResult (memAt h n) c)) e
 
 pub step-call : (sh : Shape) (c : rules.Call) (d : ℕ) (tray : List ℕ) → c ≡ rules.step d tray → callOf sh c ≡ machine.step d
 unfolding callOf
@@ -107,10 +108,10 @@ filed-there h q n w e =
       _,
       record {
         client = d;
-        request = readOf (u .asked);
+        request = readOf (u .counts) (u .asked);
         tray = f .tray;
         calls = f .calls;
-        takes = step-taken (shape (memAt h n)) (memAt h n) (f .tray) d (ap isRefused (sym (step-reply h n d (f .tray) (f .calls))) ∙ f .taken);
+        takes = step-taken (shape (memAt h n)) _ (memAt h n) (f .tray) d (ap isRefused (sym (step-reply h n d (f .tray) (f .calls))) ∙ f .taken);
         files = files-there (memAt h n) d q (x .0) (x .1) (s .fits)
             (low-client (stateOf (memAt h n)) d q (x .0) (x .1) (s .good .inv) (x .2)) (x .2);
         runs = u .runs;
@@ -151,8 +152,8 @@ filed-now h q b f n c w l x le k =
     let early = x .runs .earlier in
     let z = filing-there m d q (s .fits) (x .files) in
     let r : isRefused (responseAt h f) ≡ false =
-    ap isRefused (step-reply h f d (x .tray) (x .calls) ∙ ap (responseOf (shape m)) (file-step m (x .tray) d q (x .takes) (x .files)))
-    ∙ file-accepted (shape m) m (x .tray) d (entryOf (client m d)) in
+    ap isRefused (step-reply h f d (x .tray) (x .calls) ∙ ap (responseOf (shape m) (isCount (entryOf (client m d)))) (file-step m (x .tray) d q (x .takes) (x .files)))
+    ∙ file-accepted (shape m) _ m (x .tray) d (entryOf (client m d)) in
     filed-flag (stateOf m) (stateOf (memAt h (suc f))) (flagsAt h f) (callOf (shapeAt h) (callAt h f)) (responseAt h f) q d (step-call (shapeAt h) (callAt h f) d (x .tray) (x .calls))
     (files-now (shapeAt h) (stateOf m) (callAt h f) (responseAt h f) q d (x .tray) (z .0) (z .1) (x .calls) r (z .2))
     (on-client h q d b f c (since-filed h q b f (omega arith) x) le (quiescent-less h q c n f k (omega arith)) f early (omega arith))

@@ -18,7 +18,7 @@ use Rattle.machine.proofs.StateInv.{StateInv}
 use Rattle.machine.proofs.Claims.{Hist, next, fresh, Good, good-next, opened-good}
 use Rattle.machine.proofs.Log.{Entry, entry, after}
 use Rattle.machine.proofs.Histories.{Run, after-append}
-use Rattle.refinement.proofs.Abstraction.{stateOf, callOf, responseOf, Fits}
+use Rattle.refinement.proofs.Abstraction.{stateOf, callOf, responseOf, countsAt, Fits}
 use Rattle.refinement.proofs.Refinement.{refines, shape-stays, number-is}
 use Rattle.refinement.proofs.Opening.{opened-fits}
 use Rattle.demands.specs.WholeHistory.{History, shapeAt, memAt, plainAt, callAt, resultAt}
@@ -52,7 +52,7 @@ next-plain h n l = plain-more (h .calls) (opened narrow (shapeAt h) (h .lent)) (
 -- ---- The machine's log of a history
 -- what the machine answers to call n
 unfoldable pub responseAt : History → ℕ → Response
-responseAt h n = responseOf (shape (memAt h n)) (resultAt h n)
+responseAt h n = responseOf (shape (memAt h n)) (countsAt (memAt h n) (callOf (shapeAt h) (callAt h n))) (resultAt h n)
 
 unfoldable pub entryAt : History → ℕ → Entry
 entryAt h n = entry (callOf (shapeAt h) (callAt h n)) (responseAt h n)
@@ -175,7 +175,7 @@ plain-shape h (suc n) l =
 
 pub number-at : (h : History) (n : ℕ) → machine.number (responseAt h n) ≡ number (resultAt h n .out)
 unfolding responseAt
-number-at h n = number-is (shape (memAt h n)) (resultAt h n)
+number-at h n = number-is (shape (memAt h n)) (countsAt (memAt h n) (callOf (shapeAt h) (callAt h n))) (resultAt h n)
 
 next-is : (g : Hist) (c : machine.Call) (a : Response) → next g c a .plain ≡ plain.fed (g .plain) c (machine.number a)
 unfolding next

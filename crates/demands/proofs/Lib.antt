@@ -1,5 +1,6 @@
 pub mod HistoryRuns
 pub mod LogPlaces
+pub mod CountTray
 pub mod Demand3Holds
 pub mod TableOrdered
 pub mod Moments
@@ -12,6 +13,7 @@ pub mod Example
 pub mod Steady
 pub mod WriteEffects
 pub mod Seen
+pub mod FromFile
 pub mod CorollariesHold
 pub mod WorksBegun
 pub mod OneWorkHolds

@@ -65,28 +65,28 @@ pub accepted-at : (h : History) (n : ℕ) → n < length (h .calls) → accepted
 unfolding acceptedAt
 accepted-at h n l = ap isAccepted (sym (number-at h n)) ∙ transition-accepted (stateOf (memAt h n)) (transition-at h n l)
 
-pub work-ends : (sh : Shape) (tray : List ℕ) (o : Outcome) → isEnd (responseIn sh tray o) ≡ endsWork o
+pub work-ends : (sh : Shape) (counts : Bool) (tray : List ℕ) (o : Outcome) → isEnd (responseIn sh counts tray o) ≡ endsWork o
 unfolding isEnd responseIn endsWork
-work-ends sh tray (Refused n) = refl
-work-ends sh tray Accepted = refl
-work-ends sh tray (Answered n b) = refl
-work-ends sh tray Long = refl
-work-ends sh tray (Ended b) = refl
-work-ends sh tray Full = refl
+work-ends sh counts tray (Refused n) = refl
+work-ends sh counts tray Accepted = refl
+work-ends sh counts tray (Answered n b) = refl
+work-ends sh counts tray Long = refl
+work-ends sh counts tray (Ended b) = refl
+work-ends sh counts tray Full = refl
 
-ends-same : (sh to : Shape) (d : ℕ) (c : Call) (x : StepResult) → isAccepted (number (x .out)) ≡ not (isRefused (responseOf sh x))
-    → ends d (callOf to c) (responseOf sh x) ≡ endsAt d c (x .out)
+ends-same : (sh to : Shape) (counts : Bool) (d : ℕ) (c : Call) (x : StepResult) → isAccepted (number (x .out)) ≡ not (isRefused (responseOf sh counts x))
+    → ends d (callOf to c) (responseOf sh counts x) ≡ endsAt d c (x .out)
 unfolding ends callOf endsAt responseOf
-ends-same sh to d (begin e r) x i = refl
-ends-same sh to d (step e tray) x i = ap (λ b. eqb e d && b) (work-ends sh (x .tray) (x .out))
-ends-same sh to d (abandon e) x i = ap (λ b. eqb e d && b) (sym i)
-ends-same sh to d (evictAnswer j) x i = refl
-ends-same sh to d (evictNode j) x i = refl
-ends-same sh to d renew x i = refl
+ends-same sh to counts d (begin e r) x i = refl
+ends-same sh to counts d (step e tray) x i = ap (λ b. eqb e d && b) (work-ends sh counts (x .tray) (x .out))
+ends-same sh to counts d (abandon e) x i = ap (λ b. eqb e d && b) (sym i)
+ends-same sh to counts d (evictAnswer j) x i = refl
+ends-same sh to counts d (evictNode j) x i = refl
+ends-same sh to counts d renew x i = refl
 
 pub ends-at : (h : History) (d n : ℕ) → n < length (h .calls) → ends d (callOf (shapeAt h) (callAt h n)) (responseAt h n) ≡ endsAt d (callAt h n) (resultAt h n .out)
 unfolding responseAt acceptedAt
-ends-at h d n l = ends-same (shape (memAt h n)) (shapeAt h) d (callAt h n) (resultAt h n) (accepted-at h n l)
+ends-at h d n l = ends-same (shape (memAt h n)) (shapeAt h) _ d (callAt h n) (resultAt h n) (accepted-at h n l)
 
 stepped-same : (sh : Shape) (d : ℕ) (c : Call) (a : Response) → stepped d (callOf sh c) a ≡ cond (isStepAt d c && not (isRefused a)) 1 0
 unfolding stepped callOf isStepAt
@@ -216,9 +216,10 @@ under-places h d n x l u =
 
 -- a read's
 pub record BegunRead (h : History) (d n : ℕ) (q : Ask) (b : ℕ) : Type 0 where
+  pub counts : Bool
   pub asked : List ℕ
-  pub asks : askOf (shapeAt h) asked ≡ q
-  pub runs : UnderWay h (readOf asked) d b n
+  pub asks : askOf (shapeAt h) counts asked ≡ q
+  pub runs : UnderWay h (readOf counts asked) d b n
 
 abbrev isAsking : Work → Bool
 isAsking (asking x) = true
@@ -232,7 +233,7 @@ no-read x q e f = absurd (true≢false (sym (ap isAsking e) ∙ f))
 
 read-of : (h : History) (d n : ℕ) (q : Ask) (b : ℕ) (r : Request) → workOf (shapeAt h) r ≡ asking q → UnderWay h r d b n → BegunRead h d n q b
 unfolding workOf
-read-of h d n q b (readOf a) e u = record { asked = a; asks = ask-eq e; runs = u }
+read-of h d n q b (readOf counts a) e u = record { counts = counts; asked = a; asks = ask-eq e; runs = u }
 read-of h d n q b (insertOf a) e u = no-read _ q e refl
 read-of h d n q b (deleteOf a) e u = no-read _ q e refl
 

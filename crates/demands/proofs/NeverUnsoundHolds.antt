@@ -84,7 +84,7 @@ nearer-at h n d tray l e b t =
 -- it ends what is under way there where the machine says so
 step-ends : (h : History) (n d : ℕ) (tray : List ℕ) → callAt h n ≡ step d tray → endsAt d (callAt h n) (resultAt h n .out) ≡ isEnd (responseAt h n)
 unfolding endsAt responseAt responseOf
-step-ends h n d tray e = rw (e, eq-eqb d d refl) (sym (work-ends _ (resultAt h n .tray) (resultAt h n .out)))
+step-ends h n d tray e = rw (e, eq-eqb d d refl) (sym (work-ends _ _ (resultAt h n .tray) (resultAt h n .out)))
 
 -- the next calls are steps of desk d, so many of them
 abbrev NextSteps : History → ℕ → ℕ → ℕ → Type 0

@@ -1,7 +1,7 @@
 -- Each answer has one read, each end one write, for every history. Leans on WorksBegun, Works, WriteEnds and machine's Transition.
 -- Assumes nothing.
 use mathlib.Core.Path.{_≡_, refl, sym, ap, _∙_, subst}
-use mathlib.Core.Bool.{Bool, true, false, cond, false≢true}
+use mathlib.Core.Bool.{Bool, true, false, cond, false≢true, true≢false}
 use mathlib.Core.List.{List}
 use mathlib.Core.Option.{some}
 use Prim.Native.Nat.{ℕ, suc, _<_}
@@ -17,7 +17,7 @@ use Rattle.query.specs.Encoding.{queryOf}
 use Rattle.rules.specs.declared.Outcome.{Outcome}
 use Rattle.rules.specs.declared.Outcome.the-variants.{Refused, Accepted, Answered, Long, Ended, Full}
 use Rattle.rules.specs.Table.{Table, delete, changes, noRoom}
-use Rattle.rules.specs.Work.{Work, asking, writing, workOf, Request, readOf, insertOf, deleteOf, isWrite}
+use Rattle.rules.specs.Work.{Work, asking, writing, workOf, Request, readOf, insertOf, deleteOf, isWrite, askOf, mayAnswer, Ask, Value}
 use Rattle.rules.specs.History.{Call, begin, step, abandon, evictAnswer, evictNode, renew, isAccepted}
 use Rattle.rules.specs.Outcome.{number}
 use Rattle.rules.specs.Refusals.{shape}
@@ -52,6 +52,19 @@ ofWrite long = false
 ofWrite (ended c) = true
 ofWrite full = true
 
+-- whether it is 12, and whether what is ended wants a count
+abbrev isLongEnd : Response → Bool
+isLongEnd (refused n) = false
+isLongEnd went = false
+isLongEnd (answered v f) = false
+isLongEnd long = true
+isLongEnd (ended c) = false
+isLongEnd full = false
+
+abbrev countsWork : Work → Bool
+countsWork (asking q) = q .counts
+countsWork (writing w) = false
+
 -- call c is a step at a desk with such a work
 record Found (s : State) (c : machine.Call) (a : Response) : Type 0 where
   client : ℕ
@@ -59,6 +72,17 @@ record Found (s : State) (c : machine.Call) (a : Response) : Type 0 where
   calls : c ≡ machine.step client
   works : phaseWork (s .clients client) ≡ some work
   told : isWriting work ≡ ofWrite a
+  list : isLongEnd a ≡ true → countsWork work ≡ false
+
+-- 12 is for a list
+may-list : (q : Ask) (v : Value) → mayAnswer q v ≡ false → q .counts ≡ false
+unfolding mayAnswer
+may-list q v e = byTest (q .counts) (λ t. absurd (true≢false (rw t at e))) (λ t. t)
+
+end-short : {A : Type 0} (c f : Bool) → isLongEnd (write-end c f) ≡ true → A
+unfolding write-end
+end-short c true e = absurd (false≢true e)
+end-short c false e = absurd (false≢true e)
 
 end-told : (c f : Bool) → true ≡ ofWrite (write-end c f)
 unfolding write-end
@@ -72,16 +96,16 @@ found s (Transition.began l e f) k = absurd (false≢true k)
 found s (Transition.began-write l e f o) k = absurd (false≢true k)
 found s (Transition.looked l e f m n) k = absurd (false≢true k)
 found s (Transition.missed l e f y) k = absurd (false≢true k)
-found s (Transition.hit {d} {q} l e f i g) k = record { client = d; work = asking q; calls = refl; works = rw e refl; told = refl }
-found s (Transition.too-long {d} {q} l e f) k = record { client = d; work = asking q; calls = refl; works = rw e refl; told = refl }
-found s (Transition.listed {d} {q} l e f) k = record { client = d; work = asking q; calls = refl; works = rw e refl; told = refl }
+found s (Transition.hit {d} {q} l e f i g) k = record { client = d; work = asking q; calls = refl; works = rw e refl; told = refl; list = λ z. absurd (false≢true z) }
+found s (Transition.too-long {d} {q} l e f) k = record { client = d; work = asking q; calls = refl; works = rw e refl; told = refl; list = λ z. may-list q _ f }
+found s (Transition.listed {d} {q} l e f) k = record { client = d; work = asking q; calls = refl; works = rw e refl; told = refl; list = λ z. absurd (false≢true z) }
 found s (Transition.took l e f) k = absurd (false≢true k)
-found s (Transition.filed {d} {q} l e) k = record { client = d; work = asking q; calls = refl; works = rw e refl; told = refl }
+found s (Transition.filed {d} {q} l e) k = record { client = d; work = asking q; calls = refl; works = rw e refl; told = refl; list = λ z. absurd (false≢true z) }
 found s (Transition.announced l e f m) k = absurd (false≢true k)
 found s (Transition.wrote l e f) k = absurd (false≢true k)
 found s (Transition.raised l e f m) k = absurd (false≢true k)
 found s (Transition.last {d} {w} {j} {c} {f} l e g m) k =
-    record { client = d; work = writing w; calls = refl; works = rw e refl; told = end-told c f }
+    record { client = d; work = writing w; calls = refl; works = rw e refl; told = end-told c f; list = λ z. end-short c f z }
 found s (Transition.abandoned-read l e) k = absurd (false≢true k)
 found s (Transition.abandoned-write l e m) k = absurd (false≢true k)
 found s (Transition.evicted-answer l) k = absurd (false≢true k)
@@ -108,18 +132,18 @@ left s d (Transition.abandoned-write {w = w} l e m) k = (writing w, rw e refl)
 -- ---- The two ways of telling
 request-writes : (sh : Shape) (r : Request) → isWriting (workOf sh r) ≡ isWrite r
 unfolding workOf isWrite
-request-writes sh (readOf a) = refl
+request-writes sh (readOf counts a) = refl
 request-writes sh (insertOf a) = refl
 request-writes sh (deleteOf a) = refl
 
-outcome-writes : (sh : Shape) (tray : List ℕ) (o : Outcome) → ofWrite (responseIn sh tray o) ≡ isWriteEnd o
+outcome-writes : (sh : Shape) (counts : Bool) (tray : List ℕ) (o : Outcome) → ofWrite (responseIn sh counts tray o) ≡ isWriteEnd o
 unfolding responseIn isWriteEnd
-outcome-writes sh tray (Refused n) = refl
-outcome-writes sh tray Accepted = refl
-outcome-writes sh tray (Answered n b) = refl
-outcome-writes sh tray Long = refl
-outcome-writes sh tray (Ended b) = refl
-outcome-writes sh tray Full = refl
+outcome-writes sh counts tray (Refused n) = refl
+outcome-writes sh counts tray Accepted = refl
+outcome-writes sh counts tray (Answered n b) = refl
+outcome-writes sh counts tray Long = refl
+outcome-writes sh counts tray (Ended b) = refl
+outcome-writes sh counts tray Full = refl
 
 step-passed : (sh : Shape) (c : Call) (d : ℕ) → callOf sh c ≡ machine.step d → (tray : List ℕ) × (c ≡ step d tray)
 unfolding callOf
@@ -137,26 +161,39 @@ step-ends-at d tray c o p i e k = rw (i, e, eq-eqb d d refl, k) refl
 
 -- a call with such an outcome: a step, and what it ends is a write exactly if the outcome speaks of one
 step-ends : (h : History) (n : ℕ) (o : Outcome) → n < length (h .calls) → resultAt h n .out ≡ o → endsWork o ≡ true
-    → (r : Request) × (isWrite r ≡ isWriteEnd o) × StepEnds h n r
+    → (r : Request) × (isWrite r ≡ isWriteEnd o) × StepEnds h n r × (isLongEnd (responseAt h n) ≡ true → countsWork (workOf (shapeAt h) r) ≡ false)
 step-ends h n o l e k =
     let sh = shape (memAt h n) in
     let tray = resultAt h n .tray in
     let a = result-end h n o e in
-    let f = found (stateOf (memAt h n)) (transition-at h n l) (ap isEnd a ∙ work-ends sh tray o ∙ k) in
+    let f = found (stateOf (memAt h n)) (transition-at h n l) (ap isEnd a ∙ work-ends sh _ tray o ∙ k) in
     let d = f .client in
     let c = step-passed (shapeAt h) (callAt h n) d (f .calls) in
     let z = busy-begun h n d (f .work) (omega arith) (f .works) in
     let r = z .1 .request in (
       r,
-      sym (request-writes (shapeAt h) r) ∙ ap isWriting (z .1 .is) ∙ f .told ∙ ap ofWrite a ∙ outcome-writes sh tray o,
+      sym (request-writes (shapeAt h) r) ∙ ap isWriting (z .1 .is) ∙ f .told ∙ ap ofWrite a ∙ outcome-writes sh _ tray o,
       (d, c .0, c .1, z .0, record { within = l; runs = z .1 .runs; ends = step-ends-at d (c .0) (callAt h n) o (resultAt h n .out) (c .1) e k }),
+      λ y. ap countsWork (z .1 .is) ∙ f .list y,
     )
 
-a-read : (h : History) (n : ℕ) (r : Request) → isWrite r ≡ false → StepEnds h n r → (a : List ℕ) × StepEnds h n (readOf a)
+a-read : (h : History) (n : ℕ) (r : Request) → isWrite r ≡ false → StepEnds h n r → (counts : Bool) × (a : List ℕ) × StepEnds h n (readOf counts a)
 unfolding isWrite
-a-read h n (readOf a) e s = (a, s)
+a-read h n (readOf counts a) e s = (counts, a, s)
 a-read h n (insertOf a) e s = absurd (false≢true (sym e))
 a-read h n (deleteOf a) e s = absurd (false≢true (sym e))
+
+a-list : (h : History) (n : ℕ) (r : Request) → isWrite r ≡ false → countsWork (workOf (shapeAt h) r) ≡ false → StepEnds h n r → (a : List ℕ) × StepEnds h n (readOf false a)
+unfolding isWrite workOf askOf
+a-list h n (readOf true a) e k s = absurd (true≢false k)
+a-list h n (readOf false a) e k s = (a, s)
+a-list h n (insertOf a) e k s = absurd (false≢true (sym e))
+a-list h n (deleteOf a) e k s = absurd (false≢true (sym e))
+
+-- what the machine answers where 12 is given
+long-end : (h : History) (n : ℕ) → resultAt h n .out ≡ Long → isLongEnd (responseAt h n) ≡ true
+unfolding responseIn
+long-end h n e = ap isLongEnd (result-end h n Long e)
 
 -- 13 is an insert's: a delete has always room
 delete-not-full : (f c : Bool) → f ≡ false → Full ≡ cond f Full (Ended c) → ⊥
@@ -169,7 +206,7 @@ delete-room q t = refl
 
 an-insert : (h : History) (n : ℕ) (r : Request) → isWrite r ≡ true → resultAt h n .out ≡ Full → StepEnds h n r → (a : List ℕ) × StepEnds h n (insertOf a)
 unfolding isWrite isWriteEnd
-an-insert h n (readOf a) e k s = absurd (false≢true e)
+an-insert h n (readOf counts a) e k s = absurd (false≢true e)
 an-insert h n (insertOf a) e k s = (a, s)
 an-insert h n (deleteOf a) e k s =
     let x = s .4 in
@@ -201,8 +238,8 @@ pub every-end : (h : History) → EveryEnd h
 unfolding endsWork isWriteEnd
 every-end h = record {
   answers = λ n count cached l e. let z = step-ends h n (Answered count cached) l e refl in a-read h n (z .0) (z .1) (z .2);
-  long = λ n l e. let z = step-ends h n Long l e refl in a-read h n (z .0) (z .1) (z .2);
-  ended = λ n changed l e. step-ends h n (Ended changed) l e refl;
+  long = λ n l e. let z = step-ends h n Long l e refl in a-list h n (z .0) (z .1) (z .3 (long-end h n e)) (z .2);
+  ended = λ n changed l e. let z = step-ends h n (Ended changed) l e refl in (z .0, z .1, z .2);
   full = λ n l e. let z = step-ends h n Full l e refl in an-insert h n (z .0) (z .1) e (z .2);
   abandoned = abandon-ends h;
 }

@@ -134,7 +134,7 @@ open-gives m k = gives (openRows m k) [] _ (open-first m k) refl none-zero
 -- ---- Begins
 fault-cases : (sh : Shape) (r : Request) → (faultOf sh r ≡ 0) ⊎ (faultOf sh r ≡ refusedColumns)
 unfolding faultOf
-fault-cases sh (readOf a) = byTest (isQuery sh a) (λ e. rw e (inl refl)) (λ e. rw e (inr refl))
+fault-cases sh (readOf counts a) = byTest (isQuery sh a) (λ e. rw e (inl refl)) (λ e. rw e (inr refl))
 fault-cases sh (insertOf a) = byTest (isQuery sh a && namesAll (queryOf a)) (λ e. rw e (inl refl)) (λ e. rw e (inr refl))
 fault-cases sh (deleteOf a) = byTest (isQuery sh a) (λ e. rw e (inl refl)) (λ e. rw e (inr refl))
 

@@ -209,7 +209,7 @@ standing h r d b n i s =
       low = k .low;
       busy = k .busy;
       made = k .made;
-      takes = step-taken (shape (memAt h n)) (memAt h n) (s .tray) d (ap isRefused (sym (step-reply h n d (s .tray) (s .calls))) ∙ taken);
+      takes = step-taken (shape (memAt h n)) _ (memAt h n) (s .tray) d (ap isRefused (sym (step-reply h n d (s .tray) (s .calls))) ∙ taken);
     }
 
 -- ---- What the step does, by the rules
@@ -221,13 +221,13 @@ step-result : (h : History) (n d : ℕ) (tray : List ℕ) → callAt h n ≡ rul
 unfolding resultAt callResult
 step-result h n d tray e = ap (callResult (memAt h n)) e
 
-pub read-at : (h : History) (a : List ℕ) (d b n i : ℕ) (s : StepOf h (readOf a) d b n i)
-    → resultAt h n ≡ readResult (memAt h n) (s .tray) d (askOf (shapeAt h) a) i
+pub read-at : (h : History) (counts : Bool) (a : List ℕ) (d b n i : ℕ) (s : StepOf h (readOf counts a) d b n i)
+    → resultAt h n ≡ readResult (memAt h n) (s .tray) d (askOf (shapeAt h) counts a) i
 unfolding progressOf workOf
-read-at h a d b n i s =
-    let z = standing h (readOf a) d b n i s in
-    step-result h n d (s .tray) (s .calls) ∙ progressed (memAt h n) (s .tray) d (asking (askOf (shapeAt h) a)) i z
-    ∙ ap (readResult (memAt h n) (s .tray) d (askOf (shapeAt h) a)) (z .made)
+read-at h counts a d b n i s =
+    let z = standing h (readOf counts a) d b n i s in
+    step-result h n d (s .tray) (s .calls) ∙ progressed (memAt h n) (s .tray) d (asking (askOf (shapeAt h) counts a)) i z
+    ∙ ap (readResult (memAt h n) (s .tray) d (askOf (shapeAt h) counts a)) (z .made)
 
 pub write-at : (h : History) (r : Request) (w : Write) (d b n i : ℕ) → workOf (shapeAt h) r ≡ writing w → (s : StepOf h r d b n i)
     → resultAt h n ≡ writeResult (memAt h n) (s .tray) d w i

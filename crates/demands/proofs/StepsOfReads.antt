@@ -1,7 +1,7 @@
 -- Demand 2 of the steps of a read: the list that a table step takes, and the nodes that its looks look at. Leans on StepsMade, NodeChanges
 -- and TableOrdered. Assumes nothing.
 use mathlib.Core.Path.{_≡_, refl, sym, ap, _∙_, subst}
-use mathlib.Core.Bool.{Bool, true, false, _||_}
+use mathlib.Core.Bool.{Bool, true, false, _||_, true≢false, cond}
 use mathlib.Core.List.{List, [], _∷_, _++_}
 use mathlib.Core.Option.{Option, none, some}
 use Prim.Native.Nat.{ℕ, suc, _+_, _*_, _≤_, _<_}
@@ -13,55 +13,58 @@ use borrow.Author.Tests.{lt-ltb, le-ltb, eq-eqb, ne-eqb, leb-true, leb-false}
 use Rattle.lists.specs.Lists.{written, flat}
 use Rattle.laws.proofs.TestLaws.{byTest, clash}
 use Rattle.laws.proofs.RowLaws.{wide-keep, length-flat}
-use Rattle.laws.proofs.WrittenLaws.{written-read}
+use Rattle.laws.proofs.WrittenLaws.{written-read, written-nil}
 use Rattle.query.specs.Query.{Query, Record, Label, lies, readNode, readCount}
 use Rattle.query.specs.Encoding.{queryOf, labelWords, labelWidth}
 use Rattle.query.specs.Graph.{E″}
 use Rattle.query.specs.Shape.{Shape, narrow}
 use Rattle.query.proofs.Agreement.{read-node-edge, read-edge-node}
 use Rattle.rules.specs.declared.Outcome.the-variants.{Accepted, Answered, Long}
-use Rattle.rules.specs.Layout.{maxList, maxClients, lookRoom}
+use Rattle.rules.specs.Layout.{maxList, maxClients, lookRoom, maxRecords}
 use Rattle.rules.specs.Table.{Table, listOf}
 use Rattle.rules.specs.Nodes.{Store, isPresent, nodeOf, revision, pending, ensured}
-use Rattle.rules.specs.Answers.{Entry, revisionIn, valueIn}
+use Rattle.rules.specs.Answers.{Entry, revisionIn, valueIn, isCount}
 use Rattle.rules.specs.Client.{Client, steps, entryOf, sawPending, noted, holding}
 use Rattle.rules.specs.Memory.{Mem, recordsIn, storeIn}
 use Rattle.rules.specs.Outcome.{StepResult, resultWith}
 use Rattle.rules.specs.Refusals.{shape, columns, client}
 use Rattle.rules.specs.Steps.{nowAt, answered, lookResult, tableResult, fileResult, readResult}
 use Rattle.rules.specs.Sound.{Busy}
-use Rattle.rules.specs.Work.{Ask, Value, ofRecords, valueOf, mayAnswer, readLabels, Work, asking, Request, readOf, askOf, workOf}
+use Rattle.rules.specs.Work.{Ask, Value, ofRecords, valueOf, mayAnswer, readLabels, Work, asking, Request, readOf, askOf, workOf, ofNumber, valueFor}
 use Rattle.rules.proofs.WorkLaws.{length-readLabels, read-label-at, read-label-wide, read-labels-most}
 use Rattle.records.proofs.RecordSets.{has-list}
 use Rattle.refinement.proofs.Abstraction.{revisionsIn, notedOf, stateOf}
-use Rattle.rules.proofs.HoldingLaws.{holding-value}
+use Rattle.rules.proofs.HoldingLaws.{holding-value, Whole}
 use Rattle.refinement.proofs.ClientParts.{noted-revisions, noted-saw}
 use Rattle.machine.specs.Machine.{looking, filing}
 use Rattle.refinement.proofs.ClientPhases.{Left, fits-at, looking-phase, filing-phase}
 use Rattle.refinement.proofs.StepFrame.{client-at}
 use Rattle.refinement.proofs.MemoryReads.{records-held, rows-held}
 use Rattle.refinement.proofs.PhaseSteps.{noted-count, noted-left, holding-left}
-use Rattle.demands.specs.WholeHistory.{History, shapeAt, memAt, resultAt, acceptedAt, endsWork, endsAt, UnderWay, stepsIn, StepOf}
+use Rattle.demands.specs.WholeHistory.{History, shapeAt, memAt, resultAt, acceptedAt, endsWork, endsAt, UnderWay, stepsIn, StepOf, callAt}
 use Rattle.demands.specs.Demand2.{valueAt}
-use Rattle.demands.specs.Demand3.{IsList}
+use Rattle.demands.specs.Demand3.{IsAnswer}
 use Rattle.demands.specs.Corollaries.{tableAt}
-use Rattle.demands.specs.Demand2Whole.{nodesAt, entryAt, Disposes, long, answers, holds, ListsTaken, ListsFiled, LooksAt, Looks, ReadNodes}
+use Rattle.demands.specs.Demand2Whole.{nodesAt, entryAt, Disposes, long, answers, holds, ListsTaken, ListsFiled, LooksAt, Looks, ReadNodes, Answerable}
 use Rattle.demands.proofs.HistoryRuns.{sound, next-mem}
 use Rattle.demands.proofs.Works.{Since}
-use Rattle.demands.proofs.TableOrdered.{demand-2-ascending}
+use Rattle.demands.proofs.TableOrdered.{demand-2-ascending, good-table}
 use Rattle.demands.proofs.NodeChanges.{looked}
 use Rattle.demands.proofs.NotesKept.{notesIn, Longer, notes-since}
 use Rattle.demands.proofs.StepsMade.{standing, read-at, step-before, since-step, next-step, keeps-since, phase-since, no-twice, not-refused, nodes-after, client-after, client-now, few-nodes}
+use Rattle.demands.specs.Demand1.{trayOf}
+use Rattle.rules.proofs.ClientLaws.{asked-counts}
+use Rattle.laws.proofs.ListLaws.{keep-le}
 
 -- ---- The reader
-reader : (h : History) (a : List ℕ) (d b n i : ℕ) → StepOf h (readOf a) d b n i
-    → Busy narrow (shape (memAt h n)) (client (memAt h n) d) (asking (askOf (shapeAt h) a))
+reader : (h : History) (counts : Bool) (a : List ℕ) (d b n i : ℕ) → StepOf h (readOf counts a) d b n i
+    → Busy narrow (shape (memAt h n)) (client (memAt h n) d) (asking (askOf (shapeAt h) counts a))
 unfolding workOf
-reader h a d b n i s = standing h (readOf a) d b n i s .busy
+reader h counts a d b n i s = standing h (readOf counts a) d b n i s .busy
 
-looks-are : (h : History) (a : List ℕ) → length (readLabels (askOf (shapeAt h) a)) ≡ readCount (queryOf a)
+looks-are : (h : History) (counts : Bool) (a : List ℕ) → length (readLabels (askOf (shapeAt h) counts a)) ≡ readCount (queryOf a)
 unfolding askOf
-looks-are h a = length-readLabels (askOf (shapeAt h) a)
+looks-are h counts a = length-readLabels (askOf (shapeAt h) counts a)
 
 -- ---- The list taken
 table-of : (m : Mem) (tray : List ℕ) (d : ℕ) (x : Ask) (i : ℕ) → i ≡ length (readLabels x) + 1
@@ -70,24 +73,24 @@ unfolding readResult
 table-of m tray d x i e =
     rw (le-ltb i (length (readLabels x)) (omega arith), ne-eqb i (length (readLabels x)) (λ z. omega arith), eq-eqb i (length (readLabels x) + 1) e) refl
 
-value-is : (sh : Shape) (a : List ℕ) (t : Table) → valueOf (askOf sh a) t ≡ ofRecords (listOf (queryOf a) t)
+value-is : (sh : Shape) (counts : Bool) (a : List ℕ) (t : Table) → valueOf (askOf sh counts a) t ≡ valueFor counts (listOf (queryOf a) t)
 unfolding valueOf askOf
-value-is sh a t = refl
+value-is sh counts a t = refl
 
 -- what the list of a query is on the table, by the shape of the memories
-listed : (h : History) (a : List ℕ) (n : ℕ) → n ≤ length (h .calls)
-    → valueOf (askOf (shapeAt h) a) (recordsIn (columns (memAt h n)) (memAt h n .table)) ≡ ofRecords (listOf (queryOf a) (tableAt h n))
-listed h a n l =
-    value-is (shapeAt h) a _ ∙ ap (λ (sh : Shape). ofRecords (listOf (queryOf a) (recordsIn (sh .columns) (memAt h n .table)))) (sound h n l .shape)
+listed : (h : History) (counts : Bool) (a : List ℕ) (n : ℕ) → n ≤ length (h .calls)
+    → valueOf (askOf (shapeAt h) counts a) (recordsIn (columns (memAt h n)) (memAt h n .table)) ≡ valueFor counts (listOf (queryOf a) (tableAt h n))
+listed h counts a n l =
+    value-is (shapeAt h) counts a _ ∙ ap (λ (sh : Shape). valueFor counts (listOf (queryOf a) (recordsIn (sh .columns) (memAt h n .table)))) (sound h n l .shape)
 
-table-result : (h : History) (a : List ℕ) (d b n : ℕ) (s : StepOf h (readOf a) d b n (readCount (queryOf a) + 1))
-    → resultAt h n ≡ tableResult (memAt h n) (s .tray) d (askOf (shapeAt h) a) (ofRecords (listOf (queryOf a) (tableAt h n)))
-table-result h a d b n s =
+table-result : (h : History) (counts : Bool) (a : List ℕ) (d b n : ℕ) (s : StepOf h (readOf counts a) d b n (readCount (queryOf a) + 1))
+    → resultAt h n ≡ tableResult (memAt h n) (s .tray) d (askOf (shapeAt h) counts a) (valueFor counts (listOf (queryOf a) (tableAt h n)))
+table-result h counts a d b n s =
     let l = s .within in
-    let c = looks-are h a in
-    read-at h a d b n (readCount (queryOf a) + 1) s
-    ∙ table-of (memAt h n) (s .tray) d (askOf (shapeAt h) a) (readCount (queryOf a) + 1) (omega arith)
-    ∙ ap (tableResult (memAt h n) (s .tray) d (askOf (shapeAt h) a)) (listed h a n (omega arith))
+    let c = looks-are h counts a in
+    read-at h counts a d b n (readCount (queryOf a) + 1) s
+    ∙ table-of (memAt h n) (s .tray) d (askOf (shapeAt h) counts a) (readCount (queryOf a) + 1) (omega arith)
+    ∙ ap (tableResult (memAt h n) (s .tray) d (askOf (shapeAt h) counts a)) (listed h counts a n (omega arith))
 
 whole : (h : History) (q : Query) (n : ℕ) → n ≤ length (h .calls) → length (flat (listOf q (tableAt h n))) ≡ length (listOf q (tableAt h n)) * h .k
 unfolding listOf
@@ -120,57 +123,104 @@ module _ (m : Mem) (tray : List ℕ) (d : ℕ) (x : Ask) (v : Value) where
   unfolding tableResult
   goes-on e s = rw (e, s) refl
 
-may-is : (x : Ask) (l : List Record) (b : Bool) → mayAnswer x (ofRecords l) ≡ b → leb (length l) maxList ≡ b
-unfolding mayAnswer ofRecords
-may-is x l b e = e
+-- a count may always be answered, a list of at most 32
+may-is : (sh : Shape) (counts : Bool) (a : List ℕ) (l : List Record) (b : Bool) → mayAnswer (askOf sh counts a) (valueFor counts l) ≡ b → counts || leb (length l) maxList ≡ b
+unfolding mayAnswer askOf ofRecords
+may-is sh true a l b e = e
+may-is sh false a l b e = e
 
-answered-list : (l : List Record) (k : ℕ) (tray t : List ℕ) → length (flat l) ≡ length l * k → t ≡ written tray 0 (flat l) → IsList k l (length l) t
-answered-list l k tray t w e = record { counted = refl; records = ap (take (length l * k)) e ∙ written-read tray (flat l) (length l * k) w }
+may-few : (counts : Bool) (l : List Record) → counts || leb (length l) maxList ≡ true → Answerable counts l
+may-few true l e f = absurd (true≢false f)
+may-few false l e f = leb-true (length l) maxList e
 
-count-of : (l : List Record) → (ofRecords l .count ≡ length l) × (ofRecords l .numbers ≡ flat l)
-unfolding ofRecords
-count-of l = (refl, refl)
+may-not : (counts : Bool) (l : List Record) → counts || leb (length l) maxList ≡ false → (counts ≡ false) × (maxList < length l)
+may-not true l e = absurd (true≢false e)
+may-not false l e = (refl, leb-false (length l) maxList e)
 
-list-goes : (h : History) (a : List ℕ) (d b n : ℕ) → StepOf h (readOf a) d b n (readCount (queryOf a) + 1) → Disposes h d n (listOf (queryOf a) (tableAt h n))
-list-goes h a d b n s =
+answered-value : (counts : Bool) (l : List Record) (k : ℕ) (tray t : List ℕ) → length (flat l) ≡ length l * k → t ≡ written tray 0 (valueFor counts l .numbers)
+    → IsAnswer counts k l (length l) tray t
+unfolding ofRecords ofNumber
+answered-value true l k tray t w e = record { counted = refl; untouched = e ∙ written-nil tray 0 }
+answered-value false l k tray t w e = record { counted = refl; records = ap (take (length l * k)) e ∙ written-read tray (flat l) (length l * k) w }
+
+count-of : (counts : Bool) (l : List Record) → valueFor counts l .count ≡ length l
+unfolding ofRecords ofNumber
+count-of true l = refl
+count-of false l = refl
+
+whole-of : (sh : Shape) (counts : Bool) (l : List Record) → length (flat l) ≡ length l * sh .columns → Whole sh counts (valueFor counts l)
+unfolding ofRecords ofNumber
+whole-of sh true l e = refl
+whole-of sh false l e = e
+
+most-of : (counts : Bool) (l : List Record) → Answerable counts l → length l ≤ maxRecords → valueFor counts l .count ≤ cond counts maxRecords maxList
+most-of true l f m = rw (count-of true l) m
+most-of false l f m = rw (count-of false l) (f refl)
+
+-- the tray that a step is lent
+step-lent : (h : History) (r : Request) (d b n i : ℕ) (s : StepOf h r d b n i) → trayOf (callAt h n) ≡ s .tray
+unfolding trayOf
+step-lent h r d b n i s = ap trayOf (s .calls)
+
+-- what the client's key says; no more records lie in a query than the table has; and what a table step that goes on leaves
+asks-counts : (h : History) (counts : Bool) (a : List ℕ) (d b n i : ℕ) → StepOf h (readOf counts a) d b n i → isCount (entryOf (client (memAt h n) d)) ≡ counts
+unfolding askOf
+asks-counts h counts a d b n i s = asked-counts (reader h counts a d b n i s)
+
+short-list : (h : History) (q : Query) (n : ℕ) → n ≤ length (h .calls) → length (listOf q (tableAt h n)) ≤ maxRecords
+unfolding listOf
+short-list h q n l = let a = keep-le (lies q) (tableAt h n) in let b = good-table h n l .most in omega arith
+
+holding-read : (h : History) (counts : Bool) (a : List ℕ) (d b n i : ℕ) → StepOf h (readOf counts a) d b n i → (v : Value) → Whole (shape (memAt h n)) counts v
+    → v .count ≤ cond counts maxRecords maxList → steps (client (memAt h n) d) ≡ length (readLabels (askOf (shapeAt h) counts a)) + 1
+    → Left (shape (memAt h n)) (holding narrow (shape (memAt h n)) v (client (memAt h n) d))
+    (filing (askOf (shapeAt h) counts a) (notedOf (askOf (shapeAt h) counts a) (entryOf (client (memAt h n) d))) v)
+unfolding askOf
+holding-read h counts a d b n i s v w m e = holding-left (reader h counts a d b n i s) v w m e
+
+list-goes : (h : History) (counts : Bool) (a : List ℕ) (d b n : ℕ) → StepOf h (readOf counts a) d b n (readCount (queryOf a) + 1) → Disposes h counts d n (listOf (queryOf a) (tableAt h n))
+list-goes h counts a d b n s =
     let low = s .within in
     let m = memAt h n in
-    let x = askOf (shapeAt h) a in
+    let x = askOf (shapeAt h) counts a in
     let l = listOf (queryOf a) (tableAt h n) in
-    let v = ofRecords l in
+    let v = valueFor counts l in
     let S = sound h n (omega arith) in
-    let R = table-result h a d b n s in
-    let B = reader h a d b n _ s in
-    let st = standing h (readOf a) d b n _ s in
+    let R = table-result h counts a d b n s in
+    let B = reader h counts a d b n _ s in
+    let st = standing h (readOf counts a) d b n _ s in
     let k : columns m ≡ h .k = ap (λ (sh : Shape). sh .columns) (S .shape) in
-    let c = looks-are h a in
+    let c = looks-are h counts a in
     let W : length (flat l) ≡ length l * h .k = whole h (queryOf a) n (omega arith) in
-    let W′ : length (v .numbers) ≡ v .count * columns m = rw (count-of l .0, count-of l .1, k) W in
+    let W′ : Whole (shape m) counts v = whole-of (shape m) counts l (rw k W) in
+    let G = isCount (entryOf (client m d)) in
+    let I : G ≡ counts = asks-counts h counts a d b n _ s in
+    let most : length l ≤ maxRecords = short-list h (queryOf a) n (omega arith) in
     byTest (mayAnswer x v)
-    (λ t. let few = leb-true (length l) maxList (may-is x l true t) in
+    (λ t. let few = may-few counts l (may-is (shapeAt h) counts a l true t) in
     byTest (sawPending (client m d))
     (λ p. let z = goes-answer m (s .tray) d x v t p in
-    answers few p (length l) (out-of R ∙ z .0 ∙ ap (λ i. Answered i false) (count-of l .0))
-    (answered-list l (h .k) (s .tray) _ W (tray-of R ∙ z .1 ∙ ap (written (s .tray) 0) (count-of l .1))))
+    answers few p (length l) (out-of R ∙ z .0 ∙ ap (λ i. Answered i false) (count-of counts l))
+    (rw (step-lent h (readOf counts a) d b n _ s) (answered-value counts l (h .k) (s .tray) _ W (tray-of R ∙ z .1))))
     (λ p. let z = goes-on m (s .tray) d x v t p in
     let H = holding narrow (shape m) v (client m d) in
     let made = st .made in
-    let L = holding-left B v W′ (rw (count-of l .0) few) (omega arith) in
+    let L = holding-read h counts a d b n _ s v W′ (most-of counts l few most) (omega arith) in
     let after : client (memAt h (suc n)) d ≡ H =
     ap (λ (t : Mem). client t d) (next-mem h n low ∙ ap (λ (r : StepResult). r .mem) (R ∙ z)) ∙ client-now m d H (S .fits) (st .low) (L .wide) in
     holds few p (out-of (R ∙ z))
-    (ap (λ t. valueIn narrow (shapeAt h) (entryOf t)) after ∙ ap (λ sh. valueIn narrow sh (entryOf H)) (sym (S .shape)) ∙ holding-value (client m d) (B .wide) (shape m) v W′)))
-    (λ t. long (leb-false (length l) maxList (may-is x l false t)) (out-of R ∙ goes-long m (s .tray) d x v t))
+    (ap (λ t. valueIn narrow (shapeAt h) (entryOf t)) after ∙ ap (λ sh. valueIn narrow sh (entryOf H)) (sym (S .shape)) ∙ holding-value (client m d) (B .wide) (shape m) v (rw I W′))))
+    (λ t. let f = may-not counts l (may-is (shapeAt h) counts a l false t) in long (f .0) (f .1) (out-of R ∙ goes-long m (s .tray) d x v t))
 
 pub lists-taken : (h : History) → ListsTaken h
-lists-taken h a d b n s =
+lists-taken h counts a d b n s =
     let low = s .within in
     record {
       list = listOf (queryOf a) (tableAt h n);
       is = refl;
       exact = λ r. has-list r (queryOf a) (tableAt h n);
       ascends = demand-2-ascending h n (omega arith) .1 (queryOf a);
-      goes = list-goes h a d b n s;
+      goes = list-goes h counts a d b n s;
     }
 
 -- ---- The list filed
@@ -189,12 +239,12 @@ unfolding endsAt
 on-way h r d b n t i u l s e =
     clash (ap (λ c. endsAt d c (resultAt h t .out)) (s .calls) ∙ rw (eq-eqb d d refl, e) refl) (unfold endsAt in u .still t (s .runs .earlier) l)
 
-goes-held : (h : History) (r : Request) (d b n t i : ℕ) (l : List Record) → UnderWay h r d b n → t < n → StepOf h r d b t i → Disposes h d t l
-    → valueAt h (suc t) (entryAt h (suc t) d) ≡ ofRecords l
+goes-held : (h : History) (counts : Bool) (r : Request) (d b n t i : ℕ) (l : List Record) → UnderWay h r d b n → t < n → StepOf h r d b t i → Disposes h counts d t l
+    → valueAt h (suc t) (entryAt h (suc t) d) ≡ valueFor counts l
 unfolding endsWork
-goes-held h r d b n t i l u k s (long f o) = on-way h r d b n t i u k s (unfold endsWork in ap endsWork o)
-goes-held h r d b n t i l u k s (answers f p c o w) = on-way h r d b n t i u k s (unfold endsWork in ap endsWork o)
-goes-held h r d b n t i l u k s (holds f p o v) = v
+goes-held h counts r d b n t i l u k s (long g f o) = on-way h r d b n t i u k s (unfold endsWork in ap endsWork o)
+goes-held h counts r d b n t i l u k s (answers f p c o w) = on-way h r d b n t i u k s (unfold endsWork in ap endsWork o)
+goes-held h counts r d b n t i l u k s (holds f p o v) = v
 
 -- up to an earlier call
 since-less : (h : History) (x : Work) (d b n i : ℕ) → Since h x d b n → b < i → i ≤ n → Since h x d b i
@@ -208,32 +258,32 @@ since-less h x d b n i s l m =
       runs = record { begins = u .begins; accepted = u .accepted; earlier = l; still = λ j o p. u .still j o (omega arith) };
     }
 
-since-read-step : (h : History) (a : List ℕ) (d b n i : ℕ) → StepOf h (readOf a) d b n i → Since h (asking (askOf (shapeAt h) a)) d b n
+since-read-step : (h : History) (counts : Bool) (a : List ℕ) (d b n i : ℕ) → StepOf h (readOf counts a) d b n i → Since h (asking (askOf (shapeAt h) counts a)) d b n
 unfolding workOf
-since-read-step h a d b n i s = since-step h (readOf a) d b n i s
+since-read-step h counts a d b n i s = since-step h (readOf counts a) d b n i s
 
 -- a read at its file step
-filing-at : (h : History) (a : List ℕ) (d b n : ℕ) → Since h (asking (askOf (shapeAt h) a)) d b n → stepsIn h d b n ≡ readCount (queryOf a) + 2
-    → stateOf (memAt h n) .clients d ≡ filing (askOf (shapeAt h) a) (notedOf (askOf (shapeAt h) a) (entryAt h n d)) (valueAt h n (entryAt h n d))
-filing-at h a d b n s e =
-    let x = askOf (shapeAt h) a in
+filing-at : (h : History) (counts : Bool) (a : List ℕ) (d b n : ℕ) → Since h (asking (askOf (shapeAt h) counts a)) d b n → stepsIn h d b n ≡ readCount (queryOf a) + 2
+    → stateOf (memAt h n) .clients d ≡ filing (askOf (shapeAt h) counts a) (notedOf (askOf (shapeAt h) counts a) (entryAt h n d)) (valueAt h n (entryAt h n d))
+filing-at h counts a d b n s e =
+    let x = askOf (shapeAt h) counts a in
     let k = keeps-since h (asking x) d b n _ s e in
-    let c = looks-are h a in
+    let c = looks-are h counts a in
     let made = k .made in
     client-at (memAt h n) d (k .low) ∙ filing-phase (k .busy) (omega arith)
     ∙ ap (λ sh. filing x (notedOf x (entryAt h n d)) (valueIn narrow sh (entryAt h n d))) (sound h n (s .within) .shape)
 
-held-from : (h : History) (a : List ℕ) (d b n t : ℕ) → StepOf h (readOf a) d b n (readCount (queryOf a) + 2) → t < n
-    → StepOf h (readOf a) d b t (readCount (queryOf a) + 1) → valueAt h n (entryAt h n d) ≡ ofRecords (listOf (queryOf a) (tableAt h t))
-held-from h a d b n t s l u =
-    let x = askOf (shapeAt h) a in
-    let since = since-read-step h a d b n _ s in
+held-from : (h : History) (counts : Bool) (a : List ℕ) (d b n t : ℕ) → StepOf h (readOf counts a) d b n (readCount (queryOf a) + 2) → t < n
+    → StepOf h (readOf counts a) d b t (readCount (queryOf a) + 1) → valueAt h n (entryAt h n d) ≡ valueFor counts (listOf (queryOf a) (tableAt h t))
+held-from h counts a d b n t s l u =
+    let x = askOf (shapeAt h) counts a in
+    let since = since-read-step h counts a d b n _ s in
     let early = u .runs .earlier in
     let two : suc (readCount (queryOf a) + 1) ≡ readCount (queryOf a) + 2 = omega arith in
-    let one : stepsIn h d b (suc t) ≡ readCount (queryOf a) + 2 = next-step h (readOf a) d b t _ u ∙ two in
+    let one : stepsIn h d b (suc t) ≡ readCount (queryOf a) + 2 = next-step h (readOf counts a) d b t _ u ∙ two in
     let p = phase-since h (asking x) d b n (suc t) since (omega arith) (omega arith) (one ∙ sym (s .made)) n (omega arith) (omega arith) in
-    filed-value (sym (filing-at h a d b n since (s .made)) ∙ p ∙ filing-at h a d b (suc t) (since-less h (asking x) d b n (suc t) since (omega arith) (omega arith)) one)
-    ∙ goes-held h (readOf a) d b n t _ _ (s .runs) l u (list-goes h a d b t u)
+    filed-value (sym (filing-at h counts a d b n since (s .made)) ∙ p ∙ filing-at h counts a d b (suc t) (since-less h (asking x) d b n (suc t) since (omega arith) (omega arith)) one)
+    ∙ goes-held h counts (readOf counts a) d b n t _ _ (s .runs) l u (list-goes h counts a d b t u)
 
 file-says : (m : Mem) (tray : List ℕ) (d : ℕ) (e : Entry)
     → (fileResult m tray d e .out ≡ Answered (valueIn narrow (shape m) e .count) false) × (fileResult m tray d e .tray ≡ written tray 0 (valueIn narrow (shape m) e .numbers))
@@ -295,53 +345,53 @@ unfolding lookResult
 look-case h p x d n i tray none low dl B made il five a e R = not-refused h n (memAt h n) tray a R
 look-case h p x d n i tray (some t) low dl B made il five a e R = look-some h p x d n i tray t low dl B made il five e (unfold lookResult in R)
 
-ask-query : (sh : Shape) (a : List ℕ) → askOf sh a .query ≡ queryOf a
+ask-query : (sh : Shape) (counts : Bool) (a : List ℕ) → askOf sh counts a .query ≡ queryOf a
 unfolding askOf
-ask-query sh a = refl
+ask-query sh counts a = refl
 
 pub looks : (h : History) → Looks h
-looks h a d b n i il s =
+looks h counts a d b n i il s =
     let low = s .within in
     let m = memAt h n in
-    let x = askOf (shapeAt h) a in
-    let c = looks-are h a in
-    let B = reader h a d b n i s in
-    let st = standing h (readOf a) d b n i s in
+    let x = askOf (shapeAt h) counts a in
+    let c = looks-are h counts a in
+    let B = reader h counts a d b n i s in
+    let st = standing h (readOf counts a) d b n i s in
     let p = readNode (queryOf a) i in
     let g = getD (readLabels x) i [] in
-    let is : g ≡ labelWords p = read-label-at x i (omega arith) ∙ ap (λ q. labelWords (readNode q i)) (ask-query (shapeAt h) a) in
+    let is : g ≡ labelWords p = read-label-at x i (omega arith) ∙ ap (λ q. labelWords (readNode q i)) (ask-query (shapeAt h) counts a) in
     let five : length g ≡ labelWidth = read-label-wide x i (let f = fits-at (shape m) (client m d) (B .work) .columns in let y = B .most in omega arith) (omega arith) in
     look-case h p x d n i (s .tray) (ensured narrow (labelWords p) (nodesAt h n)) low (st .low) B (st .made) (omega arith) (ap length (sym is) ∙ five) (s .accepted) refl
-    (read-at h a d b n i s ∙ look-of m (s .tray) d x i (omega arith) ∙ ap (λ k. lookResult m (s .tray) d i k (ensured narrow k (nodesAt h n))) is)
+    (read-at h counts a d b n i s ∙ look-of m (s .tray) d x i (omega arith) ∙ ap (λ k. lookResult m (s .tray) d i k (ensured narrow k (nodesAt h n))) is)
 
 -- ---- The list filed, under what the looks noted
-looking-at : (h : History) (a : List ℕ) (d b n i : ℕ) → Since h (asking (askOf (shapeAt h) a)) d b n → stepsIn h d b n ≡ i → i ≤ readCount (queryOf a)
-    → (saw : Bool) × (stateOf (memAt h n) .clients d ≡ looking (askOf (shapeAt h) a) (revisionsIn i (entryAt h n d)) saw)
-looking-at h a d b n i s e l =
-    let x = askOf (shapeAt h) a in
+looking-at : (h : History) (counts : Bool) (a : List ℕ) (d b n i : ℕ) → Since h (asking (askOf (shapeAt h) counts a)) d b n → stepsIn h d b n ≡ i → i ≤ readCount (queryOf a)
+    → (saw : Bool) × (stateOf (memAt h n) .clients d ≡ looking (askOf (shapeAt h) counts a) (revisionsIn i (entryAt h n d)) saw)
+looking-at h counts a d b n i s e l =
+    let x = askOf (shapeAt h) counts a in
     let k = keeps-since h (asking x) d b n i s e in
-    let c = looks-are h a in
+    let c = looks-are h counts a in
     let made = k .made in
     let saw = sawPending (client (memAt h n) d) in
     (saw, client-at (memAt h n) d (k .low) ∙ looking-phase (k .busy) (omega arith) ∙ ap (λ j. looking x (revisionsIn j (entryAt h n d)) saw) made)
 
-revisions-count : (h : History) (a : List ℕ) (d b n i : ℕ) → Since h (asking (askOf (shapeAt h) a)) d b n → stepsIn h d b n ≡ i → i ≤ readCount (queryOf a)
+revisions-count : (h : History) (counts : Bool) (a : List ℕ) (d b n i : ℕ) → Since h (asking (askOf (shapeAt h) counts a)) d b n → stepsIn h d b n ≡ i → i ≤ readCount (queryOf a)
     → length (revisionsIn i (entryAt h n d)) ≡ i
-revisions-count h a d b n i s e l = let c = looks-are h a in noted-count (keeps-since h (asking (askOf (shapeAt h) a)) d b n i s e .busy) i (omega arith)
+revisions-count h counts a d b n i s e l = let c = looks-are h counts a in noted-count (keeps-since h (asking (askOf (shapeAt h) counts a)) d b n i s e .busy) i (omega arith)
 
-noted-from : (h : History) (a : List ℕ) (d b n t i : ℕ) → StepOf h (readOf a) d b n (readCount (queryOf a) + 2) → t < n → i < readCount (queryOf a)
-    → StepOf h (readOf a) d b t i → revisionIn narrow (entryAt h n d) i ≡ revisionIn narrow (entryAt h (suc t) d) i
+noted-from : (h : History) (counts : Bool) (a : List ℕ) (d b n t i : ℕ) → StepOf h (readOf counts a) d b n (readCount (queryOf a) + 2) → t < n → i < readCount (queryOf a)
+    → StepOf h (readOf counts a) d b t i → revisionIn narrow (entryAt h n d) i ≡ revisionIn narrow (entryAt h (suc t) d) i
 unfolding notesIn
-noted-from h a d b n t i s l k u =
-    let x = askOf (shapeAt h) a in
-    let since = since-read-step h a d b n _ s in
+noted-from h counts a d b n t i s l k u =
+    let x = askOf (shapeAt h) counts a in
+    let since = since-read-step h counts a d b n _ s in
     let early = u .runs .earlier in
     let before = since-less h (asking x) d b n (suc t) since (omega arith) (omega arith) in
-    let one = next-step h (readOf a) d b t i u in
-    let c = looks-are h a in
-    let p = filing-at h a d b n since (s .made) in
-    let o = looking-at h a d b (suc t) (suc i) before one (omega arith) .1 in
-    let r = revisions-count h a d b (suc t) (suc i) before one (omega arith) in
+    let one = next-step h (readOf counts a) d b t i u in
+    let c = looks-are h counts a in
+    let p = filing-at h counts a d b n since (s .made) in
+    let o = looking-at h counts a d b (suc t) (suc i) before one (omega arith) .1 in
+    let r = revisions-count h counts a d b (suc t) (suc i) before one (omega arith) in
     let g = notes-since h x d b n (suc t) since (omega arith) n (omega arith) (omega arith) in
     let y : Longer (revisionsIn (suc i) (entryAt h (suc t) d)) (notedOf x (entryAt h n d)) =
     subst (λ z. Longer (revisionsIn (suc i) (entryAt h (suc t) d)) z) (ap notesIn p)
@@ -349,39 +399,39 @@ noted-from h a d b n t i s l k u =
     sym (revision-at (length (readLabels x)) (entryAt h n d) i (omega arith)) ∙ y .stay i (omega arith) ∙ revision-at (suc i) (entryAt h (suc t) d) i (omega arith)
 
 pub lists-filed : (h : History) → ListsFiled h
-lists-filed h a d b n s =
+lists-filed h counts a d b n s =
     let low = s .within in
     let m = memAt h n in
     let q = queryOf a in
-    let c = looks-are h a in
-    let y = step-before h (readOf a) d b n (readCount q + 2) (readCount q + 1) s (omega arith) in
+    let c = looks-are h counts a in
+    let y = step-before h (readOf counts a) d b n (readCount q + 2) (readCount q + 1) s (omega arith) in
     let t = y .0 in
     let early = y .1 in
     let l = listOf q (tableAt h t) in
-    let H = held-from h a d b n t s early (y .2) in
-    let R = read-at h a d b n (readCount q + 2) s ∙ file-of m (s .tray) d (askOf (shapeAt h) a) (readCount q + 2) (omega arith) in
+    let H = held-from h counts a d b n t s early (y .2) in
+    let R = read-at h counts a d b n (readCount q + 2) s ∙ file-of m (s .tray) d (askOf (shapeAt h) counts a) (readCount q + 2) (omega arith) in
     let f = file-says m (s .tray) d (entryAt h n d) in
-    let value : valueIn narrow (shape m) (entryAt h n d) ≡ ofRecords l = ap (λ sh. valueIn narrow sh (entryAt h n d)) (sound h n (omega arith) .shape) ∙ H in
+    let value : valueIn narrow (shape m) (entryAt h n d) ≡ valueFor counts l = ap (λ sh. valueIn narrow sh (entryAt h n d)) (sound h n (omega arith) .shape) ∙ H in
     record {
       at = t;
       before = early;
       takes = y .2;
       held = H;
       count = length l;
-      says = out-of R ∙ f .0 ∙ ap (λ (v : Value). Answered (v .count) false) value ∙ ap (λ i. Answered i false) (count-of l .0);
-      list = answered-list l (h .k) (s .tray) _ (whole h q t (omega arith))
-          (tray-of R ∙ f .1 ∙ ap (λ (v : Value). written (s .tray) 0 (v .numbers)) value ∙ ap (written (s .tray) 0) (count-of l .1));
+      says = out-of R ∙ f .0 ∙ ap (λ (v : Value). Answered (v .count) false) value ∙ ap (λ i. Answered i false) (count-of counts l);
+      list = rw (step-lent h (readOf counts a) d b n _ s) (answered-value counts l (h .k) (s .tray) _ (whole h q t (omega arith))
+          (tray-of R ∙ f .1 ∙ ap (λ (v : Value). written (s .tray) 0 (v .numbers)) value));
       noted = λ i k.
-          let z = step-before h (readOf a) d b n (readCount q + 2) i s (omega arith) in
-          (z .0, z .1, z .2, noted-from h a d b n (z .0) i s (z .1) k (z .2) ∙ looks h a d b (z .0) i k (z .2) .notes);
+          let z = step-before h (readOf counts a) d b n (readCount q + 2) i s (omega arith) in
+          (z .0, z .1, z .2, noted-from h counts a d b n (z .0) i s (z .1) k (z .2) ∙ looks h counts a d b (z .0) i k (z .2) .notes);
     }
 
 -- ---- All of definition 11's nodes, and no others
 pub read-nodes : (h : History) → ReadNodes h
-read-nodes h a d b n i s l p = (
+read-nodes h counts a d b n i s l p = (
   (λ c. subst (λ k. E″ k (queryOf a)) (c .is) (read-node-edge (queryOf a) (c .number))),
   (λ e. let z = read-edge-node (queryOf a) p e in
       let low = z .1 in
-      let y = step-before h (readOf a) d b n i (0 + z .0) s (omega arith) in
+      let y = step-before h (readOf counts a) d b n i (0 + z .0) s (omega arith) in
       record { number = z .0; low = low; at = y .0; before = y .1; steps = y .2; is = z .2 }),
 )

@@ -3,39 +3,41 @@
 use mathlib.Core.Path.{_≡_, refl, sym, ap, _∙_}
 use mathlib.Core.Bool.{Bool, true, false, not, _&&_, true≢false}
 use mathlib.Core.List.{List, []}
-use Prim.Native.Nat.{ℕ, _+_, _*_}
+use Prim.Native.Nat.{ℕ, _+_}
 use native.Mathlib.Omega.{arith}
 use lib.Dec.{eqb, ltb}
 use borrow.Author.Tests.{eqb-true, eq-eqb, ne-eqb, ltb-true, le-ltb}
-use lib.ListN.{length, getD, take}
+use lib.ListN.{length, getD}
 use Rattle.lists.specs.Lists.{written}
 use Rattle.laws.proofs.ListLaws.{and-right}
 use Rattle.laws.proofs.TestLaws.{byTest}
-use Rattle.laws.proofs.WrittenLaws.{written-read}
+use Rattle.laws.proofs.SearchLaws.{place-at}
 use Rattle.rules.specs.declared.Outcome.the-variants.{Answered}
-use Rattle.rules.specs.Answers.{Entry, fetchPlace}
+use Rattle.rules.specs.Answers.{Entry, isCount, serves, fetchPlace}
 use Rattle.rules.specs.Client.{entryOf, sawPending}
 use Rattle.query.specs.Shape.{Shape, narrow}
 use Rattle.rules.specs.Layout.{entryWidth}
 use Rattle.rules.specs.Memory.{Mem, answersIn}
 use Rattle.rules.specs.Outcome.{StepResult}
-use Rattle.rules.specs.Refusals.{shape, columns, client, stepCode}
+use Rattle.rules.specs.Refusals.{shape, client, stepCode}
 use Rattle.rules.specs.Steps.{answered, fetchResult, fileResult, readResult, progress, progressOf}
 use Rattle.rules.specs.Calls.{stepResult}
 use Rattle.laws.proofs.Members.{in-at}
 use Rattle.rules.specs.Work.{Value, Ask, readLabels}
 use Rattle.machine.specs.Machine.{isRefused}
-use Rattle.refinement.proofs.Abstraction.{Whole, answers-room, responseIn, responseOf, Fits}
+use Rattle.rules.proofs.HoldingLaws.{Whole}
+use Rattle.refinement.proofs.Abstraction.{answers-room, said, responseIn, responseOf, Fits}
+use Rattle.refinement.proofs.AnswersRefined.{serves-counts}
 use Rattle.refinement.proofs.MemoryReads.{wide-answers, wide-in}
-use Rattle.refinement.proofs.StepFrame.{whole-entry}
+use Rattle.refinement.proofs.StepFrame.{told, whole-entry}
 use Rattle.rules.specs.Answers.{valueIn}
 use Rattle.demands.specs.Demand2.{Reads}
 use Rattle.machine.specs.Machine as machine
 
 -- ---- Accepted
-pub step-taken : (sh : Shape) (m : Mem) (tray : List ℕ) (d : ℕ) → isRefused (responseOf sh (stepResult m tray d)) ≡ false → stepCode m tray d ≡ 0
+pub step-taken : (sh : Shape) (counts : Bool) (m : Mem) (tray : List ℕ) (d : ℕ) → isRefused (responseOf sh counts (stepResult m tray d)) ≡ false → stepCode m tray d ≡ 0
 unfolding stepResult responseOf responseIn isRefused
-step-taken sh m tray d e = byTest (eqb (stepCode m tray d) 0)
+step-taken sh counts m tray d e = byTest (eqb (stepCode m tray d) 0)
     (λ t. eqb-true (stepCode m tray d) 0 t)
     (λ t. absurd (true≢false (rw t at e)))
 
@@ -63,13 +65,13 @@ file-step m tray d q e r =
     ) refl
 
 -- neither is turned down
-pub fetch-accepted : (sh : Shape) (m : Mem) (tray : List ℕ) (d i : ℕ) → isRefused (responseOf sh (fetchResult m tray d i)) ≡ false
+pub fetch-accepted : (sh : Shape) (counts : Bool) (m : Mem) (tray : List ℕ) (d i : ℕ) → isRefused (responseOf sh counts (fetchResult m tray d i)) ≡ false
 unfolding fetchResult answered responseOf responseIn isRefused
-fetch-accepted sh m tray d i = byTest (not (sawPending (client m d)) && ltb i (length (answersIn narrow (m .answers)))) (λ t. rw t refl) (λ t. rw t refl)
+fetch-accepted sh counts m tray d i = byTest (not (sawPending (client m d)) && ltb i (length (answersIn narrow (m .answers)))) (λ t. rw t refl) (λ t. rw t refl)
 
-pub file-accepted : (sh : Shape) (m : Mem) (tray : List ℕ) (d : ℕ) (e : Entry) → isRefused (responseOf sh (fileResult m tray d e)) ≡ false
+pub file-accepted : (sh : Shape) (counts : Bool) (m : Mem) (tray : List ℕ) (d : ℕ) (e : Entry) → isRefused (responseOf sh counts (fileResult m tray d e)) ≡ false
 unfolding fileResult answered responseOf responseIn isRefused
-file-accepted sh m tray d e = refl
+file-accepted sh counts m tray d e = refl
 
 -- ---- What a fetch that hits returns
 value-of : {v u : Value} {a b : Bool} → machine.answered v a ≡ machine.answered u b → v ≡ u
@@ -83,23 +85,27 @@ pub record Gave (sh : Shape) (lent : List ℕ) (e : Entry) (x : StepResult) : Ty
   pub out : x .out ≡ Answered (valueIn narrow sh e .count) true
   pub tray : x .tray ≡ written lent 0 (valueIn narrow sh e .numbers)
 
-value-given : (sh : Shape) (tray : List ℕ) (v u : Value) → Whole sh v
-    → machine.answered (record { count = v .count; numbers = take (v .count * sh .columns) (written tray 0 (v .numbers)) }) true ≡ machine.answered u true
+value-given : (sh : Shape) (counts : Bool) (tray : List ℕ) (v u : Value) → Whole sh counts v
+    → machine.answered (said sh counts (written tray 0 (v .numbers)) (v .count)) true ≡ machine.answered u true
     → (v .count ≡ u .count) × (v .numbers ≡ u .numbers)
-value-given sh tray v u l a =
-    let z = value-of a in
-    (ap (λ (y : Value). y .count) z, sym (written-read tray (v .numbers) (v .count * sh .columns) l) ∙ ap (λ (y : Value). y .numbers) z)
+value-given sh counts tray v u l a =
+    let z = sym (told sh counts tray v l) ∙ value-of a in
+    (ap (λ (y : Value). y .count) z, ap (λ (y : Value). y .numbers) z)
 
-pub fetch-gave : (m : Mem) (tray : List ℕ) (d i : ℕ) (e : Entry) → Fits m
-    → responseOf (shape m) (fetchResult m tray d i) ≡ machine.answered (valueIn narrow (shape m) e) true → Gave (shape m) tray e (fetchResult m tray d i)
-unfolding fetchResult answered responseOf responseIn
-fetch-gave m tray d i e f a = byTest (not (sawPending (client m d)) && ltb i (length (answersIn narrow (m .answers))))
+-- i: the place that the fetch of client d finds; what stands there wants what the client wants
+pub fetch-gave : (m : Mem) (tray : List ℕ) (d n i : ℕ) (e : Entry) → Fits m → i ≡ fetchPlace narrow n (entryOf (client m d)) (answersIn narrow (m .answers))
+    → responseOf (shape m) (isCount (entryOf (client m d))) (fetchResult m tray d i) ≡ machine.answered (valueIn narrow (shape m) e) true
+    → Gave (shape m) tray e (fetchResult m tray d i)
+unfolding fetchResult fetchPlace answered responseOf responseIn
+fetch-gave m tray d n i e f is a = byTest (not (sawPending (client m d)) && ltb i (length (answersIn narrow (m .answers))))
     (λ t. let es = answersIn narrow (m .answers) in
     let x = getD es i [] in
     let h = ltb-true i (length es) (and-right (not (sawPending (client m d))) _ t) in
     let j = in-at [] es i h in
     let w = wide-in (entryWidth narrow) (wide-answers (m .answers) (answers-room m f) (f .answers)) j in
-    let l = whole-entry (shape m) x w (f .few) (f .kept x j .short) in
-    let z = value-given (shape m) tray (valueIn narrow (shape m) x) (valueIn narrow (shape m) e) l (rw t at a) in
+    let o = entryOf (client m d) in
+    let s : serves narrow n o x ≡ true = rw is (place-at (serves narrow n o) es [] (rw is at h)) in
+    let l : Whole (shape m) (isCount o) (valueIn narrow (shape m) x) = rw (← serves-counts n o x s) (whole-entry (shape m) x w (f .few) (f .kept x j .short)) in
+    let z = value-given (shape m) (isCount o) tray (valueIn narrow (shape m) x) (valueIn narrow (shape m) e) l (rw t at a) in
     rw t (record { out = ap (λ n. Answered n true) (z .0); tray = ap (written tray 0) (z .1) }))
     (λ t. not-went (rw t at a))

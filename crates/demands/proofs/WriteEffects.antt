@@ -10,42 +10,42 @@ use Rattle.rules.specs.Work.{Write, writing, workOf, Request}
 use Rattle.rules.specs.Table.{Change}
 use Rattle.rules.specs.Refusals.{shape}
 use Rattle.machine.specs.Machine.{write-end, isRefused, isEnd}
-use Rattle.refinement.proofs.Abstraction.{responseIn, responseOf}
-use Rattle.demands.specs.WholeHistory.{shapeAt, History, memAt, resultAt}
+use Rattle.refinement.proofs.Abstraction.{callOf, responseIn, responseOf, countsAt}
+use Rattle.demands.specs.WholeHistory.{shapeAt, History, memAt, callAt, resultAt}
 use Rattle.demands.specs.Corollaries.{Begins, inserting, deleting, isWriteEnd, Ends}
 use Rattle.demands.proofs.HistoryRuns.{responseAt}
 use Rattle.demands.proofs.Works.{Since}
 use Rattle.query.specs.Shape.{Shape}
 
 -- ---- What an end says
-pub end-taken : (sh : Shape) (tray : List ℕ) (o : Outcome) → isWriteEnd o ≡ true → isRefused (responseIn sh tray o) ≡ false
+pub end-taken : (sh : Shape) (counts : Bool) (tray : List ℕ) (o : Outcome) → isWriteEnd o ≡ true → isRefused (responseIn sh counts tray o) ≡ false
 unfolding isWriteEnd responseIn isRefused
-end-taken sh tray (Refused n) e = absurd (false≢true e)
-end-taken sh tray Accepted e = refl
-end-taken sh tray (Answered n c) e = refl
-end-taken sh tray Long e = refl
-end-taken sh tray (Ended c) e = refl
-end-taken sh tray Full e = refl
+end-taken sh counts tray (Refused n) e = absurd (false≢true e)
+end-taken sh counts tray Accepted e = refl
+end-taken sh counts tray (Answered n c) e = refl
+end-taken sh counts tray Long e = refl
+end-taken sh counts tray (Ended c) e = refl
+end-taken sh counts tray Full e = refl
 
-pub end-ends : (sh : Shape) (tray : List ℕ) (o : Outcome) → isWriteEnd o ≡ true → isEnd (responseIn sh tray o) ≡ true
+pub end-ends : (sh : Shape) (counts : Bool) (tray : List ℕ) (o : Outcome) → isWriteEnd o ≡ true → isEnd (responseIn sh counts tray o) ≡ true
 unfolding isWriteEnd responseIn isEnd
-end-ends sh tray (Refused n) e = absurd (false≢true e)
-end-ends sh tray Accepted e = absurd (false≢true e)
-end-ends sh tray (Answered n c) e = refl
-end-ends sh tray Long e = refl
-end-ends sh tray (Ended c) e = refl
-end-ends sh tray Full e = refl
+end-ends sh counts tray (Refused n) e = absurd (false≢true e)
+end-ends sh counts tray Accepted e = absurd (false≢true e)
+end-ends sh counts tray (Answered n c) e = refl
+end-ends sh counts tray Long e = refl
+end-ends sh counts tray (Ended c) e = refl
+end-ends sh counts tray Full e = refl
 
-pub end-given : (sh : Shape) (tray : List ℕ) (o : Outcome) (c f : Bool) → isWriteEnd o ≡ true → responseIn sh tray o ≡ write-end c f → o ≡ cond f Full (Ended c)
+pub end-given : (sh : Shape) (counts : Bool) (tray : List ℕ) (o : Outcome) (c f : Bool) → isWriteEnd o ≡ true → responseIn sh counts tray o ≡ write-end c f → o ≡ cond f Full (Ended c)
 unfolding isWriteEnd responseIn write-end
-end-given sh tray (Refused n) c f e t = absurd (false≢true e)
-end-given sh tray Accepted c f e t = absurd (false≢true e)
-end-given sh tray (Answered n b) c f e t = absurd (false≢true e)
-end-given sh tray Long c f e t = absurd (false≢true e)
-end-given sh tray (Ended b) c true e t = absurd (let z : _≡_ {A = ℕ} 0 1 = cc in omega arith)
-end-given sh tray (Ended b) c false e t = let z : b ≡ c = cc in ap Ended z
-end-given sh tray Full c true e t = refl
-end-given sh tray Full c false e t = absurd (let z : _≡_ {A = ℕ} 0 1 = cc in omega arith)
+end-given sh counts tray (Refused n) c f e t = absurd (false≢true e)
+end-given sh counts tray Accepted c f e t = absurd (false≢true e)
+end-given sh counts tray (Answered n b) c f e t = absurd (false≢true e)
+end-given sh counts tray Long c f e t = absurd (false≢true e)
+end-given sh counts tray (Ended b) c true e t = absurd (let z : _≡_ {A = ℕ} 0 1 = cc in omega arith)
+end-given sh counts tray (Ended b) c false e t = let z : b ≡ c = cc in ap Ended z
+end-given sh counts tray Full c true e t = refl
+end-given sh counts tray Full c false e t = absurd (let z : _≡_ {A = ℕ} 0 1 = cc in omega arith)
 
 -- ---- The write of a history
 -- a change as a write of the hall
@@ -62,6 +62,6 @@ since-write h d w b e o x =
     let l = x .within in
     record { request = x .request; is = write-begins h (x .request) w (x .is); within = omega arith; runs = x .runs }
 
-pub result-end : (h : History) (e : ℕ) (o : Outcome) → resultAt h e .out ≡ o → responseAt h e ≡ responseIn (shape (memAt h e)) (resultAt h e .tray) o
+pub result-end : (h : History) (e : ℕ) (o : Outcome) → resultAt h e .out ≡ o → responseAt h e ≡ responseIn (shape (memAt h e)) (countsAt (memAt h e) (callOf (shapeAt h) (callAt h e))) (resultAt h e .tray) o
 unfolding responseAt responseOf
-result-end h e o i = ap (responseIn (shape (memAt h e)) (resultAt h e .tray)) i
+result-end h e o i = ap (responseIn (shape (memAt h e)) (countsAt (memAt h e) (callOf (shapeAt h) (callAt h e))) (resultAt h e .tray)) i

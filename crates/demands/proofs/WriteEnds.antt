@@ -199,7 +199,7 @@ table-told h r w B d b n s =
 -- its last step
 last-step : (h : History) (d : ℕ) (w : Change) (b e : ℕ) (o : Outcome) (x : Ends h d w b e o) → StepOf h (x .request) d b e (stepsIn h d b e)
 last-step h d w b e o x =
-    let k = ap isRefused (result-end h e o (x .says)) ∙ end-taken (shape (memAt h e)) (resultAt h e .tray) o (x .ends) in
+    let k = ap isRefused (result-end h e o (x .says)) ∙ end-taken (shape (memAt h e)) _ (resultAt h e .tray) o (x .ends) in
     record { tray = x .tray; within = x .within; calls = x .calls; accepted = accepted-at h e (x .within) ∙ ap not k; runs = x .runs; made = refl }
 
 pub writes-take : (h : History) → WritesTake h
@@ -210,7 +210,7 @@ writes-take h d w b e o x =
     let s = last-step h d w b e o x in
     let y = since-write h d w b e o x in
     let a = result-end h e o (x .says) in
-    let end = ap isEnd a ∙ end-ends (shape (memAt h e)) (resultAt h e .tray) o (x .ends) in
+    let end = ap isEnd a ∙ end-ends (shape (memAt h e)) _ (resultAt h e .tray) o (x .ends) in
     let L = last-tells (stateOf (memAt h e)) d W (stepped-at h r d b e _ s) (work-since h (writing W) d b e y e (x .runs .earlier) (omega arith)) end in
     let c = count h r w (x .is) d b e _ s .0 in
     let late = L .0 in
@@ -226,6 +226,6 @@ writes-take h d w b e o x =
       after,
       omega arith,
       sym (tables h (suc t) (omega arith)) ∙ takes-effect h r w (x .is) d b t T ∙ ap (effect w) (tables h t (omega arith)),
-      end-given (shape (memAt h e)) (resultAt h e .tray) o (changes w f) (noRoom w f) (x .ends) (sym a ∙ L .1 (changes w f) (noRoom w f) told),
+      end-given (shape (memAt h e)) _ (resultAt h e .tray) o (changes w f) (noRoom w f) (x .ends) (sym a ∙ L .1 (changes w f) (noRoom w f) told),
       T,
     )

@@ -20,20 +20,20 @@ use Rattle.rules.specs.Memory.{Mem, recordsIn}
 use Rattle.rules.specs.Refusals.{form, shape, client}
 use Rattle.rules.specs.History.{step}
 use Rattle.demands.specs.WholeHistory.{History, shapeAt, memAt, plainAt, callAt, resultAt, UnderWay, stepsIn, StepOf}
-use Rattle.demands.specs.Demand3.{IsList}
-use Rattle.demands.specs.Demand2.{isQuiet}
+use Rattle.demands.specs.Demand3.{AnswerIs}
+use Rattle.demands.specs.Demand2.{isQuiet, Filed, LastFiled}
 
--- call n answers the read of `a` that call b began at desk d
-pub record Answers (h : History) (d : ℕ) (a : List ℕ) (b n count : ℕ) (cached : Bool) : Type 0 where
+-- call n answers the read of `a` that call b began at desk d, which wants a list (false) or a count (true)
+pub record Answers (h : History) (d : ℕ) (counts : Bool) (a : List ℕ) (b n count : ℕ) (cached : Bool) : Type 0 where
   pub tray : List ℕ
   pub within : n < length (h .calls)
   pub calls : callAt h n ≡ step d tray
-  pub runs : UnderWay h (readOf a) d b n
+  pub runs : UnderWay h (readOf counts a) d b n
   pub says : resultAt h n .out ≡ Answered count cached
 
--- that answer is the query's list on the plain table after the first j calls
-abbrev pub ListAt : History → List ℕ → ℕ → ℕ → ℕ → Type 0
-ListAt h a n count j = IsList (shapeAt h .columns) (listOf (queryOf a) (plainAt h j .table)) count (resultAt h n .tray)
+-- that answer is the query's list, or how many records it has, on the plain table after the first j calls
+abbrev pub TrueAt : History → Bool → List ℕ → ℕ → ℕ → ℕ → Type 0
+TrueAt h counts a n count j = AnswerIs h counts n count (listOf (queryOf a) (plainAt h j .table))
 
 -- what the table memory holds after the first n calls
 abbrev pub tableAt : History → ℕ → Table
@@ -42,33 +42,47 @@ tableAt h n = recordsIn (shapeAt h .columns) (memAt h n .table)
 -- Whatever call answers, it is a step of a read that was begun and is under way.
 abbrev pub EveryAnswer : History → Type 0
 EveryAnswer h = (n count : ℕ) (cached : Bool) → n < length (h .calls) → resultAt h n .out ≡ Answered count cached
-    → (d : ℕ) × (a : List ℕ) × (b : ℕ) × Answers h d a b n count cached
+    → (d : ℕ) × (counts : Bool) × (a : List ℕ) × (b : ℕ) × Answers h d counts a b n count cached
 
 -- At a desk one read is under way at a time: two begins that both are, are one call.
 abbrev pub OneRead : History → Type 0
-OneRead h = (d : ℕ) (a a′ : List ℕ) (b b′ n : ℕ) → n ≤ length (h .calls) → UnderWay h (readOf a) d b n → UnderWay h (readOf a′) d b′ n
-    → (b ≡ b′) × (a ≡ a′)
+OneRead h = (d : ℕ) (counts counts′ : Bool) (a a′ : List ℕ) (b b′ n : ℕ) → n ≤ length (h .calls)
+    → UnderWay h (readOf counts a) d b n → UnderWay h (readOf counts′ a′) d b′ n → (b ≡ b′) × (counts ≡ counts′) × (a ≡ a′)
 
 -- An answer from file was true at a moment of that read: after its begin, and not after its answer.
 abbrev pub FileWasTrue : History → Type 0
-FileWasTrue h = (d : ℕ) (a : List ℕ) (b n count : ℕ) → Answers h d a b n count true → (j : ℕ) × (b < j) × (j ≤ suc n) × ListAt h a n count j
+FileWasTrue h = (d : ℕ) (counts : Bool) (a : List ℕ) (b n count : ℕ) → Answers h d counts a b n count true
+    → (j : ℕ) × (b < j) × (j ≤ suc n) × TrueAt h counts a n count j
+
+-- What is answered from file was filed by a read of the same query that wanted the same, and by the last such: "a count never serves a list,
+-- nor a list a count" (S-1).
+abbrev pub FileServes : History → Type 0
+FileServes h = (d : ℕ) (counts : Bool) (a : List ℕ) (b n count : ℕ) → Answers h d counts a b n count true
+    → (b′ : ℕ) × (f : ℕ) × Filed h (askOf (shapeAt h) counts a) b′ f × LastFiled h (askOf (shapeAt h) counts a) f n
 
 -- A read sees every call e that came before its begin, the end of a write say: its answer is of the table after e or later.
 abbrev pub SeesEarlier : History → Type 0
-SeesEarlier h = (d : ℕ) (a : List ℕ) (b n count : ℕ) (cached : Bool) → Answers h d a b n count cached
-    → (e : ℕ) → e < b → (j : ℕ) × (e < j) × (j ≤ suc n) × ListAt h a n count j
+SeesEarlier h = (d : ℕ) (counts : Bool) (a : List ℕ) (b n count : ℕ) (cached : Bool) → Answers h d counts a b n count cached
+    → (e : ℕ) → e < b → (j : ℕ) × (e < j) × (j ≤ suc n) × TrueAt h counts a n count j
 
 -- Answers do not go back: a read that began after another answered shows the table of a later moment.
 abbrev pub NeverBack : History → Type 0
-NeverBack h = (d d′ : ℕ) (a a′ : List ℕ) (b n b′ n′ count count′ : ℕ) (cached cached′ : Bool)
-    → Answers h d a b n count cached → Answers h d′ a′ b′ n′ count′ cached′ → n < b′
-    → (j : ℕ) × (j′ : ℕ) × (j < j′) × ListAt h a n count j × ListAt h a′ n′ count′ j′
+NeverBack h = (d d′ : ℕ) (counts counts′ : Bool) (a a′ : List ℕ) (b n b′ n′ count count′ : ℕ) (cached cached′ : Bool)
+    → Answers h d counts a b n count cached → Answers h d′ counts′ a′ b′ n′ count′ cached′ → n < b′
+    → (j : ℕ) × (j′ : ℕ) × (j < j′) × TrueAt h counts a n count j × TrueAt h counts′ a′ n′ count′ j′
 
 -- With no write open that meets the query, from begin to answer, the answer is the table's list now, from file or not.
 abbrev pub QuietIsNow : History → Type 0
-QuietIsNow h = (d : ℕ) (a : List ℕ) (b n count : ℕ) (cached : Bool) → Answers h d a b n count cached
-    → ((i : ℕ) → b < i → i ≤ n → isQuiet (askOf (shapeAt h) a) (memAt h i) ≡ true)
-    → IsList (shapeAt h .columns) (listOf (queryOf a) (tableAt h (suc n))) count (resultAt h n .tray)
+QuietIsNow h = (d : ℕ) (counts : Bool) (a : List ℕ) (b n count : ℕ) (cached : Bool) → Answers h d counts a b n count cached
+    → ((i : ℕ) → b < i → i ≤ n → isQuiet (askOf (shapeAt h) counts a) (memAt h i) ≡ true)
+    → AnswerIs h counts n count (listOf (queryOf a) (tableAt h (suc n)))
+
+-- With no write open that meets the query, from a count's begin to its answer, the count is the number of records in the
+-- query's subspace now.
+abbrev pub QuietCount : History → Type 0
+QuietCount h = (d : ℕ) (a : List ℕ) (b n count : ℕ) (cached : Bool) → Answers h d true a b n count cached
+    → ((i : ℕ) → b < i → i ≤ n → isQuiet (askOf (shapeAt h) true a) (memAt h i) ≡ true)
+    → count ≡ length (listOf (queryOf a) (tableAt h (suc n)))
 
 -- What is under way has made fewer accepted steps than it makes in all, which is by the number of its nodes: a read 2^m + 3, a write
 -- 2^(k+1) + 1 (rules/proofs, `length-readLabels` and `length-writeLabels`). Demand 3's nineteen and thirty-three are the most of these.
@@ -77,8 +91,13 @@ StepsByNodes h = (d : ℕ) (r : Request) (b n : ℕ) → n ≤ length (h .calls)
 
 -- An answer's records ascend, and are at most 32.
 abbrev pub AnswersAscend : History → Type 0
-AnswersAscend h = (d : ℕ) (a : List ℕ) (b n count : ℕ) (cached : Bool) → Answers h d a b n count cached
-    → (j : ℕ) × ListAt h a n count j × Ascending (listOf (queryOf a) (plainAt h j .table)) × (count ≤ maxList)
+AnswersAscend h = (d : ℕ) (a : List ℕ) (b n count : ℕ) (cached : Bool) → Answers h d false a b n count cached
+    → (j : ℕ) × TrueAt h false a n count j × Ascending (listOf (queryOf a) (plainAt h j .table)) × (count ≤ maxList)
+
+-- A count is at most 2,048, and its answer leaves the tray as it was.
+abbrev pub CountsFit : History → Type 0
+CountsFit h = (d : ℕ) (a : List ℕ) (b n count : ℕ) (cached : Bool) (x : Answers h d true a b n count cached)
+    → (count ≤ maxRecords) × (resultAt h n .tray ≡ x .tray)
 
 -- The table never holds a record twice, and never more than 2,048.
 abbrev pub NoneTwice : History → Type 0
@@ -135,28 +154,32 @@ isUnopposed v r m = allBelow maxClients (λ d. not (isOpposed (form m) (shape m)
 abbrev pub Unopposed : History → Bool → Record → ℕ → ℕ → Type 0
 Unopposed h v r b n = (i : ℕ) → b < i → i ≤ n → isUnopposed v r (memAt h i) ≡ true
 
--- A record that an insert has put in is in the answer of every read that begins later and whose query it lies in, unless a delete of it
--- was open since the insert's begin.
+-- A record that an insert has put in is in the answer of every read that begins later and whose query it lies in, or counted in it, unless
+-- a delete of it was open since the insert's begin.
 abbrev pub InsertsSeen : History → Type 0
 InsertsSeen h = (d : ℕ) (r : Record) (b e : ℕ) (changed : Bool) → Ends h d (insert r) b e (Ended changed)
-    → (d′ : ℕ) (a : List ℕ) (b′ n count : ℕ) (cached : Bool) → Answers h d′ a b′ n count cached → e < b′ → lies (queryOf a) r ≡ true
-    → Unopposed h true r b n → (j : ℕ) × ListAt h a n count j × (has r (listOf (queryOf a) (plainAt h j .table)) ≡ true)
+    → (d′ : ℕ) (counts : Bool) (a : List ℕ) (b′ n count : ℕ) (cached : Bool) → Answers h d′ counts a b′ n count cached → e < b′
+    → lies (queryOf a) r ≡ true → Unopposed h true r b n → (j : ℕ) × TrueAt h counts a n count j × (has r (listOf (queryOf a) (plainAt h j .table)) ≡ true)
 
--- A record that a delete has taken out is in no answer of a read that begins later, unless an insert of it was open since the delete's begin.
+-- A record that a delete has taken out is in no answer of a read that begins later, nor counted in one, unless an insert of it was open
+-- since the delete's begin.
 abbrev pub DeletesSeen : History → Type 0
 DeletesSeen h = (d : ℕ) (q : Query) (b e : ℕ) (o : Outcome) → Ends h d (delete q) b e o
-    → (d′ : ℕ) (a : List ℕ) (b′ n count : ℕ) (cached : Bool) → Answers h d′ a b′ n count cached → e < b′ → (r : Record) → lies q r ≡ true
-    → Unopposed h false r b n → (j : ℕ) × ListAt h a n count j × (has r (listOf (queryOf a) (plainAt h j .table)) ≡ false)
+    → (d′ : ℕ) (counts : Bool) (a : List ℕ) (b′ n count : ℕ) (cached : Bool) → Answers h d′ counts a b′ n count cached → e < b′
+    → (r : Record) → lies q r ≡ true → Unopposed h false r b n → (j : ℕ) × TrueAt h counts a n count j × (has r (listOf (queryOf a) (plainAt h j .table)) ≡ false)
 
 pub record Corollaries (h : History) : Type 0 where
   pub every-answer : EveryAnswer h
   pub one-read : OneRead h
   pub file-was-true : FileWasTrue h
+  pub file-serves : FileServes h
   pub sees-earlier : SeesEarlier h
   pub never-back : NeverBack h
   pub quiet-is-now : QuietIsNow h
+  pub quiet-count : QuietCount h
   pub steps-by-nodes : StepsByNodes h
   pub answers-ascend : AnswersAscend h
+  pub counts-fit : CountsFit h
   pub none-twice : NoneTwice h
   pub writes-take : WritesTake h
   pub inserts-seen : InsertsSeen h

@@ -1,7 +1,7 @@
 -- Demand 1, about the definitions that the calls' contracts cite: what any call, the opening too, does to memories of any contents with any
 -- arguments. Leans on rules' Calls and History. Definitions only. Assumes nothing.
 use mathlib.Core.Path.{_≡_}
-use mathlib.Core.Bool.{false}
+use mathlib.Core.Bool.{true, false}
 use mathlib.Core.List.{List, []}
 use Prim.Native.Nat.{ℕ, _≤_}
 use lib.ListN.{length, drop}
@@ -10,7 +10,9 @@ use Rattle.rules.specs.declared.Outcome.the-variants.{Refused}
 use Rattle.rules.specs.Layout.{tableLeast, nodesLeast, answersLeast, clientsLeast, trayLeast, refusedShort, refusedOccupied}
 use Rattle.rules.specs.Memory.{Mem}
 use Rattle.rules.specs.Outcome.{StepResult, number}
-use Rattle.rules.specs.Refusals.{form, shape}
+use Rattle.rules.specs.Answers.{isCount}
+use Rattle.rules.specs.Client.{entryOf}
+use Rattle.rules.specs.Refusals.{form, shape, client}
 use Rattle.rules.specs.Calls.{openResult}
 use Rattle.rules.specs.History.{Call, begin, step, abandon, evictAnswer, evictNode, renew, untrayed, callResult, isAccepted}
 
@@ -47,3 +49,5 @@ trayOf renew = []
 pub record Demand1 : Type 0 where
   pub opening : (m : Mem) (k : ℕ) → Leaves narrow (shapeOf k) m [] (untrayed (openResult m k))
   pub calls : (m : Mem) (c : Call) → Leaves (form m) (shape m) m (trayOf c) (callResult m c)
+  -- S-1: "The tray of a count is untouched": at every step of a desk whose key says "count", the one that answers too
+  pub counts : (m : Mem) (tray : List ℕ) (d : ℕ) → isCount (entryOf (client m d)) ≡ true → callResult m (step d tray) .tray ≡ tray

@@ -19,10 +19,10 @@ use Rattle.rules.specs.Answers.{Entry, revisionIn}
 use Rattle.rules.specs.Client.{entryOf, sawPending}
 use Rattle.rules.specs.Memory.{storeIn}
 use Rattle.rules.specs.Refusals.{form, client}
-use Rattle.rules.specs.Work.{Ask, ofRecords, asking, Request, readOf, insertOf, deleteOf, workOf}
+use Rattle.rules.specs.Work.{Ask, valueFor, asking, Request, readOf, insertOf, deleteOf, workOf}
 use Rattle.demands.specs.WholeHistory.{History, shapeAt, memAt, resultAt, UnderWay, stepsIn, StepOf}
 use Rattle.demands.specs.Demand2.{Quiescent, Reads, Filed, Fetches, LastFiled, valueAt}
-use Rattle.demands.specs.Demand3.{IsList}
+use Rattle.demands.specs.Demand3.{AnswerIs}
 use Rattle.demands.specs.Corollaries.{tableAt, Begins, WritesTake}
 
 -- ---- What the memories hold after the first n calls
@@ -44,27 +44,31 @@ abbrev pub pendingAt : History → ℕ → Label → ℕ
 pendingAt h n p = pending (nodeOf (labelWords p) (nodesAt h n))
 
 -- ---- "a list taken is exactly the table's records in the query's subspace, ascending"
--- what call n, a table step at desk d, does with the list l that it takes
-pub data Disposes (h : History) (d n : ℕ) (l : List Record) : Type 0 where
-  -- "More than 32 records ends the read with 12."
-  long : maxList < length l → resultAt h n .out ≡ Long → Disposes h d n l
-  -- "If a look saw a mark, the read answers here": with l, count and tray
-  answers : length l ≤ maxList → sawPending (client (memAt h n) d) ≡ true → (count : ℕ) → resultAt h n .out ≡ Answered count false
-      → IsList (shapeAt h .columns) l count (resultAt h n .tray) → Disposes h d n l
-  -- otherwise the client holds l, count and numbers, for its file step
-  holds : length l ≤ maxList → sawPending (client (memAt h n) d) ≡ false → resultAt h n .out ≡ Accepted
-      → valueAt h (suc n) (entryAt h (suc n) d) ≡ ofRecords l → Disposes h d n l
+-- "More than 32 records ends the read with 12."; a count "counts past 32 without giving 12" (S-1)
+abbrev pub Answerable : Bool → List Record → Type 0
+Answerable counts l = counts ≡ false → length l ≤ maxList
 
-pub record TakesList (h : History) (q : Query) (d n : ℕ) : Type 0 where
+-- what call n, a table step at desk d, does with the list l that it takes, or counts
+pub data Disposes (h : History) (counts : Bool) (d n : ℕ) (l : List Record) : Type 0 where
+  long : counts ≡ false → maxList < length l → resultAt h n .out ≡ Long → Disposes h counts d n l
+  -- "If a look saw a mark, the read answers here": with l, count and tray
+  answers : Answerable counts l → sawPending (client (memAt h n) d) ≡ true → (count : ℕ) → resultAt h n .out ≡ Answered count false
+      → AnswerIs h counts n count l → Disposes h counts d n l
+  -- otherwise the client holds l, count and numbers, or how many they are, for its file step
+  holds : Answerable counts l → sawPending (client (memAt h n) d) ≡ false → resultAt h n .out ≡ Accepted
+      → valueAt h (suc n) (entryAt h (suc n) d) ≡ valueFor counts l → Disposes h counts d n l
+
+pub record TakesList (h : History) (counts : Bool) (q : Query) (d n : ℕ) : Type 0 where
   pub list : List Record
   pub is : list ≡ listOf q (tableAt h n)
   pub exact : (r : Record) → has r list ≡ (has r (tableAt h n) && lies q r)
   pub ascends : Ascending list
-  pub goes : Disposes h d n list
+  pub goes : Disposes h counts d n list
 
--- a read's table step comes after its 2^m looks and its fetch
+-- a read's table step comes after its 2^m looks and its fetch. So a count taken is exactly the number of the table's records in the subspace
 abbrev pub ListsTaken : History → Type 0
-ListsTaken h = (a : List ℕ) (d b n : ℕ) → StepOf h (readOf a) d b n (readCount (queryOf a) + 1) → TakesList h (queryOf a) d n
+ListsTaken h = (counts : Bool) (a : List ℕ) (d b n : ℕ) → StepOf h (readOf counts a) d b n (readCount (queryOf a) + 1)
+    → TakesList h counts (queryOf a) d n
 
 -- ---- "inserts (but for 13, a full table), deletes .. are those of source document 002, definitions 1 to 5"
 -- a write's table step comes after its 2^k marks. "an insert puts its record in its ascending place, unless it is there already or
@@ -126,7 +130,8 @@ pub record Raises (h : History) (p : Label) (n : ℕ) : Type 0 where
 
 -- "One look for each node, in order."
 abbrev pub Looks : History → Type 0
-Looks h = (a : List ℕ) (d b n i : ℕ) → i < readCount (queryOf a) → StepOf h (readOf a) d b n i → LooksAt h (readNode (queryOf a) i) d n i
+Looks h = (counts : Bool) (a : List ℕ) (d b n i : ℕ) → i < readCount (queryOf a) → StepOf h (readOf counts a) d b n i
+    → LooksAt h (readNode (queryOf a) i) d n i
 
 -- "One *mark* for each node", "Then one *raise* for each node"
 abbrev pub MarksSet : History → Type 0
@@ -149,8 +154,8 @@ pub record Came (h : History) (r : Request) (d b n least count : ℕ) (node : �
 -- Past its looks a read has looked at the nodes that definition 11's E'' gives it and at no others; past its marks a write has marked those
 -- of E', and with its end it has raised them.
 abbrev pub ReadNodes : History → Type 0
-ReadNodes h = (a : List ℕ) (d b n i : ℕ) → StepOf h (readOf a) d b n i → readCount (queryOf a) ≤ i
-    → (p : Label) → Came h (readOf a) d b n 0 (readCount (queryOf a)) (readNode (queryOf a)) p ↔ E″ p (queryOf a)
+ReadNodes h = (counts : Bool) (a : List ℕ) (d b n i : ℕ) → StepOf h (readOf counts a) d b n i → readCount (queryOf a) ≤ i
+    → (p : Label) → Came h (readOf counts a) d b n 0 (readCount (queryOf a)) (readNode (queryOf a)) p ↔ E″ p (queryOf a)
 
 abbrev pub MarkedNodes : History → Type 0
 MarkedNodes h = (r : Request) (w : Change) → Begins r w → (d b n i : ℕ) → StepOf h r d b n i → 2 ^ shapeAt h .columns ≤ i
@@ -162,20 +167,22 @@ RaisedNodes h = (r : Request) (w : Change) → Begins r w → (d b n : ℕ) → 
 
 -- ---- A list taken, filed
 -- "Otherwise *file*: .. the list goes last with the noted revisions, and the read answers.": what the client holds at its file step is the
--- list that the table step of its read took, which it answers with, and the revisions that its looks found
-pub record FilesList (h : History) (a : List ℕ) (d b n : ℕ) : Type 0 where
+-- list that the table step of its read took, or the count, which "is filed like a list" (S-1), which it answers with, and the revisions
+-- that its looks found
+pub record FilesList (h : History) (counts : Bool) (a : List ℕ) (d b n : ℕ) : Type 0 where
   pub at : ℕ
   pub before : at < n
-  pub takes : StepOf h (readOf a) d b at (readCount (queryOf a) + 1)
-  pub held : valueAt h n (entryAt h n d) ≡ ofRecords (listOf (queryOf a) (tableAt h at))
+  pub takes : StepOf h (readOf counts a) d b at (readCount (queryOf a) + 1)
+  pub held : valueAt h n (entryAt h n d) ≡ valueFor counts (listOf (queryOf a) (tableAt h at))
   pub count : ℕ
   pub says : resultAt h n .out ≡ Answered count false
-  pub list : IsList (shapeAt h .columns) (listOf (queryOf a) (tableAt h at)) count (resultAt h n .tray)
-  pub noted : (i : ℕ) → i < readCount (queryOf a) → (m : ℕ) × (m < n) × StepOf h (readOf a) d b m i
+  pub list : AnswerIs h counts n count (listOf (queryOf a) (tableAt h at))
+  pub noted : (i : ℕ) → i < readCount (queryOf a) → (m : ℕ) × (m < n) × StepOf h (readOf counts a) d b m i
       × (revisionIn (form (memAt h n)) (entryAt h n d) i ≡ revisionAt h (suc m) (readNode (queryOf a) i))
 
 abbrev pub ListsFiled : History → Type 0
-ListsFiled h = (a : List ℕ) (d b n : ℕ) → StepOf h (readOf a) d b n (readCount (queryOf a) + 2) → FilesList h a d b n
+ListsFiled h = (counts : Bool) (a : List ℕ) (d b n : ℕ) → StepOf h (readOf counts a) d b n (readCount (queryOf a) + 2)
+    → FilesList h counts a d b n
 
 -- ---- The last sentence, with the read that filed the answer found
 -- "A read whose fetch finds a filed answer to its query gets it, if from the earlier of its own begin and the filing read's to that fetch

@@ -2,7 +2,7 @@
 -- accepted begin to the call at its desk that ends it: one that answers, gives 12, reports the write's end, or an accepted abandoning."
 -- Leans on WholeHistory. Definitions only. Assumes nothing.
 use mathlib.Core.Path.{_≡_}
-use mathlib.Core.Bool.{Bool, true}
+use mathlib.Core.Bool.{Bool, true, false}
 use mathlib.Core.List.{List}
 use Prim.Native.Nat.{ℕ, _≤_, _<_}
 use lib.ListN.{length}
@@ -24,9 +24,10 @@ StepEnds h n r = (d : ℕ) × (tray : List ℕ) × (callAt h n ≡ step d tray) 
 -- Whatever call ends, it ends something that was begun: there is a begin, of the kind that the call's outcome speaks of.
 pub record EveryEnd (h : History) : Type 0 where
   -- "one that answers": a read's
-  pub answers : (n count : ℕ) (cached : Bool) → n < length (h .calls) → resultAt h n .out ≡ Answered count cached → (a : List ℕ) × StepEnds h n (readOf a)
-  -- "gives 12": a read's
-  pub long : (n : ℕ) → n < length (h .calls) → resultAt h n .out ≡ Long → (a : List ℕ) × StepEnds h n (readOf a)
+  pub answers : (n count : ℕ) (cached : Bool) → n < length (h .calls) → resultAt h n .out ≡ Answered count cached
+      → (counts : Bool) × (a : List ℕ) × StepEnds h n (readOf counts a)
+  -- "gives 12": a read's that wants a list; a count "counts past 32 without giving 12" (S-1)
+  pub long : (n : ℕ) → n < length (h .calls) → resultAt h n .out ≡ Long → (a : List ℕ) × StepEnds h n (readOf false a)
   -- "reports the write's end": a write's, and with 13 an insert's
   pub ended : (n : ℕ) (changed : Bool) → n < length (h .calls) → resultAt h n .out ≡ Ended changed → (r : Request) × (isWrite r ≡ true) × StepEnds h n r
   pub full : (n : ℕ) → n < length (h .calls) → resultAt h n .out ≡ Full → (a : List ℕ) × StepEnds h n (insertOf a)

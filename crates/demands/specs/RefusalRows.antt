@@ -93,7 +93,7 @@ isUnsoundBack m (asking x) i = false
 isUnsoundBack m (writing w) i = someMissingOrFree (take i (writeLabels w)) (storeIn (form m) (m .nodes))
 
 -- ---- 12 and 13
--- "a read's table step finds over 32 records"
+-- "a read's table step finds over 32 records"; a count "counts past 32 without giving 12" (S-1), which is in `mayAnswer`
 unfoldable pub isLongAt : Mem → Work → ℕ → Bool
 isLongAt m (asking x) i = eqb i (length (readLabels x) + 1) && not (mayAnswer x (valueOf x (recordsIn (columns m) (m .table))))
 isLongAt m (writing w) i = false
@@ -118,11 +118,11 @@ beginRows m d r =
     row refusedShort (isShort (form m) (shape m) m)
     -- "a query whose columns are not as many as the k in memory, a mark above 1, a star with a value, an insert with a star"
     ∷ row refusedColumns (eqb (faultOf (shape m) r) refusedColumns)
-    -- "k, an entry count or a filed list's length in memory out of range"
+    -- "k, an entry count or a filed list's length in memory out of range"; "a filed .. count above 2,048 is 3" (S-1)
     ∷ row refusedUnsound (isUnsound m)
     -- "desk above 11"
     ∷ row refusedNoClient (noClient d)
-    -- "the called desk is not idle and its kind, query, step or list length is out of range"
+    -- "the called desk is not idle and its kind, query, step or list length is out of range"; "a .. held count above 2,048 is 3" (S-1)
     ∷ row refusedUnsound (isThere d && isBad (form m) (shape m) (client m d))
     -- "begin at a busy desk"
     ∷ row refusedTaken (isBusy m d)
@@ -133,11 +133,11 @@ unfoldable pub stepRows : Mem → List ℕ → ℕ → List Row
 stepRows m tray d =
     -- "a lent memory is below its least length": the tray too
     row refusedShort (isShort (form m) (shape m) m || ltb (length tray) trayLeast)
-    -- "k, an entry count or a filed list's length in memory out of range"
+    -- "k, an entry count or a filed list's length in memory out of range"; "a filed .. count above 2,048 is 3" (S-1)
     ∷ row refusedUnsound (isUnsound m)
     -- "desk above 11"
     ∷ row refusedNoClient (noClient d)
-    -- "the called desk is not idle and its kind, query, step or list length is out of range"
+    -- "the called desk is not idle and its kind, query, step or list length is out of range"; "a .. held count above 2,048 is 3" (S-1)
     ∷ row refusedUnsound (isThere d && isBad (form m) (shape m) (client m d))
     -- "step or abandon at an idle desk"
     ∷ row refusedIdle (isThere d && isIdle (form m) (client m d))
@@ -157,11 +157,11 @@ unfoldable pub abandonRows : Mem → ℕ → List Row
 abandonRows m d =
     -- "a lent memory is below its least length"
     row refusedShort (isShort (form m) (shape m) m)
-    -- "k, an entry count or a filed list's length in memory out of range"
+    -- "k, an entry count or a filed list's length in memory out of range"; "a filed .. count above 2,048 is 3" (S-1)
     ∷ row refusedUnsound (isUnsound m)
     -- "desk above 11"
     ∷ row refusedNoClient (noClient d)
-    -- "the called desk is not idle and its kind, query, step or list length is out of range"
+    -- "the called desk is not idle and its kind, query, step or list length is out of range"; "a .. held count above 2,048 is 3" (S-1)
     ∷ row refusedUnsound (isThere d && isBad (form m) (shape m) (client m d))
     -- "step or abandon at an idle desk"
     ∷ row refusedIdle (isThere d && isIdle (form m) (client m d))
@@ -175,7 +175,7 @@ unfoldable pub evictAnswerRows : Mem → ℕ → List Row
 evictAnswerRows m i =
     -- "a lent memory is below its least length"
     row refusedShort (isShort (form m) (shape m) m)
-    -- "k, an entry count or a filed list's length in memory out of range"
+    -- "k, an entry count or a filed list's length in memory out of range"; "a filed .. count above 2,048 is 3" (S-1)
     ∷ row refusedUnsound (isUnsound m)
     -- "place to put out not below the count"
     ∷ row refusedNoEntry (leb (getD (m .answers) answerCountOffset 0) i) ∷ []
@@ -184,7 +184,7 @@ unfoldable pub evictNodeRows : Mem → ℕ → List Row
 evictNodeRows m i =
     -- "a lent memory is below its least length"
     row refusedShort (isShort (form m) (shape m) m)
-    -- "k, an entry count or a filed list's length in memory out of range"
+    -- "k, an entry count or a filed list's length in memory out of range"; "a filed .. count above 2,048 is 3" (S-1)
     ∷ row refusedUnsound (isUnsound m)
     -- "place to put out not below the count"
     ∷ row refusedNoEntry (leb (getD (m .nodes) nodeCountOffset 0) i)
@@ -195,7 +195,7 @@ unfoldable pub renewRows : Mem → List Row
 renewRows m =
     -- "a lent memory is below its least length"
     row refusedShort (isShort (form m) (shape m) m)
-    -- "k, an entry count or a filed list's length in memory out of range"
+    -- "k, an entry count or a filed list's length in memory out of range"; "a filed .. count above 2,048 is 3" (S-1)
     ∷ row refusedUnsound (isUnsound m)
     -- "renew with a busy desk"
     ∷ row refusedOccupied (not (allIdle m)) ∷ []

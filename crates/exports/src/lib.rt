@@ -1,9 +1,10 @@
-// The calls for programs in C and Rust: each of the nine public calls over plain slices and numbers, under a name of its own. Nothing is decided
+// The calls for programs in C and Rust: each of the ten public calls over plain slices and numbers, under a name of its own. Nothing is decided
 // here: an export makes one call of the library and turns its outcome into three numbers. Leans on calls; specs/Reply.antt
 // says what is sent back.
 use hall::Hall;
 use rules::Outcome;
 ghost use mathlib.Core.Path.{_≡_};
+ghost use mathlib.Core.Bool.{true, false};
 ghost use Rattle.rules.specs.Work.{readOf, insertOf, deleteOf};
 ghost use Rattle.rules.specs.Memory.{mem};
 ghost use Rattle.rules.specs.Calls.{openResult, beginResult, stepResult, abandonResult, evictAnswerResult, evictNodeResult, renewResult};
@@ -14,7 +15,7 @@ ghost use Rattle.exports.specs.Reply.{replied, replyOf, sent, sentBy, se
 pub struct Reply {
     // 0 accepted, 1 to 11 refused, 12 long, 13 full.
     pub number: u32,
-    // How many records lie in the tray.
+    // How many records lie in the tray, or a count.
     pub count: u32,
     // 0 nothing ended, or the number says it; 1 answered from file, 2 from the table; 3 a write ended and changed the table, 4 it did not.
     pub ending: u32,
@@ -80,9 +81,25 @@ pub extern "C" fn mondzafeky_begin_read(
     client: u32,
     query: &[u32],
 ) -> Reply
-    ensures { λ r. ⌜ sent r (mem (now (table .exit)) (now (nodes .exit)) (now (answers .exit)) (now (clients .exit))) ≡ sentBy (beginResult (mem (now (table .entry)) (now (nodes .entry)) (now (answers .entry)) (now (clients .entry))) client (readOf (now (query .entry)))) ⌝ }
+    ensures { λ r. ⌜ sent r (mem (now (table .exit)) (now (nodes .exit)) (now (answers .exit)) (now (clients .exit))) ≡ sentBy (beginResult (mem (now (table .entry)) (now (nodes .entry)) (now (answers .entry)) (now (clients .entry))) client (readOf false (now (query .entry)))) ⌝ }
 {
     let out = calls::begins::begin_read(table, nodes, answers, clients, client, query);
+    reply_of(out)
+}
+
+// Begins a read that wants only how many records there are.
+#[no_mangle]
+pub extern "C" fn mondzafeky_begin_count(
+    table: &mut [u32],
+    nodes: &mut [u32],
+    answers: &mut [u32],
+    clients: &mut [u32],
+    client: u32,
+    query: &[u32],
+) -> Reply
+    ensures { λ r. ⌜ sent r (mem (now (table .exit)) (now (nodes .exit)) (now (answers .exit)) (now (clients .exit))) ≡ sentBy (beginResult (mem (now (table .entry)) (now (nodes .entry)) (now (answers .entry)) (now (clients .entry))) client (readOf true (now (query .entry)))) ⌝ }
+{
+    let out = calls::begins::begin_count(table, nodes, answers, clients, client, query);
     reply_of(out)
 }
 

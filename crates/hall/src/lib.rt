@@ -1,9 +1,11 @@
 // The hall: its fixed sizes as associated constants, the length check, and the functions that make the cleared state of each memory.
 // The rules stand in rules; specs/HallContracts.antt has the sizes in one value.
 ghost use mathlib.Core.Path.{_≡_};
-ghost use Prim.Native.Nat.{_≤_};
+ghost use mathlib.Core.List.{List, _∷_};
+ghost use Prim.Native.Nat.{ℕ, _≤_};
 ghost use lib.ListN.{length, set};
 ghost use Rattle.query.specs.Shape.{narrow, Shape, shapeOf};
+ghost use Rattle.query.specs.Encoding.{countsIn};
 ghost use Rattle.rules.specs.Layout.{tableLeast, nodesLeast, answersLeast, clientsLeast, floorOffset, columnsOffset, firstFloor};
 ghost use Rattle.rules.specs.Memory.{mem, cleared};
 ghost use Rattle.rules.specs.Refusals.{isShort};
@@ -81,6 +83,9 @@ impl Hall {
 
     // Two numbers are kept for a range.
     pub const KEY_WIDTH: usize = 1 + Hall::COLUMN_SLOTS + 2;
+
+    // Bit 4 of a key's first number, above the marks: 1 for a count.
+    pub const COUNT_BIT: u32 = 16;
 
     // ---- A node.
     pub const PENDING_OFFSET: usize = Hall::LABEL_WIDTH;
@@ -205,6 +210,13 @@ impl Hall {
     {
         words::clear(clients, Hall::CLIENTS_LEAST);
         clients[Hall::COLUMNS_OFFSET] = k;
+    }
+
+    // Whether a key says "count", by its first number.
+    pub fn is_count(first: u32) -> bool
+        ensures { λ r. ⌜ ((vs : List ℕ) → r ≡ countsIn (first ∷ vs)) ⌝ }
+    {
+        first / Hall::COUNT_BIT % 2 == 1
     }
 
     // Whether a lent memory is below its least length.

@@ -1,10 +1,10 @@
 -- What the theory leans on of asks and writes: asks that are the same, how many nodes there are, and that a write leaves an answer
 -- alone or shares a node with its ask. Lemma 2 is not under it: of a record in both subspaces it takes that their nodes are shared.
 -- Leans on rules' Sharing and WorkLaws. Assumes nothing.
-use mathlib.Core.Path.{_≡_, refl, ap, ap₂}
+use mathlib.Core.Path.{_≡_, refl, sym, ap, ap₂}
 use mathlib.Core.Logic.{_⊎_, inl, inr}
-use mathlib.Core.Bool.{true, false, false≢true}
-use mathlib.Core.List.{[], _∷_}
+use mathlib.Core.Bool.{Bool, true, false, cond, false≢true}
+use mathlib.Core.List.{List, [], _∷_}
 use Prim.Native.Nat.{ℕ, _≤_}
 use native.Mathlib.Omega.{arith}
 use borrow.Author.Tests.{eqb-true, eq-eqb}
@@ -14,13 +14,13 @@ use Rattle.laws.proofs.TestLaws.{byTest, clash}
 use Rattle.lists.specs.Lists.{In}
 use Rattle.query.specs.declared.Column.{Column}
 use Rattle.query.specs.declared.Column.the-variants.{Is, Wildcard}
-use Rattle.query.specs.Query.{Query}
+use Rattle.query.specs.Query.{Query, Record}
 use Rattle.query.specs.Shape.{Shape, shapeOf, maxColumns}
 use Rattle.rules.specs.Table.{Table, effect}
 use Rattle.rules.specs.Nodes.{Words}
-use Rattle.rules.specs.Work.{Ask, ofRecords, valueOf, readLabels, Write, writeLabels, Shares, shares, Work, asking, writing, stepsInAll}
+use Rattle.rules.specs.Work.{Ask, ofRecords, ofNumber, valueOf, readLabels, Write, writeLabels, Shares, shares, Work, asking, writing, stepsInAll}
 use Rattle.rules.proofs.WorkLaws.{read-labels-most, write-labels-most, shares-is}
-use Rattle.machine.specs.Machine.{AskFits, WriteFits, WorkFits, sameColumn, sameQuery, sameShape, sameAsk}
+use Rattle.machine.specs.Machine.{AskFits, WriteFits, WorkFits, sameColumn, sameQuery, sameShape, sameWanted, sameAsk}
 use Rattle.rules.proofs.Sharing.{effect-list}
 
 -- ---- Asks that are the same
@@ -57,29 +57,38 @@ pub sameShape-refl : (a : Shape) → sameShape a a ≡ true
 unfolding sameShape
 sameShape-refl a = eq-eqb (a .columns) (a .columns) refl
 
-pub ask-eq : {a b : Shape} {q r : Query} → a ≡ b → q ≡ r → _≡_ {A = Ask} (record { shape = a; query = q }) (record { shape = b; query = r })
-ask-eq e f = λ i. record { shape = e i; query = f i }
+sameWanted-eq : (a b : Bool) → sameWanted a b ≡ true → a ≡ b
+unfolding sameWanted
+sameWanted-eq true b e = sym e
+sameWanted-eq false true e = absurd (false≢true e)
+sameWanted-eq false false e = refl
+
+sameWanted-refl : (b : Bool) → sameWanted b b ≡ true
+unfolding sameWanted
+sameWanted-refl true = refl
+sameWanted-refl false = refl
+
+pub ask-eq : {a b : Shape} {q r : Query} {c e : Bool} → a ≡ b → q ≡ r → c ≡ e
+    → _≡_ {A = Ask} (record { shape = a; query = q; counts = c }) (record { shape = b; query = r; counts = e })
+ask-eq e f g = λ i. record { shape = e i; query = f i; counts = g i }
 
 pub sameAsk-eq : (x y : Ask) → sameAsk x y ≡ true → x ≡ y
 unfolding sameAsk
 sameAsk-eq x y e =
+    let z = and-right (sameShape (x .shape) (y .shape)) _ e in
     ask-eq (sameShape-eq (x .shape) (y .shape) (and-left (sameShape (x .shape) (y .shape)) _ e))
-    (sameQuery-eq (x .query) (y .query) (and-right (sameShape (x .shape) (y .shape)) _ e))
+    (sameQuery-eq (x .query) (y .query) (and-right (sameWanted (x .counts) (y .counts)) _ z))
+    (sameWanted-eq (x .counts) (y .counts) (and-left (sameWanted (x .counts) (y .counts)) _ z))
 
 pub sameAsk-refl : (x : Ask) → sameAsk x x ≡ true
 unfolding sameAsk
-sameAsk-refl x = rw (sameShape-refl (x .shape)) (sameQuery-refl (x .query))
+sameAsk-refl x = rw (sameShape-refl (x .shape), sameWanted-refl (x .counts)) (sameQuery-refl (x .query))
 
 pub sameAsk-sym : (x y : Ask) → sameAsk x y ≡ false → sameAsk y x ≡ false
 sameAsk-sym x y e = byTest (sameAsk y x) (λ i. clash (rw (sameAsk-eq y x i) (sameAsk-refl x)) e) (λ i. i)
 
--- of one shape: by their queries
-pub sameAsk-query : (sh : Shape) (q r : Query) → sameAsk (record { shape = sh; query = q }) (record { shape = sh; query = r }) ≡ sameQuery q r
-unfolding sameAsk
-sameAsk-query sh q r = rw (sameShape-refl sh) refl
-
 unfoldable pub no-ask : Ask
-no-ask = record { shape = shapeOf 0; query = [] }
+no-ask = record { shape = shapeOf 0; query = []; counts = false }
 
 -- ---- How many nodes, and so how many steps
 pub read-few : (sh : Shape) (x : Ask) → AskFits sh x → sh .columns ≤ maxColumns → length (readLabels x) ≤ 16
@@ -102,7 +111,10 @@ steps-few sh (writing w) f l = let a = write-few sh w f l in omega arith
 -- of one hall: a write leaves an answer alone, or shares a node with its ask
 pub effect-value : (sh : Shape) (w : Write) (x : Ask) (t : Table) → AskFits sh x → WriteFits sh w → (valueOf x (effect (w .change) t) ≡ valueOf x t) ⊎ Shares x w
 unfolding valueOf
-effect-value sh w x t f g = elim (effect-list w x t) [ inl e ↦ inl (ap ofRecords e) | inr e ↦ inr e ]
+effect-value sh w x t f g = elim (effect-list w x t) [
+  | inl e ↦ inl (ap (λ (l : List Record). cond (x .counts) (ofNumber l) (ofRecords l)) e)
+  | inr e ↦ inr e
+]
 
 -- and one that shares a node is found by the test
 pub shared-shares : (x : Ask) (w : Write) {p : Words} → In p (readLabels x) → In p (writeLabels w) → shares x w ≡ true

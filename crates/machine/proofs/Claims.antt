@@ -141,7 +141,7 @@ answer-from : (s : State) (B : Trace) {c : Call} {a : Response} {t : State} → 
 unfolding isRefused placed
 answer-from s B u w (by-refusal {c} {n} e) = refused-answer _ (B .jobs) c n
 answer-from s B u w (by-going-on {c}) = went-answer _ (B .jobs) c
-answer-from s B u w (from-file {d} {q} {ns} {saw} b e i) =
+answer-from s B u w (from-file {d} {q} {ns} {saw} b e i k) =
     let J = job-at s B d (looking q ns saw) u e .is in
     was-job _ (B .jobs) d q _ _ _ (b .list) J (op-was _ _ _ q (b .list) _ _ w (inl (step-op B d (asking q) _ _ _ (answered (b .list) true) _ J refl)))
 answer-from s B u w (from-table {d} {q} {ns} e k) =

@@ -19,11 +19,13 @@ use Rattle.rules.specs.History.{isAccepted}
 use Rattle.revisions.specs.EffectiveRevision.{NoDup, effective, Grew, Announced, Retired, pendingOf}
 use Rattle.machine.specs.Machine.{Phase, idle, looking, tabling, filing, announcing, raising, Ans, State, node, Call, begin, step, abandon}
 use Rattle.machine.specs.Machine.{evict-answer, evict-node, renew, Response, refused, went, answered, long, number, write-end, isRefused, isEnd}
-use Rattle.machine.specs.Machine.{ends, starts, upd, at-client, with-store, with-filed, with-tab, filed-in, cut}
+use Rattle.machine.specs.Machine.{ends, starts, upd, at-client, with-store, with-filed, with-tab, filed-in, cut, sameAsk, holds-for}
 use Rattle.machine.proofs.Sums.{upd-same, upd-other}
 use Rattle.machine.proofs.FiledAnswers.{OneEach, cut-one, filed-one}
 use Rattle.machine.specs.Transition.{Transition}
 use Rattle.machine.specs.Transition
+use Rattle.machine.proofs.Asks.{sameAsk-eq}
+use Rattle.laws.proofs.ListLaws.{and-left}
 
 -- ---- The table
 -- only a write's table step changes it, by the write's effect
@@ -89,10 +91,16 @@ pub data FileLeft (s t : State) : Type 0 where
   none-filed : t .filed ≡ [] → FileLeft s t
 
 -- ---- Where a response comes from
+-- an answer that a fetch takes is to what the read asks
+holds-same : (q : Ask) (ns : List ℕ) (a : Ans) → holds-for q ns a ≡ true → a .query ≡ q
+unfolding holds-for
+holds-same q ns a e = sameAsk-eq (a .query) q (and-left (sameAsk (a .query) q) _ e)
+
 pub data ResponseFrom (s : State) : Call → Response → Type 0 where
   by-refusal : {c : Call} {n : ℕ} → isAccepted n ≡ false → ResponseFrom s c (refused n)
   by-going-on : {c : Call} → ResponseFrom s c went
-  from-file : {d : ℕ} {q : Ask} {ns : List ℕ} {saw : Bool} (b : Ans) → s .clients d ≡ looking q ns saw → In b (s .filed) → ResponseFrom s (step d) (answered (b .list) true)
+  from-file : {d : ℕ} {q : Ask} {ns : List ℕ} {saw : Bool} (b : Ans) → s .clients d ≡ looking q ns saw → In b (s .filed) → b .query ≡ q
+      → ResponseFrom s (step d) (answered (b .list) true)
   from-table : {d : ℕ} {q : Ask} {ns : List ℕ} → s .clients d ≡ tabling q ns true → mayAnswer q (valueOf q (s .tab)) ≡ true
       → ResponseFrom s (step d) (answered (valueOf q (s .tab)) false)
   from-hand : {d : ℕ} {q : Ask} {ns : List ℕ} {v : Value} → s .clients d ≡ filing q ns v → ResponseFrom s (step d) (answered v false)
@@ -171,7 +179,7 @@ transition-frame s (Transition.began-write {d} {w} l e k o) = begins s d (writin
 transition-frame s (Transition.looked {d} {q} {ns} {saw} {t} l e k m n) =
     on-nodes s d (looking q (ns ++ (effective t (node q (length ns)) ∷ [])) (saw || ltb 0 (pendingOf t (node q (length ns))))) t (rw e refl) (grew m)
 transition-frame s (Transition.missed {d} {q} {ns} {saw} l e k y) = alone s d (tabling q ns saw) (rw e refl)
-transition-frame s (Transition.hit {d} {a} l e k i f) = read-ends s d _ refl (from-file a e i)
+transition-frame s (Transition.hit {d} {q} {ns} {a} l e k i f) = read-ends s d _ refl (from-file a e i (holds-same q ns a f))
 transition-frame s (Transition.too-long {d} l e k) = read-ends s d _ refl by-length
 transition-frame s (Transition.listed {d} l e k) = read-ends s d _ refl (from-table e k)
 transition-frame s (Transition.took {d} {q} {ns} l e k) = alone s d (filing q ns (valueOf q (s .tab))) (rw e refl)
@@ -252,7 +260,7 @@ transition-accepted s o = accepted (transition-frame s o .response)
     accepted : {c : Call} {a : Response} → ResponseFrom s c a → isAccepted (number a) ≡ not (isRefused a)
     accepted (by-refusal e) = e
     accepted by-going-on = refl
-    accepted (from-file b e i) = refl
+    accepted (from-file b e i k) = refl
     accepted (from-table e k) = refl
     accepted (from-hand e) = refl
     accepted by-length = refl

@@ -47,8 +47,13 @@ sameQuery (c ∷ q) (d ∷ w) = sameColumn c d && sameQuery q w
 unfoldable pub sameShape : Shape → Shape → Bool
 sameShape a b = eqb (a .columns) (b .columns)
 
+-- both want a list, or both a count
+unfoldable pub sameWanted : Bool → Bool → Bool
+sameWanted true b = b
+sameWanted false b = not b
+
 unfoldable pub sameAsk : Ask → Ask → Bool
-sameAsk x y = sameShape (x .shape) (y .shape) && sameQuery (x .query) (y .query)
+sameAsk x y = sameShape (x .shape) (y .shape) && (sameWanted (x .counts) (y .counts) && sameQuery (x .query) (y .query))
 
 -- ---- The state
 -- A constructor for each phase. A reader has noted revisions, and whether a look saw a mark; a writer has set so many marks, or

@@ -2,20 +2,22 @@
 -- "the placing inside a memory" to docs/LAYOUT.md; these are what the placing owes. Leans on EncodingLaws and ListedNumbers. Assumes nothing.
 use mathlib.Core.Path.{_≡_, refl, sym, ap, ap₂, _∙_}
 use mathlib.Core.Logic.{_↔_}
-use mathlib.Core.Bool.{true}
+use mathlib.Core.Bool.{true, false}
 use mathlib.Core.List.{List, [], _∷_, _++_, map}
-use Prim.Native.Nat.{ℕ, zero, suc, _+_, _-_, _*_, _/_, _%_, _≤_}
+use Prim.Native.Nat.{ℕ, zero, suc, _+_, _-_, _*_, _/_, _%_, _^_, _≤_, _<_}
+use native.Mathlib.Nat.{pow-succ'}
 use native.Mathlib.Omega.{arith}
 use lib.Dec.{eqb}
-use borrow.Author.Tests.{eqb-true}
+use borrow.Author.Tests.{eqb-true, eq-eqb, ne-eqb}
 use lib.ListN.{length, getD, drop, replicate, length-map}
 use Rattle.laws.proofs.ListLaws.{and-left, length-padded}
 use Rattle.lists.specs.Lists.{same, padded}
 use Rattle.query.specs.declared.Column.the-variants.{Is, Wildcard}
-use Rattle.query.specs.Query.{Query, Term, value, wildcard, any, Label}
+use Rattle.query.specs.Query.{Query, Term, value, wildcard, any, Label, writeCount}
 use Rattle.query.specs.Shape.{Shape, shapeOf, maxColumns}
-use Rattle.query.specs.Encoding.{rangeWidth, columnOf, queryOf, wellMarked, isQuery, termValue, columnValue, tag, tags, labelWords, marks, keyWords, columnsIn, queryIn, isKey}
+use Rattle.query.specs.Encoding.{rangeWidth, columnOf, queryOf, wellMarked, isQuery, termValue, columnValue, tag, tags, labelWords, marks, keyWords, columnsIn, queryIn, isKey, countBit, countsIn, countKey, bareKey}
 use Rattle.query.proofs.ListedNumbers.{same-is, append-fronts}
+use Rattle.query.proofs.NodeLists.{write-count-most}
 
 -- ---- Labels
 -- nodes memory: "the nodes, oldest first: label, counter, marks"; a label has five numbers
@@ -144,6 +146,35 @@ is-key sh key = (
 
 pub key-is-key : (sh : Shape) (q : Query) → length q ≡ sh .columns → isKey sh (keyWords q) ≡ true
 key-is-key sh q e = is-key sh (keyWords q) .1 (q, e, refl)
+
+-- ---- What is wanted
+-- the marks leave bit 4 free
+marks-below : (q : Query) → marks q < 2 ^ length q
+unfolding marks
+marks-below [] = omega arith
+marks-below (Is v ∷ q) = let a = marks-below q in let w : 2 ^ length (Is v ∷ q) ≡ 2 * 2 ^ length q = pow-succ' 2 (length q) in omega arith
+marks-below (Wildcard ∷ q) = let a = marks-below q in let w : 2 ^ length (Wildcard ∷ q) ≡ 2 * 2 ^ length q = pow-succ' 2 (length q) in omega arith
+
+marks-low : (q : Query) → length q ≤ maxColumns → marks q < countBit
+unfolding writeCount
+marks-low q h = let a = marks-below q in let b = write-count-most q h in omega arith
+
+-- a query's key says "list", with the bit it says "count"; without the bit either is the query's key
+pub counts-plain : (q : Query) → length q ≤ maxColumns → countsIn (keyWords q) ≡ false
+unfolding countsIn keyWords
+counts-plain q h = let a = marks-low q h in ne-eqb (marks q / countBit % 2) 1 (λ e. omega arith)
+
+pub counts-count : (q : Query) → length q ≤ maxColumns → countsIn (countKey (keyWords q)) ≡ true
+unfolding countsIn countKey keyWords
+counts-count q h = let a = marks-low q h in eq-eqb ((marks q + countBit) / countBit % 2) 1 (omega arith)
+
+pub bare-plain : (q : Query) → length q ≤ maxColumns → bareKey (keyWords q) ≡ keyWords q
+unfolding bareKey
+bare-plain q h = rw (counts-plain q h)
+
+pub bare-count : (q : Query) → length q ≤ maxColumns → bareKey (countKey (keyWords q)) ≡ keyWords q
+unfolding bareKey
+bare-count q h = rw (counts-count q h) (unfold countKey keyWords in ap (λ (m : ℕ). m ∷ padded (maxColumns + rangeWidth) (map columnValue q)) (omega arith))
 
 -- ---- A query as it arrives
 query-of-length : (k : ℕ) (a : List ℕ) → length a ≡ 2 * k → length (queryOf a) ≡ k

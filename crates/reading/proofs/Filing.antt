@@ -1,4 +1,4 @@
--- Laws of the fetch and of the file step: which filed answer is given, what is filed, and the client's own list given. Leans on rules, on
+-- Laws of the fetch and of the file step: which filed answer is given, what is filed, and what the client holds given. Leans on rules, on
 -- clients and on ReadClient. Assumes nothing.
 use mathlib.Core.Path.{_≡_, refl, sym, ap, _∙_}
 use mathlib.Core.Bool.{Bool, true, false, cond, not, _&&_}
@@ -11,11 +11,11 @@ use borrow.Author.Tests.{lt-ltb, le-ltb}
 use Rattle.lists.specs.Lists.{written}
 use Rattle.rules.specs.declared.Outcome.{Outcome}
 use Rattle.rules.specs.declared.Outcome.the-variants.{Accepted, Answered}
-use Rattle.rules.specs.Answers.{lengthIn, listIn, valueIn, fetchPlace, filed}
+use Rattle.rules.specs.Answers.{lengthIn, listIn, valueIn, fetchPlace, filed, isLong}
 use Rattle.rules.specs.Client.{Client, sawPending, entryOf, idle, stepped}
 use Rattle.rules.specs.Memory.{mem, clientIn, withClient, answersIn, withAnswers}
 use Rattle.rules.specs.Outcome.{resultWith}
-use Rattle.rules.specs.Layout.{maxList, answerCountOffset}
+use Rattle.rules.specs.Layout.{answerCountOffset}
 use Rattle.rules.specs.Refusals.{client}
 use Rattle.query.specs.Shape.{narrow, shapeOf}
 use Rattle.rules.specs.Steps.{nowAt, answered, fetchResult, fileResult, readResult}
@@ -67,7 +67,7 @@ module _ (s clients : List ℕ) (d n i : ℕ) where
   unfolding foundFor
   found-search b x e h f g = rw (← e, h, ← f) g
 
--- ---- the file step: o, tray′, clients′ are what giving the client's own list returns and leaves
+-- ---- the file step: o, tray′, clients′ are what giving the client's own list or count returns and leaves
 module _ {h : Held} {clients : List ℕ} {d : ℕ} (r : Reader h clients d) (p : made clients d ≡ looks clients d + 2) where
   pub file-left : (s tray x s′ tray′ clients′ : List ℕ) (o : Outcome) → x ≡ entryOf (clientIn narrow clients d)
       → s′ ≡ withAnswers narrow s (filed x (answersIn narrow s))
@@ -78,9 +78,9 @@ module _ {h : Held} {clients : List ℕ} {d : ℕ} (r : Reader h clients d) (p :
   file-left s tray x s′ tray′ clients′ o f e a g u t n =
       rw (file-is (mem t n s clients) tray d (askedAt clients d) (made clients d) p, e, a, g, u, r .held .columns, f)
 
--- ---- the client's own list, given: x is its entry as it was lent
+-- ---- the client's own list or count, given: x is its entry as it was lent
 module _ (c : Client) (x : List ℕ) (e : x ≡ entryOf c) where
-  pub short-own : lengthIn (entryOf c) ≤ maxList → lengthIn x ≤ maxList
+  pub short-own : isLong (entryOf c) ≡ false → isLong x ≡ false
   short-own h = rw e h
 
   pub given-own : (k count : ℕ) (tray tray′ : List ℕ) → answers.Gave k x tray count tray′

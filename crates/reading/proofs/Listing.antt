@@ -1,8 +1,8 @@
--- Laws of the table step: the list in the client's place for it, the client that holds it, and the step's three ends. Leans on rules, on
--- ReadClient and on the laws of clients. Assumes nothing.
+-- Laws of the table step: the list in the client's place for it, the client that holds it, and the step's three ends; a count, the client
+-- that holds it, and the two ends of its step. Leans on rules, on ReadClient and on the laws of clients. Assumes nothing.
 use mathlib.Core.Path.{_≡_, refl, sym, ap, _∙_}
 use mathlib.Core.Bool.{Bool, true, false, cond, not}
-use mathlib.Core.List.{List}
+use mathlib.Core.List.{List, []}
 use Prim.Native.Nat.{ℕ, suc, _+_, _*_, _-_, _≤_, _<_}
 use native.Mathlib.Nat.{add-zero}
 use native.Mathlib.Omega.{arith}
@@ -12,33 +12,35 @@ use lib.Seq.{take-all, length-take-le}
 use borrow.Author.Tests.{le-leb, lt-leb, leb-false, not-true, not-false}
 use borrow.Rule.Slice.PartMut.{putMid}
 use Rattle.lists.specs.Lists.{written, flat}
-use Rattle.laws.proofs.WrittenLaws.{mid-written, length-written, getD-before, written-self}
+use Rattle.laws.proofs.ListLaws.{keep-le}
+use Rattle.laws.proofs.WrittenLaws.{written-nil, mid-written, length-written, getD-before, written-self}
 use Rattle.laws.proofs.RowLaws.{length-flat, wide-take}
 use Rattle.query.specs.declared.Column.{Column}
-use Rattle.query.specs.Query.{Record}
-use Rattle.query.specs.Shape.{shapeOf, narrow}
+use Rattle.query.specs.Query.{Record, lies}
+use Rattle.query.specs.Shape.{Shape, shapeOf, narrow}
 use Rattle.columns.specs.ColumnContracts.{four}
 use Rattle.rules.specs.declared.Outcome.{Outcome}
 use Rattle.rules.specs.declared.Outcome.the-variants.{Accepted, Answered, Long}
 use Rattle.rules.specs.Table.{listOf}
-use Rattle.rules.specs.Work.{Value, ofRecords, valueOf, mayAnswer, askIn}
-use Rattle.rules.specs.Answers.{lengthIn, listIn}
+use Rattle.rules.specs.Work.{Value, ofRecords, ofNumber, valueOf, mayAnswer, askIn}
+use Rattle.rules.specs.Answers.{lengthIn, isCount, listIn, isLong}
 use Rattle.rules.specs.Client.{Client, steps, sawPending, entryOf, idle, queryAt, askAt, holding}
 use Rattle.rules.specs.Memory.{mem, shapeIn, clientIn, withClient, recordsIn}
 use Rattle.rules.specs.Outcome.{resultWith}
 use Rattle.rules.specs.Refusals.{client}
 use Rattle.rules.specs.Steps.{nowAt, answered, tableResult, readResult}
-use Rattle.rules.specs.Layout.{maxList, listRoom, stepsOffset, clientWidth, clientOffset, heldListOffset}
+use Rattle.rules.specs.Layout.{maxRecords, maxList, listRoom, stepsOffset, clientWidth, clientOffset, heldListOffset}
 use Rattle.rules.proofs.ClientLaws.{list-room}
-use Rattle.rules.proofs.HoldingLaws.{holding-length, holding-list}
+use Rattle.rules.proofs.HoldingLaws.{Whole, holding-length, holding-list}
 use Rattle.clients.specs.declared.Held.{Held}
-use Rattle.clients.specs.ClientContracts.{Reader, askedAt, heldQuery, listSet}
+use Rattle.clients.specs.ClientContracts.{Reader, askedAt, heldQuery, valueSet}
 use Rattle.clients.proofs.ClientMemory.{length-client, with-self, with-words, client-same, with-twice, written-inside}
-use Rattle.clients.proofs.ClientChanges.{length-idle, length-holding, list-written}
-use Rattle.clients.proofs.HeldLaws.{at-few}
+use Rattle.clients.proofs.ClientChanges.{length-idle, length-holding, value-written, count-set}
+use Rattle.clients.proofs.HeldLaws.{at-few, reader-counts}
+use Rattle.answers.proofs.AnswerScan.{long-not}
 use Rattle.table.specs.TableContracts as table
 use Rattle.table.specs.TableContracts.{gathered}
-use Rattle.table.proofs.TableMemory.{wide-list}
+use Rattle.table.proofs.TableMemory.{length-records, wide-list}
 use Rattle.reading.specs.ReadContracts.{looks, made}
 use Rattle.reading.proofs.ReadClient.{read-columns, table-is}
 
@@ -76,10 +78,25 @@ over l n e h = go (leb (length l) maxList) refl e
 abbrev pub listFor : List ℕ → List ℕ → ℕ → ℕ → List Record
 listFor s clients d k = listOf (queryAt (shapeIn clients) (clientIn narrow clients d)) (recordsIn k s)
 
-value-is : (s clients : List ℕ) (d k : ℕ)
-    → valueOf (askedAt clients d) (recordsIn k s) ≡ record { count = length (listFor s clients d k); numbers = flat (listFor s clients d k) }
-unfolding valueOf ofRecords askAt askIn queryAt
-value-is s clients d k = refl
+-- what the read gets: of a count the number alone
+module _ (s clients : List ℕ) (d k : ℕ) where
+  value-list : askedAt clients d .counts ≡ false
+      → valueOf (askedAt clients d) (recordsIn k s) ≡ record { count = length (listFor s clients d k); numbers = flat (listFor s clients d k) }
+  unfolding valueOf ofRecords askAt askIn queryAt
+  value-list e = rw e
+
+  value-count : askedAt clients d .counts ≡ true → valueOf (askedAt clients d) (recordsIn k s) ≡ record { count = length (listFor s clients d k); numbers = [] }
+  unfolding valueOf ofNumber askAt askIn queryAt
+  value-count e = rw e
+
+-- and what the step then leaves
+table-at : {h : Held} {clients : List ℕ} {d : ℕ} → Reader h clients d → (s : List ℕ) (v : Value) → valueOf (askedAt clients d) (recordsIn (h .columns) s) ≡ v
+    → made clients d ≡ looks clients d + 1 → (tray ns a : List ℕ)
+    → readResult (mem s ns a clients) tray d (askedAt clients d) (made clients d) ≡ tableResult (mem s ns a clients) tray d (askedAt clients d) v
+table-at {h} {clients} {d} r s v e p tray ns a =
+    table-is (mem s ns a clients) tray d (askedAt clients d) (made clients d) p
+    ∙ ap (λ (x : ℕ). tableResult (mem s ns a clients) tray d (askedAt clients d) (valueOf (askedAt clients d) (recordsIn x s))) (sym (r .held .columns))
+    ∙ ap (tableResult (mem s ns a clients) tray d (askedAt clients d)) e
 
 module _ {h : Held} {clients : List ℕ} {d : ℕ} (r : Reader h clients d) (s : List ℕ) (f : table.Fit (h .columns) s) where
   -- the list, what the read gets with it, and where it stands in the client
@@ -142,74 +159,115 @@ module _ {h : Held} {clients : List ℕ} {d : ℕ} (r : Reader h clients d) (s :
         ∙ ap (λ (x : Client). getD x stepsOffset 0) (client-same clients d (r .fit) gathered-in gathered-long)
         ∙ getD-before (clientIn narrow clients d) offset (flat (take maxList list)) (omega arith) stepsOffset 0 (omega arith)
 
-    -- ---- the step's ends
-    table-at : made clients d ≡ looks clients d + 1 → (tray ns a : List ℕ)
-        → readResult (mem s ns a clients) tray d (askedAt clients d) (made clients d) ≡ tableResult (mem s ns a clients) tray d (askedAt clients d) got
-    table-at p tray ns a =
-        table-is (mem s ns a clients) tray d (askedAt clients d) (made clients d) p
-        ∙ ap (λ (x : ℕ). tableResult (mem s ns a clients) tray d (askedAt clients d) (valueOf (askedAt clients d) (recordsIn x s))) (sym (r .held .columns))
-        ∙ ap (λ (v : Value). tableResult (mem s ns a clients) tray d (askedAt clients d) v) (value-is s clients d (h .columns))
+    -- ---- the step's ends, where the read wants a list
+    module _ (w : h .counts ≡ false) where
+      wants-list : askedAt clients d .counts ≡ false
+      wants-list = sym (reader-counts r) ∙ w
 
-    pub table-long : (clients₂ : List ℕ) → maxList < n → clients₂ ≡ withClient narrow clients₁ d (idle narrow) → made clients d ≡ looks clients d + 1 → (tray ns a : List ℕ)
-        → resultWith Long (mem s ns a clients₂) tray ≡ readResult (mem s ns a clients) tray d (askedAt clients d) (made clients d)
-    unfolding tableResult mayAnswer nowAt
-    table-long clients₂ o u p tray ns a =
-        let w : clients₂ ≡ withClient narrow clients d (idle narrow) = u ∙ rw gathered-is (with-twice clients d (r .fit) gathered-in gathered-long (idle narrow) length-idle) in
-        rw (table-at p tray ns a, lt-leb (length list) maxList (over list n e o), w)
+      list-at : made clients d ≡ looks clients d + 1 → (tray ns a : List ℕ)
+          → readResult (mem s ns a clients) tray d (askedAt clients d) (made clients d) ≡ tableResult (mem s ns a clients) tray d (askedAt clients d) got
+      list-at = table-at r s got (value-list s clients d (h .columns) wants-list)
 
-    -- clients₂: the client holds the list
-    module _ (clients₂ : List ℕ) (o : n ≤ maxList) (u : clients₂ ≡ withClient narrow clients₁ d (listSet n (shapeOf (h .columns)) (clientIn narrow clients₁ d))) where
-      many : length list ≡ n
-      many = counted list n e o
+      pub table-long : (clients₂ : List ℕ) → maxList < n → clients₂ ≡ withClient narrow clients₁ d (idle narrow) → made clients d ≡ looks clients d + 1 → (tray ns a : List ℕ)
+          → resultWith Long (mem s ns a clients₂) tray ≡ readResult (mem s ns a clients) tray d (askedAt clients d) (made clients d)
+      unfolding tableResult mayAnswer nowAt
+      table-long clients₂ o u p tray ns a =
+          let z : clients₂ ≡ withClient narrow clients d (idle narrow) = u ∙ rw gathered-is (with-twice clients d (r .fit) gathered-in gathered-long (idle narrow) length-idle) in
+          rw (list-at p tray ns a, wants-list, lt-leb (length list) maxList (over list n e o), z)
 
-      long-flat : length (flat list) ≡ n * h .columns
-      long-flat = list-wide ∙ ap (λ (x : ℕ). x * h .columns) many
+      -- clients₂: the client holds the list
+      module _ (clients₂ : List ℕ) (o : n ≤ maxList) (u : clients₂ ≡ withClient narrow clients₁ d (valueSet n (n * h .columns) (shapeOf (h .columns)) (clientIn narrow clients₁ d))) where
+        many : length list ≡ n
+        many = counted list n e o
 
-      room : length (flat list) ≤ listRoom
-      room = rw long-flat (list-room n (h .columns) o (at-few r))
+        long-flat : length (flat list) ≡ n * h .columns
+        long-flat = list-wide ∙ ap (λ (x : ℕ). x * h .columns) many
 
-      -- the client then
-      abbrev holder : Client
-      holder = holding narrow (shapeOf (h .columns)) got (clientIn narrow clients d)
+        room : length (flat list) ≤ listRoom
+        room = rw long-flat (list-room n (h .columns) o (at-few r))
 
-      holder-long : length holder ≡ clientWidth narrow
-      holder-long = length-holding (clientIn narrow clients d) (shapeOf (h .columns)) got room (length-client clients d (r .fit))
+        -- the client then
+        abbrev holder : Client
+        holder = holding narrow (shapeOf (h .columns)) got (clientIn narrow clients d)
 
-      held-is : clients₂ ≡ withClient narrow clients d holder
-      held-is =
-          let l = many in
-          let w : clients₁ ≡ written clients (clientOffset narrow d + offset) (flat list) = g ∙ rw (take-all maxList list (omega arith)) in
-          u ∙ list-written clients d (r .fit) clients₁ n (h .columns) got w many long-flat (list-room n (h .columns) o (at-few r))
+        holder-long : length holder ≡ clientWidth narrow
+        holder-long = length-holding (clientIn narrow clients d) (shapeOf (h .columns)) got room (length-client clients d (r .fit))
 
-      client-is : clientIn narrow clients₂ d ≡ holder
-      client-is = ap (λ (x : List ℕ). clientIn narrow x d) held-is ∙ client-same clients d (r .fit) holder holder-long
+        held-is : clients₂ ≡ withClient narrow clients d holder
+        held-is =
+            let l = many in
+            let v : clients₁ ≡ written clients (clientOffset narrow d + offset) (flat list) = g ∙ rw (take-all maxList list (omega arith)) in
+            u ∙ value-written clients d (r .fit) clients₁ n (n * h .columns) (shapeOf (h .columns)) got v many long-flat (list-room n (h .columns) o (at-few r))
 
-      held-length : lengthIn (entryOf (clientIn narrow clients₂ d)) ≡ length list
-      held-length = ap (λ (c : Client). lengthIn (entryOf c)) client-is ∙ holding-length (clientIn narrow clients d) (length-client clients d (r .fit)) (shapeOf (h .columns)) got
+        client-is : clientIn narrow clients₂ d ≡ holder
+        client-is = ap (λ (x : List ℕ). clientIn narrow x d) held-is ∙ client-same clients d (r .fit) holder holder-long
 
-      held-list : listIn narrow (shapeOf (h .columns)) (entryOf (clientIn narrow clients₂ d)) ≡ flat list
-      held-list =
-          ap (λ (c : Client). listIn narrow (shapeOf (h .columns)) (entryOf c)) client-is
-          ∙ holding-list (clientIn narrow clients d) (length-client clients d (r .fit)) (shapeOf (h .columns)) got list-wide
+        held-length : lengthIn (entryOf (clientIn narrow clients₂ d)) ≡ length list
+        held-length = ap (λ (c : Client). lengthIn (entryOf c)) client-is ∙ holding-length (clientIn narrow clients d) (length-client clients d (r .fit)) (shapeOf (h .columns)) got
 
-      pub held-short : lengthIn (entryOf (clientIn narrow clients₂ d)) ≤ maxList
-      held-short = let l = many in rw held-length (omega arith)
+        held-whole : Whole (shapeOf (h .columns)) (isCount (entryOf (clientIn narrow clients d))) got
+        held-whole = rw (sym (r .held .counts) ∙ w) list-wide
 
-      not-long : leb (length list) maxList ≡ true
-      not-long = let l = many in le-leb (length list) maxList (omega arith)
+        held-list : listIn narrow (shapeOf (h .columns)) (entryOf (clientIn narrow clients₂ d)) ≡ flat list
+        held-list =
+            ap (λ (c : Client). listIn narrow (shapeOf (h .columns)) (entryOf c)) client-is
+            ∙ holding-list (clientIn narrow clients d) (length-client clients d (r .fit)) (shapeOf (h .columns)) got held-whole
 
-      -- b: whether a look saw a mark
-      module _ (p : made clients d ≡ looks clients d + 1) (tray : List ℕ) (b : Bool) (q : b ≡ sawPending (clientIn narrow clients d)) where
-        pub table-held : not b ≡ true → (ns a : List ℕ)
-            → resultWith Accepted (mem s ns a clients₂) tray ≡ readResult (mem s ns a clients) tray d (askedAt clients d) (made clients d)
-        unfolding tableResult mayAnswer nowAt client
-        table-held x ns a = rw (table-at p tray ns a, not-long, ← q, not-true b x, held-is, r .held .columns)
+        pub held-short : isLong (entryOf (clientIn narrow clients₂ d)) ≡ false
+        held-short = let l = many in long-not (entryOf (clientIn narrow clients₂ d)) (unfold lengthIn in rw held-length (omega arith))
 
-        -- y, tray′, clients₃: what giving the client's list returns and leaves
-        pub table-given : not b ≡ false → (y : Outcome) (tray′ clients₃ : List ℕ) → y ≡ Answered (lengthIn (entryOf (clientIn narrow clients₂ d))) false
-            → tray′ ≡ written tray 0 (listIn narrow (shapeOf (h .columns)) (entryOf (clientIn narrow clients₂ d))) → clients₃ ≡ withClient narrow clients₂ d (idle narrow) → (ns a : List ℕ)
-            → resultWith y (mem s ns a clients₃) tray′ ≡ readResult (mem s ns a clients) tray d (askedAt clients d) (made clients d)
-        unfolding tableResult mayAnswer answered nowAt client
-        table-given x y tray′ clients₃ v t i ns a =
-            let w : clients₃ ≡ withClient narrow clients d (idle narrow) = i ∙ rw held-is (with-twice clients d (r .fit) holder holder-long (idle narrow) length-idle) in
-            rw (table-at p tray ns a, not-long, ← q, not-false b x, v, held-length, t, held-list, w)
+        not-long : leb (length list) maxList ≡ true
+        not-long = let l = many in le-leb (length list) maxList (omega arith)
+
+        -- b: whether a look saw a mark
+        module _ (p : made clients d ≡ looks clients d + 1) (tray : List ℕ) (b : Bool) (q : b ≡ sawPending (clientIn narrow clients d)) where
+          pub table-held : not b ≡ true → (ns a : List ℕ)
+              → resultWith Accepted (mem s ns a clients₂) tray ≡ readResult (mem s ns a clients) tray d (askedAt clients d) (made clients d)
+          unfolding tableResult mayAnswer nowAt client
+          table-held x ns a = rw (list-at p tray ns a, wants-list, not-long, ← q, not-true b x, held-is, r .held .columns)
+
+          -- y, tray′, clients₃: what giving the client's list returns and leaves
+          pub table-given : not b ≡ false → (y : Outcome) (tray′ clients₃ : List ℕ) → y ≡ Answered (lengthIn (entryOf (clientIn narrow clients₂ d))) false
+              → tray′ ≡ written tray 0 (listIn narrow (shapeOf (h .columns)) (entryOf (clientIn narrow clients₂ d))) → clients₃ ≡ withClient narrow clients₂ d (idle narrow) → (ns a : List ℕ)
+              → resultWith y (mem s ns a clients₃) tray′ ≡ readResult (mem s ns a clients) tray d (askedAt clients d) (made clients d)
+          unfolding tableResult mayAnswer answered nowAt client
+          table-given x y tray′ clients₃ v t i ns a =
+              let z : clients₃ ≡ withClient narrow clients d (idle narrow) = i ∙ rw held-is (with-twice clients d (r .fit) holder holder-long (idle narrow) length-idle) in
+              rw (list-at p tray ns a, wants-list, not-long, ← q, not-false b x, v, held-length, t, held-list, z)
+
+-- ---- a count: n, by the columns that the code made
+module _ {h : Held} {clients : List ℕ} {d : ℕ} (r : Reader h clients d) (s : List ℕ) (f : table.Fit (h .columns) s) (cols : List Column) (n : ℕ) (e : cols ≡ four (heldQuery h))
+    (g : n ≡ length (listOf (take (h .columns) cols) (recordsIn (h .columns) s))) where
+  pub count-most : n ≤ maxRecords
+  unfolding listOf
+  count-most =
+      let a = keep-le (lies (take (h .columns) cols)) (recordsIn (h .columns) s) in
+      let b = length-records (h .columns) s in
+      let l = f .few in
+      omega arith
+
+  -- b: whether a look saw a mark
+  module _ (w : h .counts ≡ true) (p : made clients d ≡ looks clients d + 1) (clients₂ : List ℕ) (b : Bool) (q : b ≡ sawPending (clientIn narrow clients d)) (ns a tray : List ℕ) where
+    wants-count : askedAt clients d .counts ≡ true
+    wants-count = sym (reader-counts r) ∙ w
+
+    counted-at : readResult (mem s ns a clients) tray d (askedAt clients d) (made clients d)
+        ≡ tableResult (mem s ns a clients) tray d (askedAt clients d) (record { count = n; numbers = [] })
+    counted-at =
+        let m : length (listFor s clients d (h .columns)) ≡ n = sym (g ∙ rw (read-columns r cols e)) in
+        table-at r s (record { count = n; numbers = [] }) (value-count s clients d (h .columns) wants-count ∙ rw m) p tray ns a
+
+    -- the client holds it
+    pub count-held : b ≡ false → ((sh : Shape) → clients₂ ≡ withClient narrow clients d (valueSet n 0 sh (clientIn narrow clients d)))
+        → resultWith Accepted (mem s ns a clients₂) tray ≡ readResult (mem s ns a clients) tray d (askedAt clients d) (made clients d)
+    unfolding tableResult mayAnswer nowAt client
+    count-held x u =
+        let v : clients₂ ≡ withClient narrow clients d (holding narrow (shapeIn clients) (record { count = n; numbers = [] }) (clientIn narrow clients d)) =
+        u (shapeIn clients) ∙ ap (withClient narrow clients d) (count-set (clientIn narrow clients d) n (shapeIn clients) (record { count = n; numbers = [] }) refl refl) in
+        rw (counted-at, wants-count, ← q, x, v)
+
+    -- it is answered with, and the tray stays
+    pub count-given : b ≡ true → clients₂ ≡ withClient narrow clients d (idle narrow)
+        → resultWith (Answered n false) (mem s ns a clients₂) tray ≡ readResult (mem s ns a clients) tray d (askedAt clients d) (made clients d)
+    unfolding tableResult mayAnswer answered nowAt client
+    count-given x u = rw (counted-at, wants-count, ← q, x, u, written-nil tray 0)

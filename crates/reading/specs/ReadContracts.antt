@@ -1,14 +1,14 @@
 -- What the steps of a read take for granted: what a step's refusals have ruled out, memory by memory, and which step it is.
 -- Leans on rules and on the crates of the memories. Definitions only. Assumes nothing.
 use mathlib.Core.Path.{_≡_}
-use mathlib.Core.Bool.{false, cond}
+use mathlib.Core.Bool.{true, false, cond}
 use mathlib.Core.List.{List}
 use Prim.Native.Nat.{ℕ, _+_, _≤_, _<_}
 use lib.ListN.{length, getD}
 use Rattle.query.specs.Shape.{maxColumns, narrow}
-use Rattle.rules.specs.Layout.{trayLeast, lookRoom, maxList, answerCountOffset}
+use Rattle.rules.specs.Layout.{trayLeast, lookRoom, answerCountOffset}
 use Rattle.rules.specs.Work.{readLabels}
-use Rattle.rules.specs.Answers.{fetchPlace, someLong, lengthIn}
+use Rattle.rules.specs.Answers.{fetchPlace, isLong, someLong}
 use Rattle.rules.specs.Client.{Client, steps, sawPending, entryOf}
 use Rattle.rules.specs.Memory.{clientIn, answersIn}
 use Rattle.nodes.specs.NodeContracts as nodes
@@ -51,12 +51,18 @@ pub record Gathers (records clients : List ℕ) (d : ℕ) (h : Held) : Type 0 wh
   pub read : Reader h clients d
   pub fit : table.Fit (h .columns) records
 
--- the client's own list, given
+-- what the client holds, given
 pub record Gives (clients tray : List ℕ) (d k : ℕ) : Type 0 where
   pub client : client-contracts.Fit clients d
   pub few : k ≤ maxColumns
-  pub short : lengthIn (entryOf (clientIn narrow clients d)) ≤ maxList
+  pub short : isLong (entryOf (clientIn narrow clients d)) ≡ false
   pub room : trayLeast ≤ length tray
+
+pub record Counts (records clients : List ℕ) (d : ℕ) (h : Held) : Type 0 where
+  pub read : Reader h clients d
+  pub fit : table.Fit (h .columns) records
+  pub counts : h .counts ≡ true
+  pub step : made clients d ≡ looks clients d + 1
 
 pub record Lists (records clients tray : List ℕ) (d : ℕ) (h : Held) : Type 0 where
   pub read : Reader h clients d

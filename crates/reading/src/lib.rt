@@ -20,7 +20,7 @@ ghost use Rattle.rules.specs.Outcome.{resultWith};
 ghost use Rattle.rules.specs.Steps.{readResult};
 ghost use Rattle.clients.specs.ClientContracts.{askedAt};
 ghost use Rattle.table.specs.TableContracts.{gathered};
-ghost use Rattle.reading.specs.ReadContracts.{made, Looks, Finds, foundFor, Fetches, Gathers, Lists, Files, Steps, Gives};
+ghost use Rattle.reading.specs.ReadContracts.{made, Looks, Finds, foundFor, Fetches, Gathers, Counts, Lists, Files, Steps, Gives};
 use nodes::Sight;
 use rules::Outcome;
 
@@ -86,7 +86,7 @@ fn gather_list(table: &[u32], clients: &mut [u32], d: usize, h: Held) -> usize
     table::gather(table, k, cols, &mut clients[at..end])
 }
 
-// Answers with the list that the client holds: it goes to the tray's start, and the client is idle.
+// Answers with what the client holds: a list goes to the tray's start, and the client is idle.
 fn answer_held(clients: &mut [u32], tray: &mut [u32], d: usize, k: usize) -> Outcome
     requires { ⌜ Gives (now clients) (now tray) d k ⌝ }
     ensures { λ r. ⌜ r ≡ Answered (lengthIn (entryOf (clientIn narrow (now (clients .entry)) d))) false ⌝ }
@@ -101,26 +101,52 @@ fn answer_held(clients: &mut [u32], tray: &mut [u32], d: usize, k: usize) -> Out
     }
 }
 
+// The table step of a count: the records in the query's subspace are counted, and the client holds the count. Where a look saw a mark it is
+// answered with and not filed. It is lent no tray: whatever that holds stays.
+fn count_step(table: &[u32], clients: &mut [u32], d: usize, h: Held) -> Outcome
+    requires { ⌜ Counts (now table) (now clients) d h ⌝ }
+    ensures { λ r. ⌜ ((n a y : List ℕ) → resultWith r (mem (now (table .entry)) n a (now (clients .exit))) y ≡ readResult (mem (now (table .entry)) n a (now (clients .entry))) y d (askedAt (now (clients .entry)) d) (made (now (clients .entry)) d)) ⌝ }
+{
+    let k = h.columns;
+    let values = h.values;
+    let cols = columns::keys::columns_in(k, h.marks, &values);
+    let n = table::count(table, k, cols);
+    let saw = clients::saw_pending(clients, d);
+    if saw {
+        clients::set_idle(clients, d);
+        let count = n as u32;
+        return Outcome::Answered {
+            count: count,
+            cached: false,
+        };
+    }
+    clients::set_value(clients, d, n, 0);
+    Outcome::Accepted
+}
+
 // The table step: the list is taken, and the client holds it. Where it is too long the read ends; where a look saw a mark it is answered with
-// and not filed.
+// and not filed. A count has its own.
 fn table_step(table: &[u32], clients: &mut [u32], tray: &mut [u32], d: usize, h: Held) -> Outcome
     requires { ⌜ Lists (now table) (now clients) (now tray) d h ⌝ }
     ensures { λ r. ⌜ ((n a : List ℕ) → resultWith r (mem (now (table .entry)) n a (now (clients .exit))) (now (tray .exit)) ≡ readResult (mem (now (table .entry)) n a (now (clients .entry))) (now (tray .entry)) d (askedAt (now (clients .entry)) d) (made (now (clients .entry)) d)) ⌝ }
 {
+    if h.counts {
+        return count_step(table, clients, d, h);
+    }
     let saw = clients::saw_pending(clients, d);
     let n = gather_list(table, clients, d, h);
     if LIST < n {
         clients::set_idle(clients, d);
         return Outcome::Long;
     }
-    clients::set_list(clients, d, n, h.columns);
+    clients::set_value(clients, d, n, n * h.columns);
     if !saw {
         return Outcome::Accepted;
     }
     answer_held(clients, tray, d, h.columns)
 }
 
-// The list taken at the table step is filed with the noted revisions, and answered with.
+// What was taken at the table step is filed with the noted revisions, and answered with.
 fn file_step(
     answers: &mut [u32],
     clients: &mut [u32],

@@ -2,20 +2,19 @@
 -- Leans on rules and machine. Assumes nothing.
 use mathlib.Core.Path.{_≡_}
 use mathlib.Core.Bool.{Bool, true, false, cond}
-use mathlib.Core.List.{List, map}
+use mathlib.Core.List.{List, [], map}
 use Prim.Native.Nat.{ℕ, _+_, _-_, _*_, _≤_, _<_}
 use native.Mathlib.Omega.{arith}
 use lib.Dec.{eqb, ltb, leb}
 use lib.ListN.{length, getD, take, drop}
 use Rattle.lists.specs.Lists.{In}
-use Rattle.query.specs.Encoding.{isKey}
 use Rattle.query.specs.Shape.{Shape, maxColumns, narrow}
-use Rattle.rules.specs.Layout.{maxRecords, maxNodes, maxAnswers, maxClients, maxList}
+use Rattle.rules.specs.Layout.{maxRecords, maxNodes, maxAnswers, maxClients}
 use Rattle.rules.specs.Layout.{recordCountOffset, nodeCountOffset, answerCountOffset, revisionsOffset, answersEnd}
 use Rattle.rules.specs.declared.Outcome.{Outcome}
 use Rattle.rules.specs.declared.Outcome.the-variants.{Refused, Accepted, Answered, Long, Ended, Full}
-use Rattle.rules.specs.Work.{Ask, Value, readLabels, askIn, Write, writeLabels, Work, asking, writing, workOf}
-use Rattle.rules.specs.Answers.{Entry, keyIn, lengthIn, valueIn}
+use Rattle.rules.specs.Work.{Ask, Value, readLabels, askIn, isAskKey, Write, writeLabels, Work, asking, writing, workOf}
+use Rattle.rules.specs.Answers.{Entry, keyIn, isCount, isLong, valueIn}
 use Rattle.rules.specs.Client.{Client, steps, sawPending, didChange, foundFull, entryOf, workAt, isIdle, isBad}
 use Rattle.rules.specs.Memory.{Mem, recordsIn, storeIn, answersIn}
 use Rattle.rules.specs.Refusals.{columns, client, shape}
@@ -81,27 +80,36 @@ callOf sh (rules.evictAnswer i) = machine.evict-answer i
 callOf sh (rules.evictNode i) = machine.evict-node i
 callOf sh rules.renew = machine.renew
 
--- an answer's records are read from the tray: k numbers each, from its start
-unfoldable pub responseIn : Shape → List ℕ → Outcome → Response
-responseIn sh tray (Refused n) = machine.refused n
-responseIn sh tray Accepted = machine.went
-responseIn sh tray (Answered n cached) = machine.answered (record { count = n; numbers = take (n * sh .columns) tray }) cached
-responseIn sh tray Long = machine.long
-responseIn sh tray (Ended changed) = machine.ended changed
-responseIn sh tray Full = machine.full
+-- an answer's records are read from the tray: k numbers each, from its start; a count's answer has none, whatever the tray holds
+abbrev pub said : Shape → Bool → List ℕ → ℕ → Value
+said sh true tray n = record { count = n; numbers = [] }
+said sh false tray n = record { count = n; numbers = take (n * sh .columns) tray }
 
-unfoldable pub responseOf : Shape → StepResult → Response
-responseOf sh x = responseIn sh (x .tray) (x .out)
+unfoldable pub responseIn : Shape → Bool → List ℕ → Outcome → Response
+responseIn sh counts tray (Refused n) = machine.refused n
+responseIn sh counts tray Accepted = machine.went
+responseIn sh counts tray (Answered n cached) = machine.answered (said sh counts tray n) cached
+responseIn sh counts tray Long = machine.long
+responseIn sh counts tray (Ended changed) = machine.ended changed
+responseIn sh counts tray Full = machine.full
 
--- a result of a hall: as many numbers for each record as there are columns
-abbrev pub Whole : Shape → Value → Type 0
-Whole sh v = length (v .numbers) ≡ v .count * sh .columns
+unfoldable pub responseOf : Shape → Bool → StepResult → Response
+responseOf sh counts x = responseIn sh counts (x .tray) (x .out)
+
+-- whether a call is a step of a desk that wants a count
+unfoldable pub countsAt : Mem → machine.Call → Bool
+countsAt m (machine.begin d x) = false
+countsAt m (machine.step d) = isCount (entryOf (client m d))
+countsAt m (machine.abandon d) = false
+countsAt m (machine.evict-answer i) = false
+countsAt m (machine.evict-node i) = false
+countsAt m machine.renew = false
 
 -- ---- Memories that a history leaves
--- a filed answer is to a query of k columns, and has at most 32 records
+-- a filed answer is to an ask of the hall, and has at most 32 records, or is a count of at most 2,048
 pub record Kept (sh : Shape) (e : Entry) : Type 0 where
-  pub key : isKey sh (keyIn e) ≡ true
-  pub short : lengthIn e ≤ maxList
+  pub key : isAskKey sh (keyIn e) ≡ true
+  pub short : isLong e ≡ false
 
 pub record Fits (m : Mem) : Type 0 where
   pub long : memories.Long m

@@ -14,14 +14,13 @@ use Rattle.laws.proofs.TestLaws.{byTest}
 use Rattle.laws.proofs.ListLaws.{length-padded, getD-padded}
 use Rattle.laws.proofs.WrittenLaws.{drop-take, take-written, getD-before, length-written}
 use Rattle.query.specs.Encoding.{labelWidth, keyWidth}
-use Rattle.query.specs.Shape.{Shape, maxColumns, narrow}
+use Rattle.query.specs.Shape.{Shape, narrow}
 use Rattle.rules.specs.Work.{Value, Work, kindOf, keyOf}
-use Rattle.rules.specs.Answers.{Entry, keyIn, lengthIn}
+use Rattle.rules.specs.Answers.{Entry, keyIn, lengthIn, isCount, mostIn, isLong}
 use Rattle.rules.specs.Client.{Client, kind, steps, sawPending, didChange, foundFull, entryOf, begun, stepped, flag, noted, holding, wrote}
-use Rattle.rules.specs.Layout.{maxList, lookRoom, listOffset, listRoom, entryWidth, clientWidth, notedOffset, heldListOffset}
-use Rattle.rules.proofs.ClientLaws.{list-room}
-use Rattle.rules.proofs.HoldingLaws.{counted, holding-entry, long-counted}
-use Rattle.refinement.proofs.Abstraction.{revisionsIn, Whole}
+use Rattle.rules.specs.Layout.{lookRoom, listOffset, listRoom, entryWidth, clientWidth, notedOffset, heldListOffset}
+use Rattle.rules.proofs.HoldingLaws.{counted, holding-entry, holding-key, long-counted}
+use Rattle.refinement.proofs.Abstraction.{revisionsIn}
 
 -- ---- Three numbers stored in a list
 module _ (s : List ℕ) (i x j y l z : ℕ) where
@@ -123,9 +122,13 @@ module _ (c : Client) (w : length c ≡ clientWidth narrow) where
         let l : length (drop 8 (entryOf c)) ≡ 144 = length-drop 8 (entryOf c) ∙ (let z = length-entry in omega arith) in
         rw (noted-entry, drop-set-add 8 (entryOf c) j r) (take-suc-set (drop 8 (entryOf c)) j r (omega arith))
 
-    pub noted-length : lengthIn (entryOf (noted narrow j r p c)) ≡ lengthIn (entryOf c)
+    noted-length : lengthIn (entryOf (noted narrow j r p c)) ≡ lengthIn (entryOf c)
     unfolding lengthIn
     noted-length = rw noted-entry (getD-set-other (entryOf c) (8 + j) 7 r 0 (λ e. omega arith))
+
+    pub noted-short : isLong (entryOf c) ≡ false → isLong (entryOf (noted narrow j r p c)) ≡ false
+    unfolding isLong mostIn isCount
+    noted-short s = rw (noted-length, noted-next .keys) s
 
     saw-or : (x : ℕ) → not (eqb (cond (eqb p 0) x 1) 0) ≡ (not (eqb x 0) || ltb 0 p)
     saw-or x =
@@ -167,27 +170,20 @@ module _ (c : Client) (w : length c ≡ clientWidth narrow) where
     unfolding wrote foundFull stepped
     wrote-full = ap (λ (x : ℕ). not (eqb x 0)) (three-last c 1 (steps c + 1) 3 (flag changed) 4 (flag full) (omega arith)) ∙ flag-read full
 
--- ---- A list taken
-module _ (c : Client) (w : length c ≡ clientWidth narrow) (sh : Shape) (v : Value) (whole : Whole sh v) (few : sh .columns ≤ maxColumns) (short : v .count ≤ maxList) where
+-- ---- A list or a count taken
+module _ (c : Client) (w : length c ≡ clientWidth narrow) (sh : Shape) (v : Value) (room : length (v .numbers) ≤ listRoom) where
   -- what is written of the list
   abbrev numbers : List ℕ
   numbers = padded listRoom (v .numbers)
 
   length-numbers : length numbers ≡ listRoom
-  length-numbers = let b = list-room (v .count) (sh .columns) short few in length-padded listRoom (v .numbers) (omega arith)
+  length-numbers = length-padded listRoom (v .numbers) room
 
   holding-front : (i : ℕ) → i < 5 → getD (holding narrow sh v c) i 0 ≡ getD (stepped c) i 0
   unfolding holding
   holding-front i h =
       getD-before (set (stepped c) 12 (v .count)) (heldListOffset narrow sh) numbers (rw (length-set, stepped-next c w .wide) (omega arith)) i 0 (omega arith)
       ∙ getD-set-other (stepped c) 12 i (v .count) 0 (λ e. omega arith)
-
-  holding-key : keyIn (entryOf (holding narrow sh v c)) ≡ keyIn (entryOf c)
-  unfolding keyIn
-  holding-key =
-      ap (take keyWidth) (holding-entry c w sh v)
-      ∙ take-written (counted c (v .count)) (listOffset narrow sh) numbers (long-counted c w sh v) 7 (omega arith)
-      ∙ take-set-le 7 (entryOf c) 7 (v .count) (omega arith)
 
   holding-wide : length (holding narrow sh v c) ≡ clientWidth narrow
   unfolding holding
@@ -201,7 +197,7 @@ module _ (c : Client) (w : length c ≡ clientWidth narrow) (sh : Shape) (v : Va
   unfolding kind steps
   holding-next = record {
     kinds = holding-front 0 (omega arith) ∙ stepped-next c w .kinds;
-    keys = holding-key;
+    keys = holding-key c w sh v;
     one = holding-front 1 (omega arith) ∙ stepped-next c w .one;
     wide = holding-wide;
   }

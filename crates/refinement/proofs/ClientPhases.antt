@@ -1,30 +1,30 @@
 -- Which phase of the machine a client stands for, by its work, and that what a begin or a step leaves is sound again. Leans on
 -- Abstraction and ClientParts, and on what rules' sound client keeps to. Assumes nothing.
 use mathlib.Core.Path.{_≡_, refl, sym, ap, _∙_}
-use mathlib.Core.Bool.{Bool, true, false}
+use mathlib.Core.Bool.{Bool, true, false, cond}
 use mathlib.Core.List.{List, [], _∷_}
 use Prim.Native.Nat.{ℕ, _+_, _-_, _≤_, _<_}
 use native.Mathlib.Omega.{arith}
-use lib.Dec.{eqb}
+use lib.Dec.{eqb, ltb}
 use lib.ListN.{length, getD, length-replicate}
 use borrow.Author.Tests.{le-leb, lt-leb, eq-eqb, ne-eqb}
 use Rattle.laws.proofs.ListLaws.{same-refl, same-eq}
 use Rattle.laws.proofs.TestLaws.{byTest}
 use Rattle.query.specs.Query.{Record, naming}
-use Rattle.query.specs.Encoding.{keyWidth, keyWords, recordOf}
+use Rattle.query.specs.Encoding.{keyWidth, keyWords, recordOf, bareKey}
 use Rattle.query.specs.Shape.{Shape, maxColumns, narrow}
 use Rattle.query.proofs.EncodingLaws.{query-in-key, query-in-length, key-words-length}
-use Rattle.rules.specs.Layout.{clientWidth, reads}
+use Rattle.rules.specs.Layout.{maxRecords, maxList, clientWidth, reads}
 use Rattle.rules.specs.Table.{Change, insert, delete, target}
 use Rattle.rules.specs.Work.{Ask, readLabels, askKey, askIn, Write, writeLabels, Work, asking, writing, changeKind, kindOf, keyOf, changeIn, writeIn}
 use Rattle.rules.specs.Work.{workIn, stepsInAll}
-use Rattle.rules.specs.Answers.{Entry, keyIn, isLong, valueIn}
+use Rattle.rules.specs.Answers.{Entry, keyIn, isCount, mostIn, isLong, valueIn}
 use Rattle.rules.specs.Client.{Client, kind, steps, sawPending, didChange, foundFull, entryOf, isIdle, askAt, workAt, isBad, begun}
 use Rattle.rules.specs.Client as rules
 use Rattle.rules.specs.Sound.{Busy}
-use Rattle.rules.proofs.WorkLaws.{target-length}
+use Rattle.rules.proofs.WorkLaws.{target-length, ask-key-length, ask-in-key}
 use Rattle.rules.proofs.ClientLaws.{change-known, kind-known, busy-sound, idle-sound}
-use Rattle.machine.specs.Machine.{WorkFits, Phase, idle, looking, tabling, filing, announcing, raising}
+use Rattle.machine.specs.Machine.{AskFits, WorkFits, Phase, idle, looking, tabling, filing, announcing, raising}
 use Rattle.refinement.proofs.Abstraction.{revisionsIn, notedOf, readerOf, writerOf, busyPhase, phaseOf}
 use Rattle.refinement.proofs.ClientParts.{Next, begun-kind, begun-steps, begun-saw, begun-wide, begun-key, begun-length}
 
@@ -73,7 +73,7 @@ asking-at sh c r = rw (eq-eqb (kind c) reads r)
 pub fits-at : (sh : Shape) (c : Client) {w : Work} → workAt sh c ≡ w → WorkFits sh w
 unfolding workAt workIn askIn writeIn
 fits-at sh c r = rw (← r) (byTest (eqb (kind c) reads)
-    (λ e. rw e (record { shape = refl; columns = query-in-length sh (keyIn (entryOf c)) }))
+    (λ e. rw e (record { shape = refl; columns = query-in-length sh (bareKey (keyIn (entryOf c))) }))
     (λ e. rw e (record { shape = refl; columns = target-length sh (kind c) (keyIn (entryOf c)) })))
 
 -- ---- A busy client's desk
@@ -135,18 +135,29 @@ unfolding changeIn changeKind target
 change-kept sh (insert r) l = ap insert (ap recordOf (query-in-key sh (naming r) l) ∙ record-naming r)
 change-kept sh (delete q) l = ap delete (query-in-key sh q l)
 
-work-kept : (sh : Shape) (x : Work) → WorkFits sh x → workIn sh (kindOf x) (keyOf x) ≡ x
-unfolding workIn kindOf keyOf askKey askIn writeIn
-work-kept sh (asking x) f = λ i. asking (record { shape = sym (f .shape) i; query = query-in-key sh (x .query) (f .columns) i })
-work-kept sh (writing w) f =
+pub ask-back : (sh : Shape) (x : Ask) → AskFits sh x → sh .columns ≤ maxColumns → askIn sh (askKey x) ≡ x
+ask-back sh x f few =
+    let z = f .columns in
+    let y = ap (λ (a : Shape). a .columns) (f .shape) in
+    rw (← f .shape) (ask-in-key x (omega arith) (omega arith))
+
+work-kept : (sh : Shape) (x : Work) → WorkFits sh x → sh .columns ≤ maxColumns → workIn sh (kindOf x) (keyOf x) ≡ x
+unfolding workIn kindOf keyOf writeIn
+work-kept sh (asking x) f few = ap asking (ask-back sh x f few)
+work-kept sh (writing w) f few =
     let k = change-known (w .change) .0 in
     rw (ne-eqb (changeKind (w .change)) reads (λ e. omega arith)) (λ i. writing (record { shape = sym (f .shape) i; change = change-kept sh (w .change) (f .columns) i }))
 
 -- its key is that of a query of the hall
 key-wide : (sh : Shape) (x : Work) → WorkFits sh x → sh .columns ≤ maxColumns → length (keyOf x) ≡ keyWidth
-unfolding keyOf askKey
-key-wide sh (asking x) f few = key-words-length (x .query) (let z = f .columns in omega arith)
+unfolding keyOf
+key-wide sh (asking x) f few = ask-key-length x (let z = f .columns in omega arith)
 key-wide sh (writing w) f few = key-words-length (target (w .change)) (let z = f .columns in omega arith)
+
+-- no list is too long that has no records
+none-long : (b : Bool) → ltb (cond b maxRecords maxList) 0 ≡ false
+none-long true = refl
+none-long false = refl
 
 steps-some : (x : Work) → 0 < stepsInAll x
 unfolding stepsInAll
@@ -162,18 +173,18 @@ looking-eq {x} f g = λ i. looking x (f i) (g i)
 
 module _ (sh : Shape) (least : 1 ≤ sh .columns) (most : sh .columns ≤ maxColumns) where
   begun-busy : (x : Work) → WorkFits sh x → Busy narrow sh (begun narrow x) x
-  unfolding workAt isLong
+  unfolding workAt isLong mostIn
   begun-busy x f =
       let h = key-wide sh x f most in
       record {
         least = least;
         most = most;
         wide = begun-wide x h;
-        work = rw (begun-kind x, begun-key x h) (work-kept sh x f);
+        work = rw (begun-kind x, begun-key x h) (work-kept sh x f most);
         kind = begun-kind x;
         key = begun-key x h;
         going = rw (begun-steps x) (steps-some x);
-        short = rw (begun-length x h);
+        short = rw (begun-length x h) (none-long (isCount (entryOf (begun narrow x))));
       }
 
   begun-phase : (x : Work) → Busy narrow sh (begun narrow x) x → phaseOf sh (begun narrow x) ≡ startOf x

@@ -51,7 +51,7 @@ use Rattle.refinement.proofs.StepFrame.{stepsAt, entryAt, client-at, by
 -- what a request asks or writes is of the hall
 pub request-fits : (sh : Shape) (r : Request) → faultOf sh r ≡ 0 → WorkFits sh (workOf sh r)
 unfolding workOf askOf
-request-fits sh (readOf a) e = record { shape = refl; columns = is-query-length sh a (read-good sh a e) }
+request-fits sh (readOf counts a) e = record { shape = refl; columns = is-query-length sh a (read-good sh counts a e) }
 request-fits sh (insertOf a) e =
     let k = insert-good sh a e in record { shape = refl; columns = ap length (target-insert (queryOf a) (k .1)) ∙ is-query-length sh a (k .0) }
 request-fits sh (deleteOf a) e = record { shape = refl; columns = ap length (target-delete (queryOf a)) ∙ is-query-length sh a (delete-good sh a e) }
@@ -59,7 +59,7 @@ request-fits sh (deleteOf a) e = record { shape = refl; columns = ap length (tar
 started : (m : Mem) (d : ℕ) (r : Request) → Begins m d r → stateOf m .clients d ≡ idle
     → steps-of.Transition (stateOf m) (begin d (workOf (shape m) r)) went (at-client (stateOf m) d (startOf (workOf (shape m) r)))
 unfolding workOf isWrite stateOf
-started m d (readOf a) b i = steps-of.began (b .below) i (request-fits (shape m) (readOf a) (b .good))
+started m d (readOf counts a) b i = steps-of.began (b .below) i (request-fits (shape m) (readOf counts a) (b .good))
 started m d (insertOf a) b i = steps-of.began-write (b .below) i (request-fits (shape m) (insertOf a) (b .good)) (b .fresh refl)
 started m d (deleteOf a) b i = steps-of.began-write (b .below) i (request-fits (shape m) (deleteOf a) (b .good)) (b .fresh refl)
 

@@ -1,7 +1,7 @@
 -- What each step of a read and of a write makes of its client, and that the client it leaves is sound. Leans on ClientParts and ClientPhases.
 -- Assumes nothing.
 use mathlib.Core.Path.{_≡_, ap, _∙_}
-use mathlib.Core.Bool.{Bool, _||_}
+use mathlib.Core.Bool.{Bool, true, false, cond, _||_}
 use mathlib.Core.List.{List, [], _∷_, _++_}
 use Prim.Native.Nat.{ℕ, suc, _+_, _-_, _≤_, _<_}
 use native.Mathlib.Omega.{arith}
@@ -9,19 +9,20 @@ use lib.Dec.{ltb}
 use lib.ListN.{length, drop, length-drop}
 use lib.Seq.{length-take-le}
 use borrow.Author.Tests.{le-ltb}
-use Rattle.query.specs.Shape.{Shape, narrow}
-use Rattle.rules.specs.Layout.{maxList, lookRoom, revisionsOffset}
+use Rattle.query.specs.Shape.{Shape, narrow, maxColumns}
+use Rattle.rules.specs.Layout.{maxRecords, maxList, lookRoom, revisionsOffset, listRoom}
 use Rattle.rules.specs.Work.{Ask, Value, readLabels, Write, writeLabels, asking, writing, stepsInAll}
-use Rattle.rules.specs.Answers.{isLong}
+use Rattle.rules.specs.Answers.{isCount, mostIn, isLong}
 use Rattle.rules.specs.Client.{Client, steps, sawPending, didChange, foundFull, entryOf, stepped, noted, holding, wrote}
 use Rattle.rules.specs.Sound.{Busy}
 use Rattle.rules.proofs.WorkLaws.{write-labels-some}
-use Rattle.rules.proofs.HoldingLaws.{holding-length, holding-value}
+use Rattle.rules.proofs.ClientLaws.{asked-counts, list-room}
+use Rattle.rules.proofs.HoldingLaws.{Whole, holding-length, holding-counts, holding-value}
 use Rattle.machine.specs.Machine.{looking, tabling, filing, announcing, raising}
 use Rattle.machine.proofs.Asks.{read-few}
-use Rattle.refinement.proofs.Abstraction.{revisionsIn, notedOf, Whole}
+use Rattle.refinement.proofs.Abstraction.{revisionsIn, notedOf}
 use Rattle.refinement.proofs.ClientParts.{length-entry, stepped-next, stepped-entry, stepped-saw, stepped-change, stepped-full, noted-next, noted-revisions}
-use Rattle.refinement.proofs.ClientParts.{noted-length, noted-saw, holding-next, holding-revisions, wrote-next}
+use Rattle.refinement.proofs.ClientParts.{noted-short, noted-saw, holding-next, holding-revisions, wrote-next}
 use Rattle.refinement.proofs.ClientParts.{wrote-entry, wrote-change, wrote-full}
 use Rattle.refinement.proofs.ClientPhases.{Left, busy-left, next-busy, fits-at, looking-eq, looking-phase, tabling-phase, filing-phase}
 use Rattle.refinement.proofs.ClientPhases.{announcing-phase, raising-phase}
@@ -36,6 +37,15 @@ raising-eq : {w : Write} {i j : ℕ} {a b c d : Bool} → i ≡ j → a ≡ b �
 raising-eq {w} f g h = λ i. raising w (f i) (g i) (h i)
 
 -- ---- A read
+-- the most that is answered of an ask; its numbers have room
+abbrev pub mostOf : Ask → ℕ
+mostOf x = cond (x .counts) maxRecords maxList
+
+value-room : (sh : Shape) (counts : Bool) (v : Value) → sh .columns ≤ maxColumns → Whole sh counts v → v .count ≤ cond counts maxRecords maxList
+    → length (v .numbers) ≤ listRoom
+value-room sh true v few e short = let z = ap length e in omega arith
+value-room sh false v few e short = let z = list-room (v .count) (sh .columns) short few in omega arith
+
 module _ {sh : Shape} {c : Client} {x : Ask} (b : Busy narrow sh c (asking x)) where
   -- an entry has room for the revisions of its looks
   looks-most : length (readLabels x) ≤ lookRoom
@@ -52,14 +62,14 @@ module _ {sh : Shape} {c : Client} {x : Ask} (b : Busy narrow sh c (asking x)) w
   -- a look
   pub noted-left : (v p : ℕ) → steps c < length (readLabels x)
       → Left sh (noted narrow (steps c) v p c) (looking x (revisionsIn (steps c) (entryOf c) ++ (v ∷ [])) (sawPending c || ltb 0 p))
-  unfolding stepsInAll isLong
+  unfolding stepsInAll
   noted-left v p h =
       let m = looks-most in
       let w = b .wide in
       let g : steps c < 16 = omega arith in
       let t : Client = noted narrow (steps c) v p c in
       let n = noted-next c w (steps c) v p g in
-      let busy = next-busy n b (omega arith) (rw (noted-length c w (steps c) v p g) (b .short)) in
+      let busy = next-busy n b (omega arith) (noted-short c w (steps c) v p g (b .short)) in
       let e : steps t ≡ suc (steps c) = n .one ∙ omega arith in
       busy-left busy (looking-phase busy (omega arith)
       ∙ looking-eq (ap (λ (i : ℕ). revisionsIn i (entryOf t)) e ∙ noted-revisions c w (steps c) v p g) (noted-saw c w (steps c) v p g))
@@ -75,18 +85,19 @@ module _ {sh : Shape} {c : Client} {x : Ask} (b : Busy narrow sh c (asking x)) w
       let o = n .one in
       busy-left busy (tabling-phase busy (omega arith) ∙ tabling-eq (ap (notedOf x) a) (stepped-saw c w))
 
-  -- a list taken, to be filed
-  pub holding-left : (v : Value) → Whole sh v → v .count ≤ maxList → steps c ≡ length (readLabels x) + 1
+  -- a list or a count taken, to be filed
+  pub holding-left : (v : Value) → Whole sh (x .counts) v → v .count ≤ mostOf x → steps c ≡ length (readLabels x) + 1
       → Left sh (holding narrow sh v c) (filing x (notedOf x (entryOf c)) v)
-  unfolding stepsInAll isLong
+  unfolding stepsInAll isLong mostIn
   holding-left v whole short h =
       let w = b .wide in
-      let few = b .most in
-      let n = holding-next c w sh v whole few short in
-      let busy = next-busy n b (omega arith) (rw (holding-length c w sh v) (le-ltb maxList (v .count) short)) in
+      let i : isCount (entryOf c) ≡ x .counts = asked-counts b in
+      let room = value-room sh (x .counts) v (b .most) whole short in
+      let n = holding-next c w sh v room in
+      let busy = next-busy n b (omega arith) (rw (holding-length c w sh v, holding-counts c w sh v, i) (le-ltb (mostOf x) (v .count) short)) in
       let o = n .one in
       busy-left busy (filing-phase busy (omega arith)
-      ∙ filing-eq (holding-revisions c w sh v whole few short (length (readLabels x)) looks-most) (holding-value c w sh v whole))
+      ∙ filing-eq (holding-revisions c w sh v room (length (readLabels x)) looks-most) (holding-value c w sh v (rw i whole)))
 
 -- ---- A write
 module _ {sh : Shape} {c : Client} {v : Write} (b : Busy narrow sh c (writing v)) where

@@ -2,46 +2,48 @@
 use mathlib.Core.Path.{_≡_, refl, sym, ap, _∙_}
 use mathlib.Core.Logic.{_⊎_, inl, inr}
 use mathlib.Core.Option.{Option, none, some}
-use mathlib.Core.Bool.{Bool, true, false, _||_}
+use mathlib.Core.Bool.{Bool, true, false, cond, _||_}
 use mathlib.Core.List.{List, [], _∷_, _++_, map}
 use Prim.Native.Nat.{ℕ, _+_, _≤_, _<_}
 use native.Mathlib.Omega.{arith}
-use lib.Dec.{eqb, ltb}
+use lib.Dec.{eqb, ltb, leb}
 use lib.ListN.{length, getD}
 use borrow.Author.Tests.{ltb-true, ltb-false, eqb-true, eqb-false, leb-true}
 use Rattle.lists.specs.Lists.{In, place}
 use Rattle.laws.proofs.TestLaws.{byTest}
+use Rattle.laws.proofs.ListLaws.{keep-le}
 use Rattle.laws.proofs.RowLaws.{wide-keep, length-flat}
 use Rattle.laws.proofs.SearchLaws.{place-at, place-before}
 use Rattle.laws.proofs.Members.{in-at, in-place}
-use Rattle.query.specs.Query.{lies}
+use Rattle.query.specs.Query.{Record, lies}
 use Rattle.query.specs.Shape.{narrow}
-use Rattle.rules.specs.Layout.{maxList, maxClients, entryWidth}
+use Rattle.rules.specs.Layout.{maxRecords, maxList, maxClients, entryWidth}
 use Rattle.rules.specs.declared.Outcome.the-variants.{Accepted, Long}
 use Rattle.rules.specs.Table.{listOf}
 use Rattle.rules.specs.Nodes.{Words, Store, nodeOf, revision, pending}
-use Rattle.rules.specs.Answers.{Entry, keyIn, serves, fetchPlace, filed, valueIn}
+use Rattle.rules.specs.Answers.{Entry, keyIn, isCount, isLong, serves, fetchPlace, filed, valueIn}
 use Rattle.rules.specs.Client.{sawPending, stepped, noted, askAt}
 use Rattle.rules.specs.Memory.{Mem, withFiled, recordsIn, storeIn, answersIn, withAnswers}
 use Rattle.rules.specs.Refusals.{columns, client, shape}
 use Rattle.rules.specs.Outcome.{resultWith}
 use Rattle.rules.specs.Steps.{nowAt, answered, lookResult, fetchResult, tableResult, fileResult, readResult}
-use Rattle.rules.specs.Work.{Ask, valueOf, mayAnswer, readLabels, Value, asking, ofRecords, askIn}
+use Rattle.rules.specs.Work.{Ask, valueOf, mayAnswer, readLabels, Value, asking, ofRecords, ofNumber, askIn}
 use Rattle.rules.specs.Sound.{Busy}
 use Rattle.rules.proofs.WorkLaws.{read-label-wide}
-use Rattle.rules.proofs.ClientLaws.{asks-at, busy-key, busy-short}
+use Rattle.rules.proofs.ClientLaws.{asks-at, asked-counts, busy-ask}
+use Rattle.rules.proofs.HoldingLaws.{Whole}
 use Rattle.revisions.specs.EffectiveRevision.{NoDup, has, effective, pendingOf}
 use Rattle.revisions.proofs.NodeOperations.{EnsuredOk, ensured-ok, node-effective, node-pending-of}
 use Rattle.machine.specs.Machine.{looking, tabling, Ans, step, node, with-filed, holds-for, filed-in}
 use Rattle.machine.specs.Transition as transition
-use Rattle.refinement.proofs.Abstraction.{revisionsIn, ansOf, filedOf, stateOf, responseIn, Kept, Fits, notedOf, Whole}
+use Rattle.refinement.proofs.Abstraction.{revisionsIn, ansOf, filedOf, stateOf, responseIn, countsAt, Kept, Fits, notedOf}
 use Rattle.refinement.proofs.ClientParts.{length-entry}
 use Rattle.refinement.proofs.ClientPhases.{Left, fits-at, looking-eq, looking-phase, tabling-phase, filing-phase}
-use Rattle.refinement.proofs.PhaseSteps.{noted-count, noted-left, missed-left, holding-left}
-use Rattle.refinement.proofs.MemoryReads.{length-answers, wide-in, records-held, rows-held, answers-held}
+use Rattle.refinement.proofs.PhaseSteps.{noted-count, noted-left, missed-left, holding-left, mostOf}
+use Rattle.refinement.proofs.MemoryReads.{length-records, length-answers, wide-in, records-held, rows-held, answers-held}
 use Rattle.refinement.proofs.StatesAfter.{After, Simulated, simulated, as-it-was, at-store, at-filed, then-now, then-idle}
 use Rattle.refinement.proofs.RefusedCalls.{refused-simulated}
-use Rattle.refinement.proofs.AnswersRefined.{in-map, map-in, serves-holds, map-filed, wide-filed, in-filed, length-filed}
+use Rattle.refinement.proofs.AnswersRefined.{in-map, map-in, serves-counts, serves-holds, map-filed, wide-filed, in-filed, length-filed}
 use Rattle.refinement.proofs.StepFrame.{entryAt, stepsAt, client-at, answered-simulated, whole-entry}
 
 module _ (m : Mem) (f : Fits m) (once : NoDup (storeIn narrow (m .nodes) .nodes)) (tray : List ℕ) (d : ℕ) (low : d < maxClients)
@@ -50,6 +52,16 @@ module _ (m : Mem) (f : Fits m) (once : NoDup (storeIn narrow (m .nodes) .nodes)
   asks : askIn (shape m) (keyIn (entryAt m d)) ≡ x
   unfolding askAt
   asks = asks-at b
+
+  -- what it wants; an entry that wants the same is whole by that
+  counts-is : countsAt m (step d) ≡ x .counts
+  unfolding countsAt
+  counts-is = asked-counts b
+
+  whole-served : (e : Entry) → length e ≡ entryWidth narrow → isLong e ≡ false → isCount e ≡ isCount (entryAt m d)
+      → Whole (shape m) (countsAt m (step d)) (valueIn narrow (shape m) e)
+  unfolding countsAt
+  whole-served e w s i = rw (← i) (whole-entry (shape m) e w (f .few) s)
 
   -- how many nodes it has; the revisions noted so far, and at all of them
   abbrev looks : ℕ
@@ -112,7 +124,7 @@ module _ (m : Mem) (f : Fits m) (once : NoDup (storeIn narrow (m .nodes) .nodes)
   served = serves narrow looks (entryAt m d)
 
   served-holds : (e : Entry) → In e entries → holds-for x all-noted (ansOf (shape m) e) ≡ served e
-  served-holds e i = serves-holds (shape m) (entryAt m d) x asks (busy-key b) e (f .kept e i .key)
+  served-holds e i = serves-holds (shape m) (entryAt m d) x asks (busy-ask b) e (f .kept e i .key)
 
   -- none serves
   none-holds : length entries ≤ place served entries → (a : Ans) → In a (stateOf m .filed) → holds-for x all-noted a ≡ false
@@ -132,7 +144,7 @@ module _ (m : Mem) (f : Fits m) (once : NoDup (storeIn narrow (m .nodes) .nodes)
       let w = wide-in (entryWidth narrow) (answers-held m f) j in
       let z : served (getD entries i []) ≡ true = rw is (place-at served entries [] (rw is at h)) in
       answered-simulated tray d (valueIn narrow (shape m) (getD entries i [])) true (as-it-was m f) low
-      (whole-entry (shape m) (getD entries i []) w (f .few) (f .kept (getD entries i []) j .short))
+      (whole-served (getD entries i []) w (f .kept (getD entries i []) j .short) (serves-counts looks (entryAt m d) (getD entries i []) z))
       (transition.hit low (fetch-phase false e s) looks-done (map-in (ansOf (shape m)) j) (served-holds (getD entries i []) j ∙ z))
 
   fetch-simulated : stepsAt m d ≡ looks
@@ -154,20 +166,43 @@ module _ (m : Mem) (f : Fits m) (once : NoDup (storeIn narrow (m .nodes) .nodes)
   abbrev listed : Value
   listed = valueOf x (stateOf m .tab)
 
-  whole-listed : Whole (shape m) listed
-  unfolding valueOf ofRecords listOf stateOf
-  whole-listed = length-flat (columns m) _ (wide-keep (columns m) (lies (x .query)) (recordsIn (columns m) (m .table)) (records-held m f))
+  abbrev matching : List Record
+  matching = listOf (x .query) (recordsIn (columns m) (m .table))
 
-  may-short : mayAnswer x listed ≡ true → listed .count ≤ maxList
-  unfolding mayAnswer
-  may-short e = leb-true _ _ e
+  whole-of : (counts : Bool) → Whole (shape m) counts (cond counts (ofNumber matching) (ofRecords matching))
+  unfolding ofNumber ofRecords listOf
+  whole-of true = refl
+  whole-of false = length-flat (columns m) _ (wide-keep (columns m) (lies (x .query)) (recordsIn (columns m) (m .table)) (records-held m f))
+
+  whole-listed : Whole (shape m) (x .counts) listed
+  unfolding valueOf stateOf
+  whole-listed = whole-of (x .counts)
+
+  -- no more than the table has, and of a list no more than may be answered
+  few-records : length matching ≤ maxRecords
+  unfolding listOf
+  few-records =
+      let a = keep-le (lies (x .query)) (recordsIn (columns m) (m .table)) in
+      let b = length-records (columns m) (m .table) in
+      let c = f .records in
+      omega arith
+
+  short-of : (counts : Bool) → counts || leb (cond counts (ofNumber matching) (ofRecords matching) .count) maxList ≡ true
+      → cond counts (ofNumber matching) (ofRecords matching) .count ≤ cond counts maxRecords maxList
+  unfolding ofNumber ofRecords
+  short-of true e = few-records
+  short-of false e = leb-true _ _ e
+
+  may-short : mayAnswer x listed ≡ true → listed .count ≤ mostOf x
+  unfolding mayAnswer valueOf stateOf
+  may-short e = short-of (x .counts) e
 
   table-simulated : stepsAt m d ≡ looks + 1 → Simulated m (step d) (tableResult m tray d x listed)
   unfolding tableResult responseIn
   table-simulated e =
       byTest (mayAnswer x listed)
       (λ t. byTest (sawPending (client m d))
-      (λ s. rw (t, s) (answered-simulated tray d listed false (as-it-was m f) low whole-listed (transition.listed low (table-phase true e s) t)))
+      (λ s. rw (t, s) (answered-simulated tray d listed false (as-it-was m f) low (rw (counts-is) whole-listed) (transition.listed low (table-phase true e s) t)))
       (λ s. rw (t, s) (simulated Accepted tray
       (then-now (as-it-was m f) d low (holding-left b listed whole-listed (may-short t) e))
       (transition.took low (table-phase false e s) t))))
@@ -185,12 +220,12 @@ module _ (m : Mem) (f : Fits m) (once : NoDup (storeIn narrow (m .nodes) .nodes)
   kept-filed : (e : Entry) → In e refiled → Kept (shape m) e
   kept-filed e i = elim (in-filed (entryAt m d) entries e i) [
     | inl j ↦ f .kept e j
-    | inr j ↦ rw j (record { key = busy-key b; short = busy-short b })
+    | inr j ↦ rw j (record { key = busy-ask b; short = b .short })
   ]
 
   filed-is : map (ansOf (shape m)) refiled ≡ filed-in x all-noted held (stateOf m .filed)
   unfolding stateOf filedOf
-  filed-is = map-filed (shape m) (entryAt m d) x asks (busy-key b) entries (λ e i. f .kept e i .key)
+  filed-is = map-filed (shape m) (entryAt m d) x asks (busy-ask b) entries (λ e i. f .kept e i .key)
 
   filed-after : After m (withFiled m (withAnswers narrow (m .answers) refiled)) (with-filed (stateOf m) (filed-in x all-noted held (stateOf m .filed)))
   filed-after =
@@ -204,7 +239,7 @@ module _ (m : Mem) (f : Fits m) (once : NoDup (storeIn narrow (m .nodes) .nodes)
   unfolding fileResult
   file-simulated h =
       answered-simulated tray d held false filed-after low
-      (whole-entry (shape m) (entryAt m d) (length-entry (client m d) (b .wide)) (b .most) (busy-short b))
+      (whole-served (entryAt m d) (length-entry (client m d) (b .wide)) (b .short) refl)
       (transition.filed low (client-at m d low ∙ filing-phase b h))
 
   -- ---- A step of a read

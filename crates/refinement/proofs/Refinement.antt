@@ -1,6 +1,7 @@
 -- Every call on memories that fit is a step of the machine, and leaves memories that fit, with the same shape. Leans on ReadRefined, WriteRefined and
 -- OthersRefined. Assumes nothing.
 use mathlib.Core.Path.{_≡_, refl}
+use mathlib.Core.Bool.{Bool}
 use mathlib.Core.List.{List}
 use Prim.Native.Nat.{ℕ, _<_}
 use lib.Dec.{eqb}
@@ -22,7 +23,7 @@ use Rattle.rules.proofs.PassedChecks.{step-passed}
 use Rattle.revisions.specs.EffectiveRevision.{NoDup}
 use Rattle.machine.specs.Transition.{Transition}
 use Rattle.machine.specs.Machine as machine
-use Rattle.refinement.proofs.Abstraction.{stateOf, callOf, responseIn, responseOf, Fits}
+use Rattle.refinement.proofs.Abstraction.{stateOf, callOf, responseIn, responseOf, countsAt, Fits}
 use Rattle.refinement.proofs.StatesAfter.{Simulated}
 use Rattle.refinement.proofs.RefusedCalls.{refused-simulated, step-low}
 use Rattle.refinement.proofs.ReadRefined.{read-simulated}
@@ -54,7 +55,7 @@ call-simulated m (evictNode i) f once = evict-node-simulated m i f once
 call-simulated m renew f once = renew-simulated m f
 
 pub refines : (m : Mem) (c : Call) → Fits m → NoDup (storeIn narrow (m .nodes) .nodes)
-    → Transition (stateOf m) (callOf (shape m) c) (responseOf (shape m) (callResult m c)) (stateOf (callResult m c .mem)) × Fits (callResult m c .mem)
+    → Transition (stateOf m) (callOf (shape m) c) (responseOf (shape m) (countsAt m (callOf (shape m) c)) (callResult m c)) (stateOf (callResult m c .mem)) × Fits (callResult m c .mem)
 refines m c f once = let l = call-simulated m c f once in (l .transition, l .fits)
 
 -- the shape stays
@@ -62,15 +63,15 @@ pub shape-stays : (m : Mem) (c : Call) → Fits m → NoDup (storeIn narrow (m .
 shape-stays m c f once = call-simulated m c f once .same
 
 -- ---- The number that a call returns is the machine's
-out-number : (sh : Shape) (tray : List ℕ) (o : Outcome) → machine.number (responseIn sh tray o) ≡ number o
+out-number : (sh : Shape) (counts : Bool) (tray : List ℕ) (o : Outcome) → machine.number (responseIn sh counts tray o) ≡ number o
 unfolding machine.number responseIn number
-out-number sh tray (Refused n) = refl
-out-number sh tray Accepted = refl
-out-number sh tray (Answered n b) = refl
-out-number sh tray Long = refl
-out-number sh tray (Ended b) = refl
-out-number sh tray Full = refl
+out-number sh counts tray (Refused n) = refl
+out-number sh counts tray Accepted = refl
+out-number sh counts tray (Answered n b) = refl
+out-number sh counts tray Long = refl
+out-number sh counts tray (Ended b) = refl
+out-number sh counts tray Full = refl
 
-pub number-is : (sh : Shape) (x : StepResult) → machine.number (responseOf sh x) ≡ number (x .out)
+pub number-is : (sh : Shape) (counts : Bool) (x : StepResult) → machine.number (responseOf sh counts x) ≡ number (x .out)
 unfolding responseOf
-number-is sh x = out-number sh (x .tray) (x .out)
+number-is sh counts x = out-number sh counts (x .tray) (x .out)

@@ -54,7 +54,7 @@ low false n rest h k = k
 
 fault-low : (sh : Shape) (r : Request) → faultOf sh r ≤ 11
 unfolding faultOf
-fault-low sh (readOf a) = low (isQuery sh a) 0 2 (omega arith) (omega arith)
+fault-low sh (readOf counts a) = low (isQuery sh a) 0 2 (omega arith) (omega arith)
 fault-low sh (insertOf a) = low (isQuery sh a && namesAll (queryOf a)) 0 2 (omega arith) (omega arith)
 fault-low sh (deleteOf a) = low (isQuery sh a) 0 2 (omega arith) (omega arith)
 

@@ -13,10 +13,10 @@ use Rattle.laws.proofs.SearchLaws.{place-all}
 use Rattle.laws.proofs.Members.{in-at}
 use Rattle.query.specs.Encoding.{isQuery, namesAll, queryOf}
 use Rattle.query.specs.Shape.{narrow, Shape, maxColumns}
-use Rattle.rules.specs.Layout.{maxRecords, maxNodes, maxAnswers, maxClients, maxList, trayLeast, tableLeast, nodesLeast, answersLeast, clientsLeast}
+use Rattle.rules.specs.Layout.{maxRecords, maxNodes, maxAnswers, maxClients, trayLeast, tableLeast, nodesLeast, answersLeast, clientsLeast}
 use Rattle.rules.specs.Layout.{recordCountOffset, nodeCountOffset, answerCountOffset}
 use Rattle.rules.specs.Nodes.{isWorn, pending}
-use Rattle.rules.specs.Answers.{Entry, lengthIn, isLong, someLong}
+use Rattle.rules.specs.Answers.{Entry, isLong, someLong}
 use Rattle.rules.specs.Client.{isIdle, isBad}
 use Rattle.rules.specs.Memory.{Mem, storeIn, answersIn}
 use Rattle.rules.specs.Refusals.{columns, client, isShort, badColumns, isUnsound, noClient, isCommitted, allIdle, atClient, beginCode, stepCode, abandonCode}
@@ -37,10 +37,10 @@ module _ (m : Mem) (f : Fits m) where
       ) refl
 
   none-long : someLong (answersIn narrow (m .answers)) ≡ false
-  unfolding someLong isLong
+  unfolding someLong
   none-long =
       let es : List Entry = answersIn narrow (m .answers) in
-      let a = place-all isLong es [] (λ j l. le-ltb maxList (lengthIn (getD es j [])) (f .kept (getD es j []) (in-at [] es j l) .short)) in
+      let a = place-all isLong es [] (λ j l. f .kept (getD es j []) (in-at [] es j l) .short) in
       rw a (le-ltb (length es) (length es) (omega arith))
 
   sound : isUnsound m ≡ false
@@ -71,7 +71,7 @@ unmet b n rest e k = no-three b n rest (λ t. clash t e) (λ t. k)
 
 fault-sound : (sh : Shape) (r : Request) → faultOf sh r ≡ 3 → ⊥
 unfolding faultOf
-fault-sound sh (readOf a) = other (isQuery sh a) 0 2 (λ e. omega arith) (λ e. omega arith)
+fault-sound sh (readOf counts a) = other (isQuery sh a) 0 2 (λ e. omega arith) (λ e. omega arith)
 fault-sound sh (insertOf a) = other (isQuery sh a && namesAll (queryOf a)) 0 2 (λ e. omega arith) (λ e. omega arith)
 fault-sound sh (deleteOf a) = other (isQuery sh a) 0 2 (λ e. omega arith) (λ e. omega arith)
 

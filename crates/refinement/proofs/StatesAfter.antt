@@ -28,7 +28,7 @@ use Rattle.revisions.proofs.NodeRows.{AllRows}
 use Rattle.machine.specs.Machine.{upd, Phase, idle, State, Call, at-client, with-store, with-filed, with-tab}
 use Rattle.machine.specs.Transition.{Transition}
 use Rattle.machine.proofs.Sums.{upd-same, upd-other}
-use Rattle.refinement.proofs.Abstraction.{answers-room, ansOf, phasesOf, filedOf, stateOf, responseIn, responseOf, Kept, Fits}
+use Rattle.refinement.proofs.Abstraction.{answers-room, ansOf, phasesOf, filedOf, stateOf, responseIn, responseOf, countsAt, Kept, Fits}
 use Rattle.refinement.proofs.ClientPhases.{Left, idle-left}
 use Rattle.refinement.proofs.MemoryReads.{records-with, length-with-records, count-records, store-with, length-with-store, count-nodes}
 use Rattle.refinement.proofs.MemoryReads.{answers-with, length-with-answers, count-answers, length-nodes}
@@ -41,11 +41,11 @@ pub record After (m n : Mem) (s : State) : Type 0 where
 
 -- what a call left: a step of the machine
 pub record Simulated (m : Mem) (c : Call) (x : StepResult) : Type 0 where
-  pub transition : Transition (stateOf m) c (responseOf (shape m) x) (stateOf (x .mem))
+  pub transition : Transition (stateOf m) c (responseOf (shape m) (countsAt m c) x) (stateOf (x .mem))
   pub fits : Fits (x .mem)
   pub same : shape (x .mem) ≡ shape m
 
-pub simulated : {m n : Mem} {s : State} {c : Call} (o : Outcome) (tray : List ℕ) → After m n s → Transition (stateOf m) c (responseIn (shape m) tray o) s
+pub simulated : {m n : Mem} {s : State} {c : Call} (o : Outcome) (tray : List ℕ) → After m n s → Transition (stateOf m) c (responseIn (shape m) (countsAt m c) tray o) s
     → Simulated m c (resultWith o n tray)
 unfolding responseOf
 simulated o tray a x = record { transition = rw (a .state) x; fits = a .fits; same = a .same }

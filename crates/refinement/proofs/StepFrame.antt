@@ -1,7 +1,7 @@
 -- What every step leans on: the desk that goes, marks taken off, and the tray. Leans on StatesAfter, ClientPhases and MemoryReads. Assumes nothing.
-use mathlib.Core.Path.{_≡_, _∙_}
+use mathlib.Core.Path.{_≡_, refl, sym, _∙_}
 use mathlib.Core.Option.{Option, none, some}
-use mathlib.Core.Bool.{Bool, false}
+use mathlib.Core.Bool.{Bool, true, false}
 use mathlib.Core.List.{List}
 use Prim.Native.Nat.{ℕ, _*_, _≤_, _<_}
 use native.Mathlib.Omega.{arith}
@@ -9,25 +9,27 @@ use lib.ListN.{length, drop, length-drop}
 use lib.Seq.{length-take-le}
 use borrow.Author.Tests.{lt-ltb}
 use Rattle.lists.specs.Lists.{written}
+use Rattle.laws.proofs.TestLaws.{byTest}
 use Rattle.laws.proofs.WrittenLaws.{written-read}
 use Rattle.query.specs.Shape.{Shape, narrow, maxColumns}
-use Rattle.rules.specs.Layout.{maxClients, listOffset, entryWidth, maxList}
+use Rattle.rules.specs.Layout.{maxClients, listOffset, entryWidth}
 use Rattle.rules.specs.declared.Outcome.the-variants.{Answered}
 use Rattle.rules.specs.Work.{Value, Write, writing, writeLabels}
-use Rattle.rules.specs.Answers.{Entry, lengthIn, listIn, valueIn}
+use Rattle.rules.specs.Answers.{Entry, lengthIn, isCount, isLong, listIn, valueIn}
 use Rattle.rules.specs.Client.{steps, entryOf, isIdle, workAt}
 use Rattle.rules.specs.Memory.{Mem, storeIn}
-use Rattle.rules.specs.Refusals.{columns, client, shape}
+use Rattle.rules.specs.Refusals.{client, shape}
 use Rattle.rules.specs.Nodes.{Words, Store, retired}
 use Rattle.rules.specs.Steps.{storeBack}
 use Rattle.rules.specs.Steps as rules-steps
 use Rattle.rules.specs.Sound.{Busy}
-use Rattle.rules.proofs.ClientLaws.{busy-of, client-wide, list-room}
+use Rattle.rules.proofs.ClientLaws.{busy-of, client-wide, list-room, list-short}
+use Rattle.rules.proofs.HoldingLaws.{Whole}
 use Rattle.revisions.specs.EffectiveRevision.{NoDup, Retired}
 use Rattle.revisions.proofs.NodeOperations.{RetiredOk, retired-ok}
 use Rattle.machine.specs.Machine.{idle, State, Call, answered, at-client, with-store, announcing}
 use Rattle.machine.specs.Transition.{Transition}
-use Rattle.refinement.proofs.Abstraction.{phaseOf, phasesOf, stateOf, responseIn, Fits, Whole}
+use Rattle.refinement.proofs.Abstraction.{phaseOf, phasesOf, stateOf, said, responseIn, countsAt, Fits}
 use Rattle.refinement.proofs.ClientPhases.{announcing-phase}
 use Rattle.refinement.proofs.MemoryReads.{rows-held}
 use Rattle.refinement.proofs.StatesAfter.{After, Simulated, simulated, at-store, then-idle}
@@ -68,15 +70,22 @@ by-retired m f once lift ps P z s =
     go (some t) k = s t (k .0) (at-store m f t (k .1) (λ l. let e = k .2 in omega arith))
 
 -- ---- An answer
-pub answered-simulated : {m n : Mem} {s : State} {c : Call} (tray : List ℕ) (d : ℕ) (v : Value) (cached : Bool) → After m n s → d < maxClients → Whole (shape m) v
+-- what the tray says of what was written there
+pub told : (sh : Shape) (b : Bool) (tray : List ℕ) (v : Value) → Whole sh b v → said sh b (written tray 0 (v .numbers)) (v .count) ≡ v
+told sh true tray v e = λ i. record { count = v .count; numbers = sym e i }
+told sh false tray v e = λ i. record { count = v .count; numbers = written-read tray (v .numbers) (v .count * sh .columns) e i }
+
+pub answered-simulated : {m n : Mem} {s : State} {c : Call} (tray : List ℕ) (d : ℕ) (v : Value) (cached : Bool) → After m n s → d < maxClients → Whole (shape m) (countsAt m c) v
     → Transition (stateOf m) c (answered v cached) (at-client s d idle) → Simulated m c (rules-steps.answered n tray d v cached)
 unfolding rules-steps.answered responseIn
-answered-simulated {m} tray d v cached a h e y =
-    simulated (Answered (v .count) cached) (written tray 0 (v .numbers)) (then-idle a d h) (rw (written-read tray (v .numbers) (v .count * columns m) e) y)
+answered-simulated {m} {c = c} tray d v cached a h e y =
+    simulated (Answered (v .count) cached) (written tray 0 (v .numbers)) (then-idle a d h) (rw (told (shape m) (countsAt m c) tray v e) y)
 
 -- what an entry keeps is of the hall
-pub whole-entry : (sh : Shape) (e : Entry) → length e ≡ entryWidth narrow → sh .columns ≤ maxColumns → lengthIn e ≤ maxList → Whole sh (valueIn narrow sh e)
+pub whole-entry : (sh : Shape) (e : Entry) → length e ≡ entryWidth narrow → sh .columns ≤ maxColumns → isLong e ≡ false → Whole sh (isCount e) (valueIn narrow sh e)
 unfolding valueIn listIn
 whole-entry sh e w few short =
-    let h = list-room (lengthIn e) (sh .columns) short few in
-    length-take-le (lengthIn e * sh .columns) (drop (listOffset narrow sh) e) (rw length-drop (omega arith))
+    byTest (isCount e)
+    (λ t. rw t refl)
+    (λ t. let h = list-room (lengthIn e) (sh .columns) (list-short e t short) few in
+    rw t (length-take-le (lengthIn e * sh .columns) (drop (listOffset narrow sh) e) (rw length-drop (omega arith))))

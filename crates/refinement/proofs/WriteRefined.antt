@@ -26,7 +26,7 @@ use Rattle.revisions.specs.EffectiveRevision.{NoDup, Retired}
 use Rattle.revisions.proofs.NodeOperations.{AnnouncedOk, announced-ok}
 use Rattle.machine.specs.Machine.{idle, step, write-end, at-client, with-store, WriteFits, raising}
 use Rattle.machine.specs.Transition as transition
-use Rattle.refinement.proofs.Abstraction.{stateOf, responseIn, Fits}
+use Rattle.refinement.proofs.Abstraction.{stateOf, responseIn, countsAt, Fits}
 use Rattle.refinement.proofs.ClientPhases.{fits-at, raising-phase}
 use Rattle.refinement.proofs.PhaseSteps.{announced-left, wrote-left, raised-left}
 use Rattle.refinement.proofs.MemoryReads.{length-records, records-held, rows-held}
@@ -72,7 +72,7 @@ module _ (m : Mem) (f : Fits m) (once : NoDup (storeIn narrow (m .nodes) .nodes)
 
   -- ---- A raise
   -- what the last one returns
-  end-is : responseIn (shape m) tray (endOf (client m d)) ≡ write-end (didChange (client m d)) (foundFull (client m d))
+  end-is : responseIn (shape m) (countsAt m (step d)) tray (endOf (client m d)) ≡ write-end (didChange (client m d)) (foundFull (client m d))
   unfolding responseIn endOf write-end
   end-is = byTest (foundFull (client m d)) (λ e. rw e) (λ e. rw e)
 

@@ -1,5 +1,5 @@
--- Document 01, "On each side of a line": cases 1 to 12 as rows of one table, with one computed test. Rows 1 to 5 are those that query
--- states about nodes; 6 to 12 are played on memories of full size that held other numbers before the opening.
+-- Document 01, "On each side of a line": cases 1 to 12 as rows of one table, and S-1's counts beside case 10, with one computed test. Rows
+-- 1 to 5 are those that query states about nodes; 6 to 12 are played on memories of full size that held other numbers before the opening.
 -- Leans on the rules' definitions. Assumes nothing.
 use mathlib.Core.Bool.{Bool, true, false, not, _&&_}
 use mathlib.Core.List.{List, [], _∷_, _++_}
@@ -9,14 +9,14 @@ use lib.ListN.{length, getD, take, drop, set, replicate}
 use Rattle.lists.specs.Lists.{same, before, keep, place, without, allBelow, listed, padded, written, rows, flat, entriesIn, withEntries}
 use Rattle.query.specs.Query.{admits, lies, naming, pick, readNode, writeNode, named, readCount, writeCount, readNodes, writeNodes, value, Label}
 use Rattle.query.specs.Sheet.{turned, looks, sheetEntry, wildcardsIn, wildcardsOf}
-use Rattle.query.specs.Encoding.{columnOf, queryOf, wellMarked, isQuery, namesAll, recordOf, termValue, columnValue, tag, tags, labelWords, marks, keyWords, columnsIn, queryIn}
+use Rattle.query.specs.Encoding.{columnOf, queryOf, wellMarked, isQuery, namesAll, recordOf, termValue, columnValue, tag, tags, labelWords, marks, keyWords, columnsIn, queryIn, countsIn, countKey, bareKey}
 use Rattle.query.proofs.NodeCases as nodes
 use Rattle.rules.specs.declared.Outcome.{Outcome}
 use Rattle.rules.specs.declared.Outcome.the-variants.{Refused, Accepted, Answered, Long, Ended, Full}
 use Rattle.rules.specs.Table.{listOf, has, putIn, target, isFull, outside, effect, noRoom, changes}
-use Rattle.rules.specs.Work.{readOf, insertOf, ofRecords, valueOf, mayAnswer, readLabels, askKey, askIn, writeLabels, changeKind, kindOf, keyOf, changeIn, writeIn, workIn, stepsInAll, isWrite, askOf, workOf, faultOf}
+use Rattle.rules.specs.Work.{readOf, insertOf, ofRecords, ofNumber, valueOf, mayAnswer, readLabels, askKey, askIn, writeLabels, changeKind, kindOf, keyOf, changeIn, writeIn, workIn, stepsInAll, isWrite, askOf, workOf, faultOf}
 use Rattle.rules.specs.Nodes.{labelIn, pending, revision, withPending, withRevision, hasLabel, nodePlace, isPresent, nodeOf, withNode, evictNode, added, isFree, oldestFree, makeRoom, addedIn, ensured, announcedIn, announced, isPending, released, lifted, mayRetire, retired, isHigh, isWorn}
-use Rattle.rules.specs.Answers.{keyIn, lengthIn, revisionIn, listIn, valueIn, hasKeyOf, atLeast, serves, fetchPlace, keyPlace, filed, isLong, someLong}
+use Rattle.rules.specs.Answers.{keyIn, lengthIn, revisionIn, isCount, mostIn, listIn, valueIn, hasKeyOf, atLeast, serves, fetchPlace, keyPlace, filed, isLong, someLong}
 use Rattle.rules.specs.Client.{kind, steps, sawPending, didChange, foundFull, entryOf, idle, isIdle, begun, workAt, isBad, stepped, flag, noted, holding, wrote}
 use Rattle.rules.specs.Memory.{Mem, mem, withTable, withNodes, recordsIn, withRecords, storeIn, withStore, answersIn, withAnswers, clientIn, withClient, cleared, opened, renewed}
 use Rattle.rules.specs.Refusals.{columns, client, isShort, badColumns, isUnsound, noClient, isCommitted, allIdle, openCode, beginCode, atClient, stepCode, abandonCode, evictAnswerCode, evictNodeCode, renewCode}
@@ -45,6 +45,7 @@ floorAt x = withNodes (fresh 1) (set (fresh 1 .nodes) 0 x)
 pub data Expect : Type 0 where
   goesOn : Expect
   answers : List ℕ → Bool → Expect
+  counts : ℕ → Bool → Expect
   refuses : ℕ → Expect
   long : Expect
   ends : Bool → Expect
@@ -57,7 +58,7 @@ abbrev agree : Bool → Bool → Bool
 agree true b = b
 agree false b = not b
 
--- whether an outcome is the one expected; an answer's tray holds its list and is otherwise as it was, and after 12 it is as it was
+-- whether an outcome is the one expected; an answer's tray holds its list and is otherwise as it was, and after a count or 12 it is as it was
 abbrev meets : Expect → Outcome → List ℕ → Bool
 meets goesOn Accepted t = true
 meets goesOn (Refused n) t = false
@@ -71,6 +72,12 @@ meets (answers l f) (Answered n b) t = eqb n (length l) && (agree f b && same t 
 meets (answers l f) Long t = false
 meets (answers l f) (Ended b) t = false
 meets (answers l f) Full t = false
+meets (counts x f) Accepted t = false
+meets (counts x f) (Refused n) t = false
+meets (counts x f) (Answered n b) t = eqb n x && (agree f b && same t tray)
+meets (counts x f) Long t = false
+meets (counts x f) (Ended b) t = false
+meets (counts x f) Full t = false
 meets (refuses x) Accepted t = false
 meets (refuses x) (Refused n) t = eqb n x
 meets (refuses x) (Answered n b) t = false
@@ -143,7 +150,7 @@ abbrev one : ℕ → List ℕ
 one v = 1 ∷ v ∷ []
 
 abbrev read5 : ℕ → Line
-read5 d = does (begin d (readOf (one 5))) goesOn
+read5 d = does (begin d (readOf false (one 5))) goesOn
 
 abbrev inserts5 : ℕ → Bool → List Line
 inserts5 d changed = does (begin d (insertOf (one 5))) goesOn ∷ going d 4 ++ (does (step d tray) (ends changed) ∷ [])
@@ -185,13 +192,34 @@ abbrev numbers : ℕ → List ℕ
 numbers n = listed (λ i. i) 0 n
 
 abbrev readAll : Line
-readAll = does (begin 0 (readOf (0 ∷ 0 ∷ []))) goesOn
+readAll = does (begin 0 (readOf false (0 ∷ 0 ∷ []))) goesOn
 
 abbrev case-10-at : Row
 case-10-at = from (stocked (numbers 32)) ((readAll ∷ going 0 3) ++ (does (step 0 tray) (answers (numbers 32) false) ∷ []))
 
 abbrev case-10-above : Row
 case-10-above = from (stocked (numbers 33)) ((readAll ∷ going 0 2) ++ (does (step 0 tray) long ∷ readAll ∷ []))
+
+-- S-1, "counts past 32 without giving 12, and is filed like a list .. a count never serves a list, nor a list a count": of 33 records; and
+-- of 32, where a count is filed and the list goes to the table, a list is filed and the count does, and each is used from file after that
+abbrev countAll : Line
+countAll = does (begin 0 (readOf true (0 ∷ 0 ∷ []))) goesOn
+
+abbrev case-count-above : Row
+case-count-above = from (stocked (numbers 33))
+    ((countAll ∷ going 0 3) ++ (does (step 0 tray) (counts 33 false) ∷ countAll ∷ going 0 1) ++ (does (step 0 tray) (counts 33 true) ∷ []))
+
+abbrev used-from-file : List Line
+used-from-file =
+    (filed-count 2 ∷ countAll ∷ going 0 1) ++ (does (step 0 tray) (counts 32 true) ∷ readAll ∷ going 0 1) ++ (does (step 0 tray) (answers (numbers 32) true) ∷ [])
+
+abbrev case-count-beside : Row
+case-count-beside = from (stocked (numbers 32))
+    ((countAll ∷ going 0 3) ++ (does (step 0 tray) (counts 32 false) ∷ readAll ∷ going 0 3) ++ (does (step 0 tray) (answers (numbers 32) false) ∷ []) ++ used-from-file)
+
+abbrev case-list-beside : Row
+case-list-beside = from (stocked (numbers 32))
+    ((readAll ∷ going 0 3) ++ (does (step 0 tray) (answers (numbers 32) false) ∷ countAll ∷ going 0 3) ++ (does (step 0 tray) (counts 32 false) ∷ []) ++ used-from-file)
 
 -- 11. Table of 2,048: inserting one already there ends unchanged; a new one gives 13.
 abbrev case-11 : Row
@@ -203,7 +231,7 @@ abbrev case-12-at : Row
 case-12-at = from (raisedTo 4294967103) (does (begin 0 (insertOf (one 5))) goesOn ∷ [])
 
 abbrev case-12-above : Row
-case-12-above = from (raisedTo 4294967104) (does (begin 0 (insertOf (one 5))) (refuses 10) ∷ does (begin 0 (readOf (one 5))) goesOn ∷ [])
+case-12-above = from (raisedTo 4294967104) (does (begin 0 (insertOf (one 5))) (refuses 10) ∷ does (begin 0 (readOf false (one 5))) goesOn ∷ [])
 
 abbrev case-12-floor : List Row
 case-12-floor =
@@ -213,8 +241,8 @@ case-12-floor =
 abbrev pub cases : List Row
 cases =
     stated nodes.cases
-    ++ (case-6 ∷ case-7 ∷ case-8 ∷ case-9 ∷ case-10-at ∷ case-10-above ∷ case-11 ∷ case-12-at ∷ case-12-above ∷ case-12-floor)
+    ++ (case-6 ∷ case-7 ∷ case-8 ∷ case-9 ∷ case-10-at ∷ case-10-above ∷ case-count-above ∷ case-count-beside ∷ case-list-beside ∷ case-11 ∷ case-12-at ∷ case-12-above ∷ case-12-floor)
 
 pub cases-1-to-12 : T (all cases)
-unfolding readNodes writeNodes sheetEntry turned looks wildcardsOf wildcardsIn same keep place without allBelow listed padded written rows flat entriesIn withEntries admits lies naming pick readNode writeNode named readCount writeCount columnOf queryOf wellMarked isQuery namesAll recordOf termValue columnValue tag tags labelWords marks keyWords columnsIn queryIn listOf before has putIn target isFull outside effect noRoom changes labelIn pending revision withPending withRevision hasLabel nodePlace isPresent nodeOf withNode evictNode added isFree oldestFree makeRoom addedIn ensured announcedIn announced isPending released lifted mayRetire retired isHigh isWorn keyIn lengthIn revisionIn listIn valueIn hasKeyOf atLeast serves fetchPlace keyPlace filed isLong someLong kind steps sawPending didChange foundFull entryOf idle isIdle begun workAt isBad stepped flag noted holding wrote recordsIn withRecords storeIn withStore answersIn withAnswers clientIn withClient cleared opened renewed columns client isShort badColumns isUnsound noClient isCommitted allIdle openCode beginCode atClient stepCode abandonCode evictAnswerCode evictNodeCode renewCode nowAt storeBack answered lookResult fetchResult tableResult fileResult readResult announceResult writeTableResult endOf raiseResult writeResult progressOf progress unless openResult beginResult stepResult releaseResult abandonedOf abandoned abandonResult evictAnswerResult evictNodeResult renewResult untrayed callResult ofRecords valueOf mayAnswer readLabels askKey askIn writeLabels changeKind kindOf keyOf changeIn writeIn workIn stepsInAll isWrite askOf workOf faultOf
+unfolding readNodes writeNodes sheetEntry turned looks wildcardsOf wildcardsIn same keep place without allBelow listed padded written rows flat entriesIn withEntries admits lies naming pick readNode writeNode named readCount writeCount columnOf queryOf wellMarked isQuery namesAll recordOf termValue columnValue tag tags labelWords marks keyWords columnsIn queryIn countsIn countKey bareKey listOf before has putIn target isFull outside effect noRoom changes labelIn pending revision withPending withRevision hasLabel nodePlace isPresent nodeOf withNode evictNode added isFree oldestFree makeRoom addedIn ensured announcedIn announced isPending released lifted mayRetire retired isHigh isWorn keyIn lengthIn revisionIn isCount mostIn listIn valueIn hasKeyOf atLeast serves fetchPlace keyPlace filed isLong someLong kind steps sawPending didChange foundFull entryOf idle isIdle begun workAt isBad stepped flag noted holding wrote recordsIn withRecords storeIn withStore answersIn withAnswers clientIn withClient cleared opened renewed columns client isShort badColumns isUnsound noClient isCommitted allIdle openCode beginCode atClient stepCode abandonCode evictAnswerCode evictNodeCode renewCode nowAt storeBack answered lookResult fetchResult tableResult fileResult readResult announceResult writeTableResult endOf raiseResult writeResult progressOf progress unless openResult beginResult stepResult releaseResult abandonedOf abandoned abandonResult evictAnswerResult evictNodeResult renewResult untrayed callResult ofRecords ofNumber valueOf mayAnswer readLabels askKey askIn writeLabels changeKind kindOf keyOf changeIn writeIn workIn stepsInAll isWrite askOf workOf faultOf
 cases-1-to-12 = tt

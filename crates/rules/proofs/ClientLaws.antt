@@ -14,17 +14,17 @@ use Rattle.lists.specs.Lists.{same, written}
 use Rattle.laws.proofs.ListLaws.{same-refl, same-eq}
 use Rattle.laws.proofs.TestLaws.{byTest, or-false}
 use Rattle.laws.proofs.WrittenLaws.{drop-take, take-written, drop-written, drop-of-written, getD-before, length-written}
-use Rattle.query.specs.Encoding.{queryIn, isKey, namesAll, labelWords}
+use Rattle.query.specs.Encoding.{queryIn, isKey, namesAll, labelWords, countsIn, bareKey}
 use Rattle.query.specs.Shape.{Shape, maxColumns, narrow}
 use Rattle.rules.specs.Layout.{maxList, columnsOffset, listRoom, clientWidth, clientOffset, reads, inserts, deletes}
-use Rattle.rules.specs.Answers.{keyIn, lengthIn, isLong}
+use Rattle.rules.specs.Answers.{keyIn, lengthIn, isCount, mostIn, isLong}
 use Rattle.rules.specs.Client.{Client, kind, steps, entryOf, queryAt, askAt, writeAt, workAt, isIdle, isBad}
 use Rattle.rules.specs.Sound.{Busy}
 use Rattle.rules.specs.Table.{Change, insert, delete, target}
-use Rattle.rules.specs.Work.{Ask, askIn, readLabels, Write, writeIn, writeLabels, Work, asking, writing, changeKind, kindOf, changeIn, workIn, keyOf, stepsInAll}
-use Rattle.rules.proofs.WorkLaws.{key-same, length-readLabels, length-writeLabels, read-label-at, write-label-at, target-length}
+use Rattle.rules.specs.Work.{Ask, askIn, isAskKey, readLabels, Write, writeIn, writeLabels, Work, asking, writing, changeKind, kindOf, changeIn, workIn, keyOf, stepsInAll}
+use Rattle.rules.proofs.WorkLaws.{key-same, ask-key-bare, length-readLabels, length-writeLabels, read-label-at, write-label-at, target-length}
 use Rattle.query.specs.Query.{Query, readNode, writeNode, readCount, writeCount}
-use Rattle.query.proofs.EncodingLaws.{query-in-key, query-in-length}
+use Rattle.query.proofs.EncodingLaws.{query-in-key, query-in-length, bare-plain}
 use Rattle.rules.specs.Memory.{shapeIn, clientIn, withClient}
 
 -- ---- A sound client's kind
@@ -58,11 +58,13 @@ unfolding workAt
 kind-at sh c low high = kind-back sh (kind c) (keyIn (entryOf c)) low high
 
 -- ---- A sound, busy client
--- the key's part of the test, as the two tests that it stands for
-pub key-tests : (sh : Shape) (c : Client)
-    → not (same (keyIn (entryOf c)) (keyOf (workAt sh c))) ≡ not (isKey sh (keyIn (entryOf c))) || (eqb (kind c) inserts && not (namesAll (queryAt sh c)))
+-- the key's part of the test, as the three tests that it stands for
+pub key-tests : (sh : Shape) (c : Client) → sh .columns ≤ maxColumns
+    → not (same (keyIn (entryOf c)) (keyOf (workAt sh c)))
+    ≡ not (isKey sh (bareKey (keyIn (entryOf c))))
+    || ((not (eqb (kind c) reads) && countsIn (keyIn (entryOf c))) || (eqb (kind c) inserts && not (namesAll (queryAt sh c))))
 unfolding workAt queryAt
-key-tests sh c = key-same sh (kind c) (keyIn (entryOf c))
+key-tests sh c h = key-same sh (kind c) (keyIn (entryOf c)) h
 
 pub busy-of : (sh : Shape) (c : Client) → 1 ≤ sh .columns → sh .columns ≤ maxColumns → length c ≡ clientWidth narrow
     → isBad narrow sh c ≡ false → isIdle narrow c ≡ false → Busy narrow sh c (workAt sh c)
@@ -100,16 +102,20 @@ busy-sound {sh} {c} {w} b =
     )
     (and-false (not (isIdle narrow c)))
 
--- at most as many records as are listed
-pub busy-short : {sh : Shape} {c : Client} {w : Work} → Busy narrow sh c w → lengthIn (entryOf c) ≤ maxList
-unfolding isLong
-busy-short {sh} {c} {w} b = ltb-false maxList (lengthIn (entryOf c)) (b .short)
-
--- its key is that of a query of the hall
-pub busy-key : {sh : Shape} {c : Client} {w : Work} → Busy narrow sh c w → isKey sh (keyIn (entryOf c)) ≡ true
+-- its key is that of a query of the hall, but for the bit that says "count"
+pub busy-key : {sh : Shape} {c : Client} {w : Work} → Busy narrow sh c w → isKey sh (bareKey (keyIn (entryOf c))) ≡ true
 busy-key {sh} {c} {w} b =
     let e : not (same (keyIn (entryOf c)) (keyOf (workAt sh c))) ≡ false = rw (b .work, b .key, same-refl (keyOf w)) in
-    not-false _ (or-false _ _ (sym (key-tests sh c) ∙ e) .0)
+    not-false _ (or-false _ _ (sym (key-tests sh c (b .most)) ∙ e) .0)
+
+-- and a reader's is that of an ask
+pub busy-ask : {sh : Shape} {c : Client} {w : Work} → Busy narrow sh c w → isAskKey sh (keyIn (entryOf c)) ≡ true
+busy-ask {sh} {c} b = ask-key-bare sh (keyIn (entryOf c)) ∙ busy-key b
+
+-- a list's entry that is not long has room for its records
+pub list-short : (e : List ℕ) → isCount e ≡ false → isLong e ≡ false → lengthIn e ≤ maxList
+unfolding isLong mostIn
+list-short e c h = ltb-false maxList (lengthIn e) (rw c at h)
 
 -- what a reader asks
 pub asks-at : {sh : Shape} {c : Client} {x : Ask} → Busy narrow sh c (asking x) → askAt sh c ≡ x
@@ -125,7 +131,11 @@ pub writes-at : {sh : Shape} {c : Client} {w : Write} → Busy narrow sh c (writ
 unfolding workAt workIn writeAt
 writes-at {sh} {c} {w} b = let z = (rw (ne-eqb (kind c) reads (no-reader b)) at (b .work)) in cc
 
--- the query of its key is the one that it reads, or whose subspace it changes
+-- what its key says is what it wants; the query of its key is the one that it reads, or whose subspace it changes
+pub asked-counts : {sh : Shape} {c : Client} {x : Ask} → Busy narrow sh c (asking x) → isCount (entryOf c) ≡ x .counts
+unfolding askAt askIn isCount
+asked-counts b = ap (λ (y : Ask). y .counts) (asks-at b)
+
 pub asked-query : {sh : Shape} {c : Client} {x : Ask} → Busy narrow sh c (asking x) → queryAt sh c ≡ x .query
 unfolding askAt askIn queryAt
 asked-query b = ap (λ (y : Ask). y .query) (asks-at b)
@@ -134,7 +144,7 @@ pub written-query : {sh : Shape} {c : Client} {w : Write} → Busy narrow sh c (
 unfolding queryAt keyOf writeAt writeIn
 written-query {sh} {c} {w} b =
     let l : length (target (w .change)) ≡ sh .columns = rw (← writes-at b) (target-length sh (kind c) (keyIn (entryOf c))) in
-    ap (queryIn sh) (b .key) ∙ query-in-key sh (target (w .change)) l
+    ap (queryIn sh) (ap bareKey (b .key) ∙ bare-plain (target (w .change)) (let z = b .most in omega arith)) ∙ query-in-key sh (target (w .change)) l
 
 -- ---- Its work, by the query of its key
 -- how many nodes it has
@@ -146,7 +156,7 @@ pub announcements-at : (sh : Shape) (c : Client) → length (writeLabels (writeA
 unfolding writeAt writeIn queryAt writeCount
 announcements-at sh c =
     length-writeLabels (writeAt sh c)
-    ∙ ap (λ (n : ℕ). 2 ^ n) (target-length sh (kind c) (keyIn (entryOf c)) ∙ sym (query-in-length sh (keyIn (entryOf c))))
+    ∙ ap (λ (n : ℕ). 2 ^ n) (target-length sh (kind c) (keyIn (entryOf c)) ∙ sym (query-in-length sh (bareKey (keyIn (entryOf c)))))
 
 pub steps-at : (sh : Shape) (c : Client)
     → stepsInAll (workAt sh c) ≡ cond (eqb (kind c) reads) (readCount (queryAt sh c) + 3) (writeCount (queryAt sh c) + 1 + writeCount (queryAt sh c))

@@ -137,9 +137,9 @@ query-good : (b : Bool) → cond b 0 refusedColumns ≡ 0 → b ≡ true
 query-good true e = refl
 query-good false e = absurd (omega arith)
 
-pub read-good : (sh : Shape) (a : List ℕ) → faultOf sh (readOf a) ≡ 0 → isQuery sh a ≡ true
+pub read-good : (sh : Shape) (counts : Bool) (a : List ℕ) → faultOf sh (readOf counts a) ≡ 0 → isQuery sh a ≡ true
 unfolding faultOf
-read-good sh a e = query-good (isQuery sh a) e
+read-good sh counts a e = query-good (isQuery sh a) e
 
 pub insert-good : (sh : Shape) (a : List ℕ) → faultOf sh (insertOf a) ≡ 0 → (isQuery sh a ≡ true) × (namesAll (queryOf a) ≡ true)
 unfolding faultOf

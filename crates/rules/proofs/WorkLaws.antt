@@ -3,26 +3,26 @@
 -- Leans on Work and on query's NodeLists and EncodingLaws. Assumes nothing.
 use mathlib.Core.Path.{_≡_, refl, sym, ap, subst, _∙_}
 use mathlib.Core.Logic.{_↔_}
-use mathlib.Core.Bool.{Bool, true, false, not, _&&_, _||_, false≢true}
+use mathlib.Core.Bool.{Bool, true, false, cond, not, _&&_, _||_, false≢true}
 use mathlib.Core.List.{List, [], _∷_}
-use Prim.Native.Nat.{ℕ, suc, _≤_, _<_}
+use Prim.Native.Nat.{ℕ, suc, _+_, _-_, _/_, _%_, _≤_, _<_}
 use native.Mathlib.Omega.{arith}
 use lib.Dec.{eqb}
-use borrow.Author.Tests.{eqb-true, eq-eqb, ne-eqb}
-use lib.ListN.{length, getD, length-map}
+use borrow.Author.Tests.{eqb-true, eqb-false, eq-eqb, ne-eqb}
+use lib.ListN.{length, getD, set, length-map, length-set}
 use Rattle.lists.specs.Lists.{same, In, here, there, isIn, someIn}
 use Rattle.laws.proofs.ListLaws.{same-eq, eq-same, getD-map}
 use Rattle.laws.proofs.TestLaws.{byTest, clash, or-left, or-right}
 use Rattle.query.specs.declared.Column.the-variants.{Is, Wildcard}
 use Rattle.query.specs.Shape.{Shape, maxColumns}
 use Rattle.query.specs.Query.{Query, Record, naming, named, readNode, writeNode, readCount, writeCount, readNodes, writeNodes}
-use Rattle.query.specs.Encoding.{labelWidth, labelWords, keyWords, queryIn, isKey, namesAll, recordOf}
+use Rattle.query.specs.Encoding.{labelWidth, labelWords, marks, keyWidth, keyWords, queryIn, isKey, namesAll, recordOf, countBit, countsIn, countKey, bareKey}
 use Rattle.query.proofs.NodeLists.{named-most, read-nodes-count, write-nodes-count, read-count-most, write-count-most, write-count-least, read-nodes-at, write-nodes-at, read-node-length, write-node-length, read-nodes-differ, write-nodes-differ}
-use Rattle.query.proofs.EncodingLaws.{label-words-length, label-words-injective, query-in-key, query-in-length}
+use Rattle.query.proofs.EncodingLaws.{label-words-length, label-words-injective, key-words-length, query-in-key, query-in-length, counts-plain, counts-count, bare-plain, bare-count}
 use Rattle.rules.specs.Layout.{maxLooks, reads, inserts}
 use Rattle.rules.specs.Table.{insert, delete, target}
 use Rattle.rules.specs.Nodes.{Words}
-use Rattle.rules.specs.Work.{Ask, readLabels, askKey, askIn, Write, writeLabels, Shares, shares, keyOf, changeIn, writeIn, workIn}
+use Rattle.rules.specs.Work.{Ask, readLabels, askKey, askIn, isAskKey, Write, writeLabels, Shares, shares, keyOf, changeIn, writeIn, workIn}
 
 -- ---- How many
 -- "a read that names m columns has 2^m nodes"
@@ -181,10 +181,70 @@ query-key : (sh : Shape) (key : List ℕ) → not (same key (keyWords (queryIn s
 unfolding isKey
 query-key sh key = sym (or-none (not (same key (keyWords (queryIn sh key)))))
 
-pub key-same : (sh : Shape) (kind : ℕ) (key : List ℕ)
-    → not (same key (keyOf (workIn sh kind key))) ≡ not (isKey sh key) || (eqb kind inserts && not (namesAll (queryIn sh key)))
-unfolding keyOf workIn askKey askIn writeIn changeIn target
-key-same sh kind key = byTest (eqb kind reads)
+-- ---- What is wanted
+-- a key that says "count" has the bit
+count-above : (m : ℕ) → eqb (m / countBit % 2) 1 ≡ true → countBit ≤ m
+count-above m e = let z = eqb-true (m / countBit % 2) 1 e in omega arith
+
+-- a bit more on both sides, or on none
+above-same : (m n : ℕ) → countBit ≤ m → eqb m (n + countBit) ≡ eqb (m - countBit) n
+above-same m n h = byTest (eqb (m - countBit) n)
+    (λ e. let z = eqb-true (m - countBit) n e in rw e (eq-eqb m (n + countBit) (omega arith)))
+    (λ e. let z = eqb-false (m - countBit) n e in rw e (ne-eqb m (n + countBit) (λ y. z (omega arith))))
+
+count-same : (key : List ℕ) (q : Query) → countsIn key ≡ true → same key (countKey (keyWords q)) ≡ same (set key 0 (getD key 0 0 - countBit)) (keyWords q)
+unfolding countsIn countKey keyWords same
+count-same [] q e = refl
+count-same (m ∷ key) q e = rw (above-same m (marks q) (count-above m e))
+
+-- the key of an ask is that of its query, but for the bit
+pub ask-key-bare : (sh : Shape) (key : List ℕ) → isAskKey sh key ≡ isKey sh (bareKey key)
+unfolding isAskKey askKey askIn isKey bareKey
+ask-key-bare sh key = byTest (countsIn key)
+    (λ e. rw e (count-same key (queryIn sh (set key 0 (getD key 0 0 - countBit))) e))
+    (λ e. rw e)
+
+ask-bad : (sh : Shape) (key : List ℕ) → not (same key (askKey (askIn sh key))) ≡ not (isKey sh (bareKey key)) || false
+unfolding isAskKey
+ask-bad sh key = ap not (ask-key-bare sh key) ∙ sym (or-none (not (isKey sh (bareKey key))))
+
+pub ask-key-length : (x : Ask) → length (x .query) ≤ maxColumns → length (askKey x) ≡ keyWidth
+unfolding askKey countKey
+ask-key-length x h =
+    let l : length (keyWords (x .query)) ≡ keyWidth = key-words-length (x .query) (omega arith) in
+    byTest (x .counts) (λ e. rw (e, length-set (keyWords (x .query)) 0 (getD (keyWords (x .query)) 0 0 + countBit)) l) (λ e. rw e l)
+
+-- an ask of a hall is read back from its key
+pub ask-in-key : (x : Ask) → length (x .query) ≡ x .shape .columns → x .shape .columns ≤ maxColumns → askIn (x .shape) (askKey x) ≡ x
+unfolding askIn askKey
+ask-in-key x e h =
+    let l : length (x .query) ≤ maxColumns = omega arith in
+    go (x .counts) refl l
+  where
+    go : (b : Bool) → x .counts ≡ b → length (x .query) ≤ maxColumns
+        → _≡_ {A = Ask} (record { shape = x .shape; query = queryIn (x .shape) (bareKey (cond (x .counts) (countKey (keyWords (x .query))) (keyWords (x .query)))); counts = countsIn (cond (x .counts) (countKey (keyWords (x .query))) (keyWords (x .query))) }) x
+    go true c l = rw (c, bare-count (x .query) l, counts-count (x .query) l, query-in-key (x .shape) (x .query) e) refl
+    go false c l = rw (c, bare-plain (x .query) l, counts-plain (x .query) l, query-in-key (x .shape) (x .query) e) refl
+
+-- a write's key does not say "count"; one that does not is its own without the bit
+write-key : (sh : Shape) (kind : ℕ) (key : List ℕ) → countsIn key ≡ false → not (same key (keyWords (target (changeIn sh kind key))))
+    ≡ not (isKey sh (bareKey key)) || (eqb kind inserts && not (namesAll (queryIn sh (bareKey key))))
+unfolding changeIn target bareKey
+write-key sh kind key c = rw c (byTest (eqb kind inserts) (λ i. rw i (insert-key sh key)) (λ i. rw i (query-key sh key)))
+
+write-says : (sh : Shape) (kind : ℕ) (key : List ℕ) → sh .columns ≤ maxColumns → countsIn key ≡ true → same key (keyWords (target (changeIn sh kind key))) ≡ false
+write-says sh kind key h c = byTest (same key (keyWords (target (changeIn sh kind key))))
+    (λ e. clash c (ap countsIn (same-eq key _ e) ∙ counts-plain (target (changeIn sh kind key)) (let z = target-length sh kind key in omega arith)))
+    (λ e. e)
+
+-- "its .. query .. out of range", test by test: no key of a query but for the bit, a writer's that says "count", an insert's with a star
+pub key-same : (sh : Shape) (kind : ℕ) (key : List ℕ) → sh .columns ≤ maxColumns
+    → not (same key (keyOf (workIn sh kind key)))
+    ≡ not (isKey sh (bareKey key)) || ((not (eqb kind reads) && countsIn key) || (eqb kind inserts && not (namesAll (queryIn sh (bareKey key)))))
+unfolding keyOf workIn writeIn
+key-same sh kind key h = byTest (eqb kind reads)
     (λ e. let z : kind ≡ inserts → ⊥ = (λ i. let y = eqb-true kind reads e in omega arith) in
-    rw (e, ne-eqb kind inserts z) (query-key sh key))
-    (λ e. rw e (byTest (eqb kind inserts) (λ i. rw i (insert-key sh key)) (λ i. rw i (query-key sh key))))
+    rw (e, ne-eqb kind inserts z) (ask-bad sh key))
+    (λ e. rw e (byTest (countsIn key)
+    (λ c. rw (c, write-says sh kind key h c) (sym (or-right (not (isKey sh (bareKey key))) true refl)))
+    (λ c. rw c (write-key sh kind key c))))

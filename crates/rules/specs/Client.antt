@@ -10,7 +10,7 @@ use Rattle.query.specs.Shape.{Form, Shape}
 use Rattle.rules.specs.Layout.{kindOffset, stepsOffset, sawOffset, changedOffset, fullOffset, entryOffset, clientWidth, listWidth}
 use Rattle.rules.specs.Layout.{heldLengthOffset, notedOffset, heldListOffset, deletes}
 use Rattle.query.specs.Query.{Query}
-use Rattle.query.specs.Encoding.{queryIn}
+use Rattle.query.specs.Encoding.{queryIn, bareKey}
 use Rattle.rules.specs.Work.{Ask, Value, Write, Work, askIn, writeIn, workIn, kindOf, keyOf, stepsInAll}
 use Rattle.rules.specs.Answers.{Entry, keyIn, isLong}
 
@@ -50,7 +50,7 @@ begun f x = padded (clientWidth f) (kindOf x ∷ 0 ∷ 0 ∷ 0 ∷ 0 ∷ keyOf x
 
 -- the query that its key has, and what a reader asks: for contracts and proofs
 unfoldable pub queryAt : Shape → Client → Query
-queryAt sh c = queryIn sh (keyIn (entryOf c))
+queryAt sh c = queryIn sh (bareKey (keyIn (entryOf c)))
 
 unfoldable pub askAt : Shape → Client → Ask
 askAt sh c = askIn sh (keyIn (entryOf c))
@@ -63,7 +63,8 @@ unfoldable pub workAt : Shape → Client → Work
 workAt sh c = workIn sh (kind c) (keyIn (entryOf c))
 
 -- "the called desk is not idle and its kind, query, step or list length is out of range" (3): a query is in range if its numbers are
--- those that the work read from them would be kept as. So an insert's has no star: its record's key has a mark in every column
+-- those that the work read from them would be kept as. So an insert's has no star: its record's key has a mark in every column; and a
+-- write's does not say "count". "a .. held count above 2,048 is 3" (S-1) stands in `isLong`
 unfoldable pub isBad : Form → Shape → Client → Bool
 isBad f sh c =
     not (isIdle f c)
@@ -82,7 +83,7 @@ flag b = cond b 1 0
 unfoldable pub noted : Form → ℕ → ℕ → ℕ → Client → Client
 noted f j revision pending c = set (set (stepped c) (notedOffset f j) revision) sawOffset (cond (eqb pending 0) (getD c sawOffset 0) 1)
 
--- what was got at the table step: how many records, and their numbers in the entry's last numbers
+-- what was got at the table step: how many records, and their numbers in the entry's last numbers; of a count 0 in all of these
 unfoldable pub holding : Form → Shape → Value → Client → Client
 holding f sh v c = written (set (stepped c) heldLengthOffset (v .count)) (heldListOffset f sh) (padded (listWidth sh) (v .numbers))
 

@@ -87,7 +87,7 @@ revisionOffset = pendingOffset + 1
 abbrev pub nodeWidth : ℕ
 nodeWidth = revisionOffset + 2
 
--- ---- An entry (a filed answer): its query's key, the list's length, the revisions noted, the list
+-- ---- An entry (a filed answer): its query's key, the list's length or the count, the revisions noted, the list
 abbrev pub lengthOffset : ℕ
 lengthOffset = keyWidth
 
@@ -155,7 +155,7 @@ clientOffset f d = header + d * clientWidth f
 abbrev pub clientsEnd : Form → ℕ
 clientsEnd f = clientOffset f maxClients
 
--- the parts of a client's own entry: the values of its key, the list's length, the revision noted by look j, the list
+-- the parts of a client's own entry: the values of its key, the list's length or the count, the revision noted by look j, the list
 abbrev pub heldValuesOffset : ℕ
 heldValuesOffset = entryOffset + 1
 

@@ -41,7 +41,7 @@ isShort f sh m =
 unfoldable pub badColumns : ℕ → Bool
 badColumns k = eqb k 0 || ltb maxColumns k
 
--- 3 unsound: "k, an entry count or a filed list's length in memory out of range"
+-- 3 unsound: "k, an entry count or a filed list's length in memory out of range"; "a filed .. count above 2,048 is 3" (S-1)
 unfoldable pub isUnsound : Mem → Bool
 isUnsound m =
     badColumns (columns m)

@@ -27,7 +27,7 @@ unfoldable pub storeBack : Mem → Store → Mem
 storeBack m s = withNodes m (withStore (form m) (m .nodes) s)
 
 -- "An answer writes its records, k numbers each, from the tray's start and reports their count and whether it was filed before;
--- the rest of the tray keeps its contents."
+-- the rest of the tray keeps its contents." "The tray of a count is untouched" (S-1): its value has no numbers
 unfoldable pub answered : Mem → List ℕ → ℕ → Value → Bool → StepResult
 answered m tray d v cached = resultWith (Answered (v .count) cached) (nowAt m d (idle (form m))) (written tray 0 (v .numbers))
 
@@ -46,14 +46,14 @@ fetchResult m tray d i =
     (resultWith Accepted (nowAt m d (stepped (client m d))) tray)
 
 -- "Otherwise *table*: the matching list is taken. More than 32 records ends the read with 12. If a look saw a mark, the read answers
--- here and files nothing."
+-- here and files nothing." A count "counts past 32 without giving 12" (S-1): `mayAnswer`
 unfoldable pub tableResult : Mem → List ℕ → ℕ → Ask → Value → StepResult
 tableResult m tray d x v =
     cond (not (mayAnswer x v)) (resultWith Long (nowAt m d (idle (form m))) tray)
     (cond (sawPending (client m d)) (answered m tray d v false)
     (resultWith Accepted (nowAt m d (holding (form m) (shape m) v (client m d))) tray))
 
--- "Otherwise *file*: .. the list goes last with the noted revisions, and the read answers."
+-- "Otherwise *file*: .. the list goes last with the noted revisions, and the read answers." A count "is filed like a list" (S-1)
 unfoldable pub fileResult : Mem → List ℕ → ℕ → Entry → StepResult
 fileResult m tray d e =
     answered (withFiled m (withAnswers (form m) (m .answers) (filed e (answersIn (form m) (m .answers))))) tray d

@@ -1,26 +1,27 @@
 -- Document 01, "Queries and nodes" and "One desk, step by step": what a read asks and gets, what a write does, and what begins at a
 -- desk. Steps, refusals and histories know of queries what stands here: another kind of read begins with this file.
 -- Leans on query, Table and Nodes. Definitions only. Assumes nothing.
-use mathlib.Core.Bool.{Bool, true, false, cond, _&&_}
-use mathlib.Core.List.{List, map}
+use mathlib.Core.Bool.{Bool, true, false, cond, _&&_, _||_}
+use mathlib.Core.List.{List, [], map}
 use Prim.Native.Nat.{ℕ, _+_}
 use lib.Dec.{eqb, leb}
 use lib.ListN.{length}
-use Rattle.lists.specs.Lists.{In, someIn, flat}
+use Rattle.lists.specs.Lists.{same, In, someIn, flat}
 use Rattle.query.specs.Shape.{Shape}
 use Rattle.query.specs.Query.{Query, Record, readNodes, writeNodes}
-use Rattle.query.specs.Encoding.{queryOf, isQuery, namesAll, recordOf, labelWords, keyWords, queryIn}
+use Rattle.query.specs.Encoding.{queryOf, isQuery, namesAll, recordOf, labelWords, keyWords, queryIn, countsIn, countKey, bareKey}
 use Rattle.rules.specs.Layout.{maxList, reads, inserts, deletes, refusedColumns}
 use Rattle.rules.specs.Table.{Table, Change, insert, delete, target, listOf}
 use Rattle.rules.specs.Nodes.{Words}
 
 -- ---- A read: what is asked
--- what a read asks, in a hall of this shape
+-- what a read asks, in a hall of this shape, and what it wants: "A read may now want a count instead of a list" (S-1)
 pub record Ask : Type 0 where
   pub shape : Shape
   pub query : Query
+  pub counts : Bool
 
--- what it gets: how many records, and their numbers, record after record
+-- what it gets: how many records, and of a list their numbers, record after record
 pub record Value : Type 0 where
   pub count : ℕ
   pub numbers : List ℕ
@@ -28,13 +29,21 @@ pub record Value : Type 0 where
 unfoldable pub ofRecords : List Record → Value
 ofRecords l = record { count = length l; numbers = flat l }
 
--- "A query's list at a moment is the plain table's records in its subspace, in the table's order."
-unfoldable pub valueOf : Ask → Table → Value
-valueOf x t = ofRecords (listOf (x .query) t)
+-- "how many zeros are stored for this model": the number alone
+unfoldable pub ofNumber : List Record → Value
+ofNumber l = record { count = length l; numbers = [] }
 
--- it may be answered: "More than 32 records ends the read with 12."
+-- by what is wanted
+abbrev pub valueFor : Bool → List Record → Value
+valueFor counts l = cond counts (ofNumber l) (ofRecords l)
+
+-- "A query's list at a moment is the plain table's records in its subspace, in the table's order." A count is how many they are
+unfoldable pub valueOf : Ask → Table → Value
+valueOf x t = valueFor (x .counts) (listOf (x .query) t)
+
+-- it may be answered: "More than 32 records ends the read with 12."; a count "counts past 32 without giving 12"
 unfoldable pub mayAnswer : Ask → Value → Bool
-mayAnswer x v = leb (v .count) maxList
+mayAnswer x v = x .counts || leb (v .count) maxList
 
 -- the labels of its nodes in the order of its looks, each as the five numbers that a node keeps; how many looks it makes is their number
 unfoldable pub readLabels : Ask → List Words
@@ -42,10 +51,14 @@ readLabels x = map labelWords (readNodes (x .query))
 
 -- its key: what the memories keep of it; and the ask of a key in a hall of this shape
 unfoldable pub askKey : Ask → List ℕ
-askKey x = keyWords (x .query)
+askKey x = cond (x .counts) (countKey (keyWords (x .query))) (keyWords (x .query))
 
 unfoldable pub askIn : Shape → List ℕ → Ask
-askIn sh key = record { shape = sh; query = queryIn sh key }
+askIn sh key = record { shape = sh; query = queryIn sh (bareKey key); counts = countsIn key }
+
+-- a key that an ask of the hall has: for contracts and proofs
+unfoldable pub isAskKey : Shape → List ℕ → Bool
+isAskKey sh key = same key (askKey (askIn sh key))
 
 -- ---- A write
 -- what a write does, in a hall of this shape
@@ -98,29 +111,29 @@ unfoldable pub stepsInAll : Work → ℕ
 stepsInAll (asking x) = length (readLabels x) + 3
 stepsInAll (writing w) = length (writeLabels w) + 1 + length (writeLabels w)
 
--- ---- What begins, as it arrives: "begins of reads, inserts and deletes, .. with any arguments"
+-- ---- What begins, as it arrives: "begins of reads, inserts and deletes, .. with any arguments"; a read says whether it wants a count
 pub data Request : Type 0 where
-  readOf : List ℕ → Request
+  readOf : Bool → List ℕ → Request
   insertOf : List ℕ → Request
   deleteOf : List ℕ → Request
 
 unfoldable pub isWrite : Request → Bool
-isWrite (readOf a) = false
+isWrite (readOf counts a) = false
 isWrite (insertOf a) = true
 isWrite (deleteOf a) = true
 
 -- what a read asks, by what arrives
-unfoldable pub askOf : Shape → List ℕ → Ask
-askOf sh a = record { shape = sh; query = queryOf a }
+unfoldable pub askOf : Shape → Bool → List ℕ → Ask
+askOf sh counts a = record { shape = sh; query = queryOf a; counts = counts }
 
 unfoldable pub workOf : Shape → Request → Work
-workOf sh (readOf a) = asking (askOf sh a)
+workOf sh (readOf counts a) = asking (askOf sh counts a)
 workOf sh (insertOf a) = writing (record { shape = sh; change = insert (recordOf (queryOf a)) })
 workOf sh (deleteOf a) = writing (record { shape = sh; change = delete (queryOf a) })
 
 -- what it is turned down with for itself, or 0: 2 columns, "a query whose columns are not as many as the k in memory, a mark above 1,
 -- a star with a value, an insert with a star"
 unfoldable pub faultOf : Shape → Request → ℕ
-faultOf sh (readOf a) = cond (isQuery sh a) 0 refusedColumns
+faultOf sh (readOf counts a) = cond (isQuery sh a) 0 refusedColumns
 faultOf sh (insertOf a) = cond (isQuery sh a && namesAll (queryOf a)) 0 refusedColumns
 faultOf sh (deleteOf a) = cond (isQuery sh a) 0 refusedColumns

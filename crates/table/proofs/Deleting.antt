@@ -1,5 +1,5 @@
 -- Laws of the scan that deletes in place: where the loop stands, a turn of it, and what the clearing and the new count make of it.
--- Leans on the laws of lists, Written, Rows and TableMemory. Assumes nothing.
+-- Leans on the laws of lists, Written, Rows, Counting and TableMemory. Assumes nothing.
 use mathlib.Core.Path.{_≡_, refl, sym, ap, _∙_}
 use mathlib.Core.Bool.{Bool, true, false, not}
 use mathlib.Core.List.{List, [], _∷_, _++_, append-assoc, append-nil}
@@ -20,6 +20,7 @@ use Rattle.records.proofs.RecordWrites.{effect-delete}
 use Rattle.table.specs.TableContracts.{Fit, gone}
 use Rattle.table.proofs.TableLists.{gone-is}
 use Rattle.table.proofs.TableMemory.{length-records, wide-records}
+use Rattle.table.proofs.Counting.{Counting, count-none, count-found, count-other, count-all}
 use Rattle.rules.specs.Layout.{recordCountOffset}
 
 -- a record that stands where it is to stand
@@ -37,12 +38,9 @@ goes q x b e h = rw (← e) h
 
 -- where the loop stands: of the first i records of t those that stay, j of them, lie at the front; from record i on nothing has changed
 pub record Deleting (p : Record → Bool) (t : Table) (k n : ℕ) (s₀ s : List ℕ) (i from j to : ℕ) : Type 0 where
-  pub le : i ≤ n
-  pub from-is : from ≡ 8 + i * k
+  pub scan : Counting p t k n i from j
   pub to-is : to ≡ 8 + j * k
   pub fewer : to ≤ from
-  pub few : j ≤ i
-  pub count : j ≡ length (keep p (take i t))
   pub front : take to s ≡ take 8 s₀ ++ flat (keep p (take i t))
   pub back : drop from s ≡ drop from s₀
   pub same : length s ≡ length s₀
@@ -51,12 +49,9 @@ pub delete-none : (p : Record → Bool) (t : Table) (k n : ℕ) (s : List ℕ) �
 unfolding keep flat
 delete-none p t k n s =
     record {
-      le = omega arith;
-      from-is = omega (arith, zero-mul k);
+      scan = count-none p t k n;
       to-is = omega (arith, zero-mul k);
       fewer = omega arith;
-      few = omega arith;
-      count = refl;
       front = sym (append-nil (take 8 s));
       back = refl;
       same = refl;
@@ -80,12 +75,9 @@ module _ (p : Record → Bool) (t : Table) (k n : ℕ) (s₀ s : List ℕ) (i fr
       let z : to + length x ≡ to + k = omega arith in
       rw (u, v)
       (record {
-        le = omega arith;
-        from-is = omega (arith, slot-next k i, a .from-is);
+        scan = count-found p t k n i from j (a .scan) h g (j + 1) e refl;
         to-is = omega (arith, slot-next k j, a .to-is);
         fewer = omega arith;
-        few = omega (arith, a .few);
-        count = rw (q, length-append) (ap (λ (m : ℕ). m + 1) (a .count));
         front = rw (q, flat-snoc, ← y, ← append-assoc, ← a .front, o, ← z) (take-of-written s to x (omega arith));
         back = rw o (drop-written s to x (omega arith) (from + k) (omega arith)) ∙ back-on;
         same = ap length o ∙ length-written s to x (omega arith) ∙ c;
@@ -97,12 +89,9 @@ module _ (p : Record → Bool) (t : Table) (k n : ℕ) (s₀ s : List ℕ) (i fr
       let q : keep p (take (i + 1) t) ≡ keep p (take i t) = skip-next p t i [] l e in
       rw (o, u, v)
       (record {
-        le = omega arith;
-        from-is = omega (arith, slot-next k i, a .from-is);
+        scan = count-other p t k n i from j (a .scan) h g j e refl;
         to-is = a .to-is;
         fewer = omega (arith, a .fewer);
-        few = omega (arith, a .few);
-        count = rw q (a .count);
         front = rw q (a .front);
         back = back-on;
         same = a .same;
@@ -124,14 +113,14 @@ module _ (q : Query) (k : ℕ) (s₀ s u : List ℕ) (i from j to : ℕ) (f : Fi
       let t : Table = recordsIn k s₀ in
       let n : ℕ = getD s₀ recordCountOffset 0 in
       let l : length t ≡ n = length-records k s₀ in
-      let z : i ≡ n = omega (arith, a .le) in
+      let z : i ≡ n = omega (arith, a .scan .le) in
       let x : keep (outside q) (take i t) ≡ keep (outside q) t = keep-end (outside q) t i (omega arith) in
-      let c : j ≡ length (keep (outside q) t) = a .count ∙ ap length x in
-      let b : from ≡ 8 + n * k = a .from-is ∙ ap (λ (m : ℕ). 8 + m * k) z in
-      let d : (n - j) * k ≡ n * k - j * k = slot-left k n j (omega (arith, a .few)) in
+      let c : j ≡ length (keep (outside q) t) = count-all (outside q) t k n i from j (a .scan) h l in
+      let b : from ≡ 8 + n * k = a .scan .at-is ∙ ap (λ (m : ℕ). 8 + m * k) z in
+      let d : (n - j) * k ≡ n * k - j * k = slot-left k n j (omega (arith, a .scan .few)) in
       let m : from - to ≡ (n - j) * k = omega (arith, a .to-is) in
       let w : length (flat (keep (outside q) t)) ≡ j * k = length-flat k _ (wide-keep k (outside q) t (wide-records k s₀ f)) ∙ ap (λ (y : ℕ). y * k) (sym c) in
-      let jk : j * k ≤ n * k = mul-le-mul-right k (omega (arith, a .few)) in
+      let jk : j * k ≤ n * k = mul-le-mul-right k (omega (arith, a .scan .few)) in
       let v : 8 + length (flat (keep (outside q) t) ++ replicate ((n - j) * k) 0) ≡ from = rw (length-append, length-replicate, w) (omega arith) in
       let lt : length (take (from - to) (drop to s)) ≤ from - to = rw length-take (omega arith) in
       let y : drop (from - to) (take (from - to) (drop to s)) ≡ [] = drop-of-length-le (take (from - to) (drop to s)) lt in

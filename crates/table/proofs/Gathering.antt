@@ -1,9 +1,9 @@
--- Laws of the scan that lists: where the loop stands, a turn of it, its two ends. Leans on the laws of lists, Written and TableLists.
--- Assumes nothing.
+-- Laws of the scan that lists: where the loop stands, a turn of it, its two ends. Leans on the laws of lists, Written, Counting and
+-- TableLists. Assumes nothing.
 use mathlib.Core.Path.{_≡_, refl, sym, ap, _∙_}
 use mathlib.Core.Bool.{Bool, true, false}
 use mathlib.Core.List.{List, [], _∷_, _++_}
-use Prim.Native.Nat.{ℕ, suc, _+_, _*_, _-_, _≤_, _<_}
+use Prim.Native.Nat.{ℕ, suc, _+_, _*_, _≤_, _<_}
 use native.Mathlib.Nat.{zero-mul, zero-add}
 use native.Mathlib.Omega.{arith}
 use lib.ListN.{length, getD, take, drop, replicate, length-append, take-append-drop}
@@ -19,6 +19,7 @@ use Rattle.rules.specs.Layout.{maxList, listRoom}
 use Rattle.rules.specs.Table.{Table}
 use Rattle.table.specs.TableContracts.{gathered}
 use Rattle.table.proofs.TableLists.{gathered-few, gathered-many}
+use Rattle.table.proofs.Counting.{Counting, count-none, count-found, count-other, count-all}
 
 -- some numbers written from the start, and more behind them
 pub written-more : (s u v : List ℕ) (i : ℕ) → length u ≡ i → i ≤ length s → written (written s 0 u) i v ≡ written s 0 (u ++ v)
@@ -32,11 +33,9 @@ written-more s u v i e h =
 
 -- where the loop stands: of the first i records of t those that pass the test, j of them, are in `out`
 pub record Gathering (p : Record → Bool) (t : Table) (k n : ℕ) (out₀ out : List ℕ) (i at j to : ℕ) : Type 0 where
-  pub le : i ≤ n
-  pub at-is : at ≡ 8 + i * k
+  pub scan : Counting p t k n i at j
   pub to-is : to ≡ j * k
   pub few : j ≤ maxList
-  pub count : j ≡ length (keep p (take i t))
   pub out-is : out ≡ written out₀ 0 (flat (keep p (take i t)))
   pub same : length out ≡ length out₀
 
@@ -44,11 +43,9 @@ pub gather-none : (p : Record → Bool) (t : Table) (k n : ℕ) (out : List ℕ)
 unfolding keep flat
 gather-none p t k n out =
     record {
-      le = omega arith;
-      at-is = omega (arith, zero-mul k);
+      scan = count-none p t k n;
       to-is = sym (zero-mul k);
       few = omega arith;
-      count = refl;
       out-is = sym (written-nil out 0);
       same = refl;
     }
@@ -67,18 +64,16 @@ module _ (p : Record → Bool) (t : Table) (k n : ℕ) (out₀ out : List ℕ) (
         let l : i < length t = omega arith in
         let q : keep p (take (i + 1) t) ≡ keep p (take i t) ++ (getD t i [] ∷ []) = keep-next p t i [] l e in
         let b = a .few in
-        let c = a .count in
+        let c = a .scan .count in
         let room = out-room in
         let z : length (flat (keep p (take i t))) ≡ to = length-flat k _ (wide-keep k p (take i t) (wide-take k i t wide)) ∙ ap (λ (x : ℕ). x * k) (sym c) ∙ sym (a .to-is) in
         let f : out′ ≡ written out₀ 0 (flat (keep p (take i t)) ++ x) =
         o ∙ ap (λ (s : List ℕ). written s to x) (a .out-is) ∙ written-more out₀ _ x to z (omega (arith, a .same)) in
         rw (u, v)
         (record {
-          le = omega arith;
-          at-is = omega (arith, slot-next k i, a .at-is);
+          scan = count-found p t k n i at j (a .scan) h g (j + 1) e refl;
           to-is = omega (arith, slot-next k j, a .to-is);
           few = omega arith;
-          count = rw (q, length-append) (ap (λ (x : ℕ). x + 1) c);
           out-is = rw (q, flat-snoc, ← y) f;
           same = ap length o ∙ length-written out to x room ∙ a .same;
         })
@@ -89,11 +84,9 @@ module _ (p : Record → Bool) (t : Table) (k n : ℕ) (out₀ out : List ℕ) (
       let q : keep p (take (i + 1) t) ≡ keep p (take i t) = skip-next p t i [] l e in
       rw (o, u, v)
       (record {
-        le = omega arith;
-        at-is = omega (arith, slot-next k i, a .at-is);
+        scan = count-other p t k n i at j (a .scan) h g j e refl;
         to-is = a .to-is;
         few = a .few;
-        count = rw q (a .count);
         out-is = rw q (a .out-is);
         same = a .same;
       })
@@ -102,7 +95,7 @@ module _ (p : Record → Bool) (t : Table) (k n : ℕ) (out₀ out : List ℕ) (
   pub gather-many : p (getD t i []) ≡ true → j ≡ maxList → (maxList + 1 ≡ gathered (keep p t)) × (out ≡ written out₀ 0 (flat (take maxList (keep p t))))
   gather-many e m =
       let l : i < length t = omega arith in
-      let c : length (keep p (take i t)) ≡ maxList = sym (a .count) ∙ m in
+      let c : length (keep p (take i t)) ≡ maxList = sym (a .scan .count) ∙ m in
       let x : keep p t ≡ keep p (take i t) ++ (getD t i [] ∷ keep p (drop (suc i) t)) =
       ap (keep p) (sym (take-append-drop i t)) ∙ keep-append p (take i t) (drop i t)
       ∙ ap (λ (y : Table). keep p (take i t) ++ keep p y) (drop-cons t i [] l) ∙ ap (λ (y : Table). keep p (take i t) ++ y) (keep-yes p (getD t i []) (drop (suc i) t) e) in
@@ -115,7 +108,7 @@ pub gather-all : (p : Record → Bool) (t : Table) (k n : ℕ) (out₀ out : Lis
     → (j ≡ gathered (keep p t)) × (out ≡ written out₀ 0 (flat (take maxList (keep p t))))
 gather-all p t k n out₀ out i at j to a h g =
     let x : keep p (take i t) ≡ keep p t = keep-end p t i (omega arith) in
-    let c : j ≡ length (keep p t) = a .count ∙ ap length x in
+    let c : j ≡ length (keep p t) = count-all p t k n i at j (a .scan) h g in
     let b = a .few in
     let d : take maxList (keep p t) ≡ keep p t = take-all maxList (keep p t) (omega arith) in
     (c ∙ sym (gathered-few (keep p t) (omega arith)), rw (d, ← x) (a .out-is))

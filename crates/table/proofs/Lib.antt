@@ -1,5 +1,6 @@
 pub mod TableLists
 pub mod TableMemory
+pub mod Counting
 pub mod Gathering
 pub mod Seeking
 pub mod Deleting

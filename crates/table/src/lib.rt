@@ -63,6 +63,25 @@ pub fn gather(table: &[u32], k: usize, cols: [Column; Hall::COLUMN_SLOTS], out: 
     j
 }
 
+// How many records lie in the query's subspace, be they more than a read lists. One pass, and nothing is copied.
+pub fn count(table: &[u32], k: usize, cols: [Column; Hall::COLUMN_SLOTS]) -> usize
+    requires { ⌜ Fit k (now table) ⌝ }
+    ensures { λ r. ⌜ r ≡ length (listOf (take k cols) (recordsIn k (now (table .entry)))) ⌝ }
+{
+    let n = table[Hall::RECORD_COUNT_OFFSET] as usize;
+    let end = Hall::HEADER + n * k;
+    let mut at = Hall::HEADER;
+    let mut j = 0;
+    while at < end {
+        let e = at + k;
+        if columns::lies(cols, &table[at..e]) {
+            j += 1;
+        }
+        at = e;
+    }
+    j
+}
+
 // One scan: whether the record is there, anywhere, and if not the place of the first greater one.
 fn seek(table: &[u32], rec: &[u32]) -> Spot
     requires { ⌜ Fit (length (now rec)) (now table) ⌝ }

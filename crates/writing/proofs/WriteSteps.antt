@@ -42,7 +42,7 @@ use Rattle.nodes.specs.NodeContracts.{attempt, tried}
 use Rattle.nodes.proofs.NodePresent.{Went, went-well, went-not}
 use Rattle.clients.specs.declared.Held.{Held}
 use Rattle.clients.specs.ClientContracts.{heldQuery, writtenAt, Writer}
-use Rattle.clients.proofs.HeldLaws.{at-query, writer-announcements, writer-few, writer-label}
+use Rattle.clients.proofs.HeldLaws.{at-query, writer-bare, writer-announcements, writer-few, writer-label}
 use Rattle.writing.specs.declared.Report.{Report}
 use Rattle.writing.specs.WriteContracts.{stepAt, labelsAt, countAt, heldChange, report, reported}
 use Rattle.writing.specs.WriteContracts.{raiseEnd, raiseLeft, labelAt, labelsFrom}
@@ -111,11 +111,13 @@ module _ {h : Held} {s : List ℕ} {d : ℕ} (w : Writer h s d) where
   record-held : take (h .columns) (h .values) ≡ recordOf (queryAt (shapeIn s) (clientIn narrow s d))
   unfolding queryAt
   record-held =
-      rw (w .held .columns, w .held .values) (record-in (shapeIn s) (keyIn (entryOf (clientIn narrow s d))) (w .busy .most) (busy-key (w .busy)))
+      let key : List ℕ = keyIn (entryOf (clientIn narrow s d)) in
+      let k : isKey (shapeIn s) key ≡ true = rw (writer-bare w) at (busy-key (w .busy)) in
+      rw (w .held .columns, w .held .values, writer-bare w) (record-in (shapeIn s) key (w .busy .most) k)
 
   pub held-change : heldChange h ≡ writtenAt s d .change
   unfolding heldChange writeAt writeIn changeIn queryAt
-  held-change = rw (w .held .kind, record-held, at-query w)
+  held-change = rw (w .held .kind, record-held, at-query w, writer-bare w)
 
   -- its nodes by what was read: as many, and with the same labels
   count-held : writeCount (heldQuery h) ≡ countAt s d

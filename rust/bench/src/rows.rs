@@ -1,5 +1,5 @@
 //! What is timed: one row for each call and each kind of step, with the hall that it starts from and the reply that it must give.
-//! Rows of single calls have four columns, the most there can be; whole reads and writes have one to four. Leans on hall and side.
+//! Rows of single calls have four columns, the most there can be; counts, and whole reads and writes, have one to four. Leans on hall and side.
 
 use crate::hall::{read_labels, write_labels, Hall};
 use crate::rng::Rng;
@@ -79,6 +79,7 @@ pub fn calls() -> Vec<Row> {
     fetches(&mut rows);
     lists(&mut rows);
     long_lists(&mut rows);
+    (1..=4).for_each(|k| counts(&mut rows, k));
     filings(&mut rows);
     announcements(&mut rows);
     inserts(&mut rows);
@@ -98,6 +99,7 @@ fn begins(rows: &mut Vec<Row>) {
     let asked = all_named(4);
     row(rows, "begin read", "empty hall", Hall::opened(4), Act::Begin(Kind::Read, CLIENT, asked), ACCEPTED);
     row(rows, "begin read", "full hall", full(4), Act::Begin(Kind::Read, CLIENT, asked), ACCEPTED);
+    row(rows, "begin count", "full hall", full(4), Act::Begin(Kind::Count, CLIENT, asked), ACCEPTED);
     row(rows, "begin insert", "full hall", full(4), Act::Begin(Kind::Insert, CLIENT, asked), ACCEPTED);
     row(rows, "begin delete", "full hall", full(4), Act::Begin(Kind::Delete, CLIENT, asked), ACCEPTED);
     let busy = full(4).begun(Kind::Read, CLIENT, asked, 0);
@@ -157,10 +159,14 @@ fn grouped(width: usize, groups: usize, asked: Asked) -> Hall {
     reading(4, asked).with_records(n, |i| [(i / width) as u32, (i % width) as u32, 5, 6])
 }
 
-/// Before the table step of a read.
-fn listing(k: usize, asked: Asked) -> Hall {
+/// Before the table step of a read, for a list or a count.
+fn taking(kind: Kind, k: usize, asked: Asked) -> Hall {
     let looks = read_labels(k, asked).len() as u32;
-    reading(k, asked).begun(Kind::Read, CLIENT, asked, looks + 1)
+    reading(k, asked).begun(kind, CLIENT, asked, looks + 1)
+}
+
+fn listing(k: usize, asked: Asked) -> Hall {
+    taking(Kind::Read, k, asked)
 }
 
 fn lists(rows: &mut Vec<Row>) {
@@ -183,6 +189,16 @@ fn long_lists(rows: &mut Vec<Row>) {
     row(rows, "list", "long, found at record 1,986", late, Act::Step(CLIENT), refused(12));
     let wildcards = Asked::new(&[None; 4]);
     row(rows, "list", "long, found at record 33", listing(4, wildcards), Act::Step(CLIENT), refused(12));
+}
+
+/// Over 2,048 records; beside them a list of the query that finds none, which no count should take longer than.
+fn counts(rows: &mut Vec<Row>, k: usize) {
+    let none = Asked::new(&vec![Some(9999); k]);
+    let asked = [(none, "finds none"), (all_named(k), "finds 1"), (Asked::new(&vec![None; k]), "finds all")];
+    row(rows, "list", &format!("k {k}, finds none"), listing(k, none), Act::Step(CLIENT), ACCEPTED);
+    for (asked, text) in asked {
+        row(rows, "count", &format!("k {k}, {text}"), taking(Kind::Count, k, asked), Act::Step(CLIENT), ACCEPTED);
+    }
 }
 
 /// Before the file step of a read.

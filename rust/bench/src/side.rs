@@ -32,6 +32,8 @@ impl Asked {
 #[derive(Clone, Copy, PartialEq, Eq, Debug)]
 pub enum Kind {
     Read,
+    /// a read that wants a count
+    Count,
     Insert,
     Delete,
 }
@@ -51,7 +53,7 @@ pub enum Act {
     Whole(Kind, u32, Asked),
 }
 
-/// The paper's number, how many records were answered, and what ended.
+/// The paper's number, how many records were answered or counted, and what ended.
 #[derive(Clone, Copy, PartialEq, Eq, Debug)]
 pub struct Reply {
     pub number: u32,
@@ -86,6 +88,7 @@ macro_rules! side {
             fn begin(h: &mut Hall, kind: Kind, client: u32, query: &[u32]) -> Reply {
                 match kind {
                     Kind::Read => side!(h, $memories, m, m.begin_read(client, query)),
+                    Kind::Count => side!(h, $memories, m, m.begin_count(client, query)),
                     Kind::Insert => side!(h, $memories, m, m.begin_insert(client, query)),
                     Kind::Delete => side!(h, $memories, m, m.begin_delete(client, query)),
                 }

@@ -127,6 +127,7 @@ fn text_of(k: usize, kind: Kind, asked: &Asked) -> String {
     let names = columns(k, ", ", |c| format!("c{c}"));
     match kind {
         Kind::Read => format!("SELECT {names} FROM t WHERE {} ORDER BY {names}", named.join(" AND ")),
+        Kind::Count => unreachable!("no whole count is timed"),
         Kind::Insert => insert_text(k),
         Kind::Delete => format!("DELETE FROM t WHERE {}", named.join(" AND ")),
     }

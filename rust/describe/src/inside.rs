@@ -1,6 +1,6 @@
 //! What lies in the memories, section by section, each line by line. Leans on mondzafeky's inspect.
 use crate::FEW;
-use mondzafeky::inspect::{Entry, Inspect, OutOfRange, Work};
+use mondzafeky::inspect::{Entry, Inspect, OutOfRange, Value, Work};
 use mondzafeky::{Query, Records, CLIENTS};
 
 /// A value as text, or what is out of range.
@@ -79,7 +79,7 @@ pub fn nodes(hall: &Inspect<'_>, all: bool) -> Vec<String> {
     or_none(lines)
 }
 
-/// The filed answers, with their lists if all is asked for.
+/// The filed answers, counts as such; with the records of the lists if all is asked for.
 pub fn answers(hall: &Inspect<'_>, all: bool) -> Vec<String> {
     let lines = hall.answers().enumerate().map(|(place, answer)| match answer {
         Ok(entry) => format!("{place}: {}", answer_line(entry, all)),
@@ -90,13 +90,16 @@ pub fn answers(hall: &Inspect<'_>, all: bool) -> Vec<String> {
 
 fn answer_line(entry: Entry<'_>, all: bool) -> String {
     // Where k is out of range, both have that to say.
-    if let (Err(fault), Err(other)) = (&entry.query, &entry.list) {
+    if let (Err(fault), Err(other)) = (&entry.query, &entry.value) {
         if fault == other {
             return format!("revisions {}  {fault}", spaced(entry.revisions));
         }
     }
-    let list = told(entry.list.map(|records| listed(records, all)));
-    format!("{}  revisions {}  {list}", told(entry.query), spaced(entry.revisions))
+    let value = told(entry.value.map(|value| match value {
+        Value::List(records) => listed(records, all),
+        Value::Count(count) => format!("count {count}"),
+    }));
+    format!("{}  revisions {}  {value}", told(entry.query), spaced(entry.revisions))
 }
 
 /// A filed list: how many records, and which if all is asked for.

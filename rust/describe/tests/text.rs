@@ -141,15 +141,77 @@ fn any(state: &mut u64) -> u32 {
     (*state >> 33) as u32
 }
 
+/// Forty records and a filed count of (3, *); desk 5 is about to be answered with it from file, desk 6 to file a count of its own.
+fn counting_hall() -> Hall {
+    let mut hall = Hall::open(2).unwrap();
+    for setting in 0..40 {
+        hall.begin_insert(0, &[3, setting]).unwrap();
+        assert_eq!(hall.run(0), Ok(Outcome::Changed));
+    }
+    hall.begin_count(6, &[None, None].into()).unwrap();
+    (0..3).for_each(|_| assert_eq!(hall.step(6), Ok(Outcome::UnderWay)));
+    hall.begin_count(1, &[Some(3), None].into()).unwrap();
+    assert_eq!(hall.run(1), Ok(Outcome::Counted { count: 40, from_file: false }));
+    hall.begin_count(5, &[Some(3), None].into()).unwrap();
+    (0..2).for_each(|_| assert_eq!(hall.step(5), Ok(Outcome::UnderWay)));
+    hall
+}
+
+#[test]
+fn counts_are_told_as_counts() {
+    let numbers = saved::numbers_of(&counting_hall().to_bytes());
+    let told = |alter: &[(usize, u32)], all: bool| {
+        let mut numbers = numbers.clone();
+        alter.iter().for_each(|(place, number)| numbers[*place] = *number);
+        describe(&saved::bytes_of(&numbers), all)
+    };
+    for text in [told(&[], false), told(&[], true)] {
+        for words in [
+            "\n  desk 5: count of (3, *), 2 of 5 steps made, next: fetch; revisions noted: 41 1\n",
+            "\n  desk 6: count of (*, *), 3 of 4 steps made, next: file; revisions noted: 41\n",
+            "\n  a step at desk 5 would give 0, accepted; the count would end with 40 from file\n",
+            "\n  a step at desk 6 would give 0, accepted; the count would end with 40 from the table\n",
+            "\n  0: (3, *)  revisions 41 1  count 40\n",
+        ] {
+            assert!(text.contains(words), "{words}: {text}");
+        }
+    }
+    // Numbers in the list's place of a count are no records; without the count's bit they are, and 40 is too many.
+    let key = 16_408;
+    assert!(told(&[(key + 24, 7), (key + 25, 7)], true).contains("\n  0: (3, *)  revisions 41 1  count 40\n"));
+    assert!(told(&[(key, 1)], true).contains("\n  0: (3, *)  revisions 41 1  the list's length out of range: 40, wanted 0 to 32"));
+    assert!(told(&[(key, 1), (key + 7, 1), (key + 24, 3)], true).contains("\n  0: (3, *)  revisions 41 1  1 record: (3, 0)\n"));
+    let above = told(&[(key + 7, 2_049)], true);
+    assert!(above.contains("  the count out of range: 2049, wanted 0 to 2,048") && above.contains("a step at any desk would give 3, unsound"));
+}
+
+/// Twelve desks whose steps reply alike are told together only if all count or none does.
+#[test]
+fn lists_and_counts_that_reply_alike() {
+    for counting in [0, 1, 12] {
+        let mut hall = Hall::open(1).unwrap();
+        for client in 0..12 {
+            let begun = if client < counting { hall.begin_count(client, &[None].into()) } else { hall.begin_read(client, &[None].into()) };
+            begun.unwrap();
+            (0..3).for_each(|_| assert_eq!(hall.step(client), Ok(Outcome::UnderWay)));
+        }
+        let text = describe(&hall.to_bytes(), false);
+        let told = |end: &str| text.matches(&format!("would give 0, accepted; the {end} from the table\n")).count();
+        let (lists, counts) = [(1, 0), (11, 1), (0, 1)][counting.min(2) as usize];
+        assert_eq!((told("read would end with 0 records"), told("count would end with 0")), (lists, counts), "{text}");
+        assert_eq!(text.contains("a step at any desk would give"), counting != 1);
+    }
+}
+
 /// Random bytes of random lengths, and busy halls with random numbers put in: nothing panics, and each number told is the one that the call gives.
 #[test]
 fn bytes_of_any_kind_and_length() {
-    let (sound, mut state) = (busy_hall().to_bytes(), 13);
+    let (sound, mut state) = ([busy_hall().to_bytes(), counting_hall().to_bytes()], 13);
     for round in 0..300 {
         let mut bytes: Vec<u8> = match round % 3 {
             0 => (0..any(&mut state) % 120_000).map(|_| any(&mut state) as u8).collect(),
             1 => (0..saved::BYTES).map(|i| if i % 4 == 0 { (any(&mut state) % 5) as u8 } else { 0 }).collect(),
-            _ => sound.clone(),
+            _ => sound[round % 2].clone(),
         };
         for _ in 0..any(&mut state) % 8 {
             let place = (any(&mut state) as usize % 28_400) * 4;

@@ -33,6 +33,10 @@ pub enum Call {
         client: u32,
         asked: Asked,
     },
+    BeginCount {
+        client: u32,
+        asked: Asked,
+    },
     BeginInsert {
         client: u32,
         asked: Asked,
@@ -70,7 +74,8 @@ pub fn tray_of(length: u32, fill: u32) -> impl Iterator<Item = u32> {
     (0..length).map(move |i| fill.wrapping_add(i.wrapping_mul(0x9E37_79B1)))
 }
 
-pub const KIND_NAMES: [&str; 9] = ["open", "begin_read", "begin_insert", "begin_delete", "step", "abandon", "evict_answer", "evict_node", "renew"];
+pub const KIND_NAMES: [&str; 10] =
+    ["open", "begin_read", "begin_count", "begin_insert", "begin_delete", "step", "abandon", "evict_answer", "evict_node", "renew"];
 
 impl Call {
     /// Its place in `KIND_NAMES`; none for damage.
@@ -78,13 +83,14 @@ impl Call {
         match self {
             Call::Open { .. } => Some(0),
             Call::BeginRead { .. } => Some(1),
-            Call::BeginInsert { .. } => Some(2),
-            Call::BeginDelete { .. } => Some(3),
-            Call::Step { .. } => Some(4),
-            Call::Abandon { .. } => Some(5),
-            Call::EvictAnswer { .. } => Some(6),
-            Call::EvictNode { .. } => Some(7),
-            Call::Renew => Some(8),
+            Call::BeginCount { .. } => Some(2),
+            Call::BeginInsert { .. } => Some(3),
+            Call::BeginDelete { .. } => Some(4),
+            Call::Step { .. } => Some(5),
+            Call::Abandon { .. } => Some(6),
+            Call::EvictAnswer { .. } => Some(7),
+            Call::EvictNode { .. } => Some(8),
+            Call::Renew => Some(9),
             Call::Damage { .. } => None,
         }
     }
@@ -104,6 +110,7 @@ impl Call {
         match self {
             Call::Open { k } => side.open(m, *k),
             Call::BeginRead { client, asked } => side.begin_read(m, *client, asked.words()),
+            Call::BeginCount { client, asked } => side.begin_count(m, *client, asked.words()),
             Call::BeginInsert { client, asked } => side.begin_insert(m, *client, asked.words()),
             Call::BeginDelete { client, asked } => side.begin_delete(m, *client, asked.words()),
             Call::Step { client, .. } => side.step(m, tray, *client),
@@ -137,9 +144,8 @@ impl fmt::Display for Call {
         let name = self.kind().map_or("damage", |kind| KIND_NAMES[kind]);
         match self {
             Call::Open { k } => write!(f, "{name} k {k}"),
-            Call::BeginRead { client, asked } | Call::BeginInsert { client, asked } | Call::BeginDelete { client, asked } => {
-                write!(f, "{name} desk {client} {asked}")
-            }
+            Call::BeginRead { client, asked } | Call::BeginCount { client, asked } => write!(f, "{name} desk {client} {asked}"),
+            Call::BeginInsert { client, asked } | Call::BeginDelete { client, asked } => write!(f, "{name} desk {client} {asked}"),
             Call::Step { client, tray, .. } if *tray < 128 => write!(f, "{name} desk {client}, tray of {tray}"),
             Call::Step { client, .. } | Call::Abandon { client } => write!(f, "{name} desk {client}"),
             Call::EvictAnswer { place } | Call::EvictNode { place } => write!(f, "{name} place {place}"),

@@ -2,7 +2,7 @@
 //! what they returned, and keeps a plain table of its own; nothing in it leans on the library or the twin. Beside it, filing checks
 //! demand 2's last sentence.
 
-use crate::call::{Asked, Call};
+use crate::call::{tray_of, Asked, Call};
 use crate::filing::{Filing, Wrong};
 use crate::hall::Hall;
 use crate::side::Reply;
@@ -17,8 +17,12 @@ const WRITE_STEPS: u32 = 33;
 pub enum Complaint {
     /// the table memory does not hold the plain table
     Table,
-    /// an answer that was its query's list at no moment of its read
+    /// an answer that was its query's list, or a count that was the list's length, at no moment of its read
     Stale { client: u32 },
+    /// a step of a count that has written the tray
+    Tray { client: u32 },
+    /// a count that ended with 12
+    Long { client: u32 },
     /// a read or write that goes on past its last step
     Endless { client: u32 },
     /// an ending of something that is not under way at the desk
@@ -33,7 +37,9 @@ impl fmt::Display for Complaint {
     fn fmt(&self, f: &mut fmt::Formatter) -> fmt::Result {
         match self {
             Complaint::Table => write!(f, "the table memory does not hold the plain table"),
-            Complaint::Stale { client } => write!(f, "desk {client}: the answer was its query's list at no moment of the read (stale)"),
+            Complaint::Stale { client } => write!(f, "desk {client}: the answer was true of its query's list at no moment of the read (stale)"),
+            Complaint::Tray { client } => write!(f, "desk {client}: a count has written the tray"),
+            Complaint::Long { client } => write!(f, "desk {client}: a count has ended with 12"),
             Complaint::Endless { client } => write!(f, "desk {client}: not ended with its last step"),
             Complaint::Ending { client } => write!(f, "desk {client}: an ending of nothing that is under way there"),
             Complaint::NotFetched { client } => {
@@ -49,8 +55,23 @@ impl fmt::Display for Complaint {
 #[derive(Clone, Copy, PartialEq, Eq)]
 enum Kind {
     Read,
+    Count,
     Insert,
     Delete,
+}
+
+impl Kind {
+    /// A count is a read.
+    fn reads(self) -> bool {
+        matches!(self, Kind::Read | Kind::Count)
+    }
+}
+
+/// What a read gets: its query's list, as the numbers of its records, or how many records that list has.
+#[derive(PartialEq, Eq)]
+enum Value {
+    List(Vec<u32>),
+    Count(usize),
 }
 
 /// What the plain table notes at a desk. A note that has ended stays until the next begin.
@@ -59,8 +80,8 @@ struct Note {
     asked: Asked,
     steps: u32,
     ended: bool,
-    /// of a read: its query's lists since its begin, each as the numbers of its records; one that no tray can hold is left out
-    lists: Vec<Vec<u32>>,
+    /// of a read: what would have been right at each moment since its begin; a list that no tray can hold is left out
+    values: Vec<Value>,
 }
 
 /// The longest list that is kept: no tray of the harness is longer.
@@ -73,19 +94,21 @@ pub struct Checker {
     notes: [Option<Note>; 12],
     /// how many answers were seen
     pub answers: u64,
+    /// how many of them were counts
+    pub counts: u64,
     filing: Filing,
 }
 
 impl Checker {
     /// At an accepted opening.
     pub fn opened(k: u32) -> Checker {
-        Checker { k: k as usize, plain: Vec::new(), notes: [const { None }; 12], answers: 0, filing: Filing::opened() }
+        Checker { k: k as usize, plain: Vec::new(), notes: [const { None }; 12], answers: 0, counts: 0, filing: Filing::opened() }
     }
 
-    /// How many fetches were owed the filed answer by demand 2's last sentence, and how many of them of reads begun before the
-    /// read that filed it.
-    pub fn owed(&self) -> [u64; 2] {
-        [self.filing.owed, self.filing.owed_to_earlier]
+    /// How many fetches were owed the filed answer by demand 2's last sentence, how many of them of reads begun before the read that
+    /// filed it, and how many of counts.
+    pub fn owed(&self) -> [u64; 3] {
+        [self.filing.owed, self.filing.owed_to_earlier, self.filing.owed_to_counts]
     }
 
     /// Before a call of the history.
@@ -107,9 +130,13 @@ impl Checker {
     fn feed(&mut self, call: &Call, reply: Reply, hall: &Hall) -> Option<Complaint> {
         match call {
             Call::BeginRead { client, asked } => self.begin(*client, Kind::Read, *asked),
+            Call::BeginCount { client, asked } => self.begin(*client, Kind::Count, *asked),
             Call::BeginInsert { client, asked } => self.begin(*client, Kind::Insert, *asked),
             Call::BeginDelete { client, asked } => self.begin(*client, Kind::Delete, *asked),
-            Call::Step { client, .. } => return self.step(*client, reply, hall.tray()),
+            Call::Step { client, tray, fill } => {
+                let kept = hall.tray().iter().copied().eq(tray_of(*tray, *fill));
+                return self.step(*client, reply, hall.tray(), kept);
+            }
             Call::Abandon { client } => self.notes[*client as usize] = None,
             _ => {}
         }
@@ -117,27 +144,32 @@ impl Checker {
     }
 
     fn begin(&mut self, client: u32, kind: Kind, asked: Asked) {
-        let lists = if kind == Kind::Read { self.list(&asked).into_iter().collect() } else { Vec::new() };
-        self.notes[client as usize] = Some(Note { kind, asked, steps: 0, ended: false, lists });
+        let values = self.value(kind, &asked).into_iter().collect();
+        self.notes[client as usize] = Some(Note { kind, asked, steps: 0, ended: false, values });
     }
 
-    fn step(&mut self, client: u32, reply: Reply, tray: &[u32]) -> Option<Complaint> {
+    /// kept: the tray is as it was lent
+    fn step(&mut self, client: u32, reply: Reply, tray: &[u32], kept: bool) -> Option<Complaint> {
         let k = self.k;
         let Some(note) = &mut self.notes[client as usize] else {
             return Some(Complaint::Ending { client });
         };
         note.steps += 1;
         let (kind, asked, steps) = (note.kind, note.asked, note.steps);
-        if kind != Kind::Read && steps == (1 << k) + 1 {
+        if !kind.reads() && steps == (1 << k) + 1 {
             self.take_effect(kind, asked);
         }
-        self.ending(client, reply, tray)
+        if kind == Kind::Count && reply.number == 12 {
+            return Some(Complaint::Long { client });
+        }
+        let tray_written = kind == Kind::Count && !kept;
+        self.ending(client, reply, tray).or(tray_written.then_some(Complaint::Tray { client }))
     }
 
     fn ending(&mut self, client: u32, reply: Reply, tray: &[u32]) -> Option<Complaint> {
         let k = self.k;
         let note = self.notes[client as usize].as_mut()?;
-        let reads = note.kind == Kind::Read;
+        let reads = note.kind.reads();
         let ends_read = matches!(reply.ending, 1 | 2) || reply.number == 12;
         let ends_write = matches!(reply.ending, 3 | 4) || reply.number == 13;
         if note.ended || ends_read && !reads || ends_write && reads {
@@ -146,8 +178,13 @@ impl Checker {
         note.ended = ends_read || ends_write;
         if matches!(reply.ending, 1 | 2) {
             self.answers += 1;
-            let held = tray.get(..reply.count as usize * k);
-            if !held.is_some_and(|held| note.lists.iter().any(|list| list == held)) {
+            self.counts += (note.kind == Kind::Count) as u64;
+            let count = reply.count as usize;
+            let got = match note.kind {
+                Kind::Count => Some(Value::Count(count)),
+                _ => tray.get(..count * k).map(|held| Value::List(held.to_vec())),
+            };
+            if !got.is_some_and(|got| note.values.contains(&got)) {
                 return Some(Complaint::Stale { client });
             }
         }
@@ -164,7 +201,7 @@ impl Checker {
             self.plain = kept.flatten().copied().collect();
         }
         if self.plain.len() != before {
-            self.note_lists();
+            self.note_values();
         }
     }
 
@@ -180,17 +217,26 @@ impl Checker {
     }
 
     /// The table has changed: a new moment for each read under way.
-    fn note_lists(&mut self) {
+    fn note_values(&mut self) {
         for client in 0..12 {
-            let Some(asked) = self.notes[client].as_ref().filter(|n| n.kind == Kind::Read && !n.ended).map(|n| n.asked) else {
+            let Some((kind, asked)) = self.notes[client].as_ref().filter(|n| !n.ended).map(|n| (n.kind, n.asked)) else {
                 continue;
             };
-            let list = self.list(&asked);
-            if let (Some(note), Some(list)) = (&mut self.notes[client], list) {
-                if note.lists.last() != Some(&list) {
-                    note.lists.push(list);
+            let value = self.value(kind, &asked);
+            if let (Some(note), Some(value)) = (&mut self.notes[client], value) {
+                if note.values.last() != Some(&value) {
+                    note.values.push(value);
                 }
             }
+        }
+    }
+
+    /// What is right now: nothing for a write, nor for a list that no tray can hold.
+    fn value(&self, kind: Kind, asked: &Asked) -> Option<Value> {
+        match kind {
+            Kind::Read => self.list(asked).map(Value::List),
+            Kind::Count => Some(Value::Count(self.plain.chunks(self.k).filter(|record| lies(record, asked)).count())),
+            Kind::Insert | Kind::Delete => None,
         }
     }
 

@@ -19,6 +19,8 @@ pub struct Mixing {
     kinds: [u32; 3],
     /// of 16 reads so many ask what a filed answer answers, or what another desk reads
     again: u32,
+    /// of 16 other reads so many want a count
+    counts: u32,
     /// writes keep the table near this many records; 0: they do not care
     band: u32,
     /// of 1,000 calls
@@ -35,7 +37,8 @@ pub struct Mixing {
 impl Mixing {
     fn new(k: u32, values: u32, named: u32, kinds: [u32; 3]) -> Mixing {
         let before_drain = 500;
-        Mixing { k, values, named, kinds, again: 3, band: 0, evictions: 20, abandonings: 15, odd: 30, burst: (0, 0), before_drain, draining: 0 }
+        let (again, counts, burst) = (3, 6, (0, 0));
+        Mixing { k, values, named, kinds, again, counts, band: 0, evictions: 20, abandonings: 15, odd: 30, burst, before_drain, draining: 0 }
     }
 
     /// Few values: reads and writes meet all the time.
@@ -157,8 +160,9 @@ impl Mixing {
         let [reads, inserts, deletes] = self.kinds;
         let roll = rng.below(reads + inserts + deletes);
         if roll < reads {
-            let asked = if rng.chance(self.again, 16) { asked_again(rng, hall, self.k) } else { None };
-            return Call::BeginRead { client, asked: asked.unwrap_or_else(|| self.query(rng, hall, false)) };
+            let again = if rng.chance(self.again, 16) { asked_again(rng, hall, self.k) } else { None };
+            let (counts, asked) = again.unwrap_or_else(|| (rng.chance(self.counts, 16), self.query(rng, hall, false)));
+            return begin_read(counts, client, asked);
         }
         let count = hall.get(0, COUNT);
         let inserting = if self.band > 0 { count < self.band || rng.chance(1, 2) } else { roll < reads + inserts };
@@ -195,6 +199,15 @@ impl Mixing {
     }
 }
 
+/// A read that wants a count or a list.
+pub fn begin_read(counts: bool, client: u32, asked: Asked) -> Call {
+    if counts {
+        Call::BeginCount { client, asked }
+    } else {
+        Call::BeginRead { client, asked }
+    }
+}
+
 /// A step, mostly with a tray of the least length.
 pub fn step(rng: &mut Rng, client: u32) -> Call {
     let tray = 128 + if rng.chance(1, 8) { rng.below(9) } else { 0 };
@@ -211,8 +224,8 @@ fn record_in(rng: &mut Rng, hall: &Hall, k: u32) -> Asked {
     Asked::new(&words[..2 * k as usize])
 }
 
-/// The query of a filed answer or of a desk that reads, if there is one of k columns.
-fn asked_again(rng: &mut Rng, hall: &Hall, k: u32) -> Option<Asked> {
+/// The query of a filed answer or of a desk that reads, if there is one of k columns; and whether a count is wanted, mostly as it is there.
+fn asked_again(rng: &mut Rng, hall: &Hall, k: u32) -> Option<(bool, Asked)> {
     let (count, client) = (hall.get(2, COUNT).min(ANSWERS as u32), rng.below(12));
     let key = if rng.chance(1, 2) && hall.kind_at(client) == READ {
         hall.clients().get(HEAD + client as usize * CLIENT_WIDTH + CLIENT_ENTRY..)?
@@ -226,7 +239,7 @@ fn asked_again(rng: &mut Rng, hall: &Hall, k: u32) -> Option<Asked> {
     for (c, column) in words.chunks_mut(2).enumerate() {
         column.copy_from_slice(&[query.names(c) as u32, query.values[c]]);
     }
-    Some(Asked::new(&words[..2 * k as usize]))
+    Some((query.counts != rng.chance(1, 4), Asked::new(&words[..2 * k as usize])))
 }
 
 /// A place: of an entry mostly, sometimes just past the last.
@@ -278,7 +291,7 @@ pub fn odd_call(rng: &mut Rng, hall: &Hall, k: u32) -> Call {
     let (client, asked) = (odd_client(rng), odd_query(rng, k));
     match rng.below(10) {
         0 => Call::Open { k: rng.pick(&[0, 5, 6, u32::MAX]) },
-        1 => Call::BeginRead { client, asked },
+        1 => begin_read(rng.chance(1, 2), client, asked),
         2 => Call::BeginInsert { client, asked },
         3 => Call::BeginDelete { client, asked },
         4 => Call::Step { client: rng.below(12), tray: rng.pick(&[0, 1, 127]), fill: rng.any() },
@@ -300,7 +313,7 @@ pub fn any_call(rng: &mut Rng, hall: &Hall) -> Call {
     let (client, values) = (rng.below(13), rng.pick(&[1, 3, 6]));
     match rng.below(24) {
         0 => Call::Open { k: rng.below(6) },
-        1..4 => Call::BeginRead { client, asked: plain_query(rng, k, values, 10) },
+        1..4 => begin_read(rng.chance(1, 2), client, plain_query(rng, k, values, 10)),
         4..7 => Call::BeginInsert { client, asked: plain_query(rng, k, values, 16) },
         7..9 => Call::BeginDelete { client, asked: plain_query(rng, k, values, 10) },
         9 => Call::EvictAnswer { place: place(rng, hall.get(2, COUNT)) },

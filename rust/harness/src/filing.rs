@@ -8,17 +8,28 @@
 //!
 //! As the sentence is read here (docs/DECISIONS.md, R-22; crates/demands/specs/Demand2.antt): a write counts that is open at any moment from
 //! just after the earlier begin to just before the fetch, abandoned later or not; one that ends just before the earlier begin does not. "gets
-//! it" is the filing read's list, from file, and the rest of the tray as it was. Leans on call and hall; on nothing of the library or the twin.
+//! it" is the filing read's list, from file, and the rest of the tray as it was; of a count (S-1) the filing count's number, and all of the
+//! tray as it was. An answer is filed for what a read asks: its query and which of the two it wants. Leans on call and hall; on nothing of the
+//! library or the twin.
 
 use crate::call::{tray_of, Asked, Call};
 use crate::hall::Hall;
 use crate::side::Reply;
 use std::collections::HashSet;
 
+/// What a read asks.
+#[derive(Clone, Copy, PartialEq, Eq)]
+struct Ask {
+    asked: Asked,
+    /// a count is wanted, not a list
+    counts: bool,
+}
+
 /// What is under way at a desk: a write is open until it is taken away.
 struct Work {
     reads: bool,
-    asked: Asked,
+    /// of a write: its query, and no count
+    ask: Ask,
     steps: u32,
     /// which call began it
     begun: u64,
@@ -26,9 +37,11 @@ struct Work {
     quiescent: bool,
 }
 
-/// What the last read that filed under a query gave, which call began that read, and whether it is quiescent since then.
+/// What the last read that filed for this gave, which call began that read, and whether it is quiescent since then.
 struct Filed {
-    asked: Asked,
+    ask: Ask,
+    count: u32,
+    /// the numbers of the list's records; of a count none
     list: Vec<u32>,
     begun: u64,
     quiescent: bool,
@@ -52,33 +65,36 @@ pub struct Filing {
     filed: Vec<Filed>,
     /// the nodes' labels after the call before, in their order
     labels: Vec<Label>,
-    /// before a fetch: an answer to its query is filed
+    /// before a fetch: an answer to what it asks is filed
     finds: bool,
     calls: u64,
     /// how many fetches were owed the filed answer
     pub owed: u64,
     /// how many of them were of reads begun before the read that filed it
     pub owed_to_earlier: u64,
+    /// how many of them were of counts
+    pub owed_to_counts: u64,
 }
 
 impl Filing {
     /// At an accepted opening.
     pub fn opened() -> Filing {
-        Filing { clients: [const { None }; 12], filed: Vec::new(), labels: Vec::new(), finds: false, calls: 0, owed: 0, owed_to_earlier: 0 }
+        let (filed, labels) = (Vec::new(), Vec::new());
+        Filing { clients: [const { None }; 12], filed, labels, finds: false, calls: 0, owed: 0, owed_to_earlier: 0, owed_to_counts: 0 }
     }
 
     /// Just before a call of the history.
     pub fn before(&mut self, call: &Call, hall: &Hall) {
         self.finds = match call {
-            Call::Step { client, .. } => self.fetching(*client).is_some_and(|asked| is_filed(hall.answers(), asked)),
+            Call::Step { client, .. } => self.fetching(*client).is_some_and(|ask| is_filed(hall.answers(), ask)),
             _ => false,
         };
     }
 
-    /// The query of a desk whose next step is its fetch: it has made a look for each node.
-    fn fetching(&self, client: u32) -> Option<&Asked> {
+    /// What a desk asks whose next step is its fetch: it has made a look for each node.
+    fn fetching(&self, client: u32) -> Option<&Ask> {
         let work = self.clients.get(client as usize)?.as_ref()?;
-        (work.reads && work.steps == looks(&work.asked)).then_some(&work.asked)
+        (work.reads && work.steps == looks(&work.ask.asked)).then_some(&work.ask)
     }
 
     /// After it; the hall is the one that the call left, with the tray of a step.
@@ -94,12 +110,11 @@ impl Filing {
 
     fn feed(&mut self, call: &Call, reply: Reply, hall: &Hall) -> Option<(u32, Wrong)> {
         match call {
-            Call::BeginRead { client, asked } => {
-                let quiescent = !self.clients.iter().flatten().any(|work| !work.reads && meet(&work.asked, asked));
-                self.clients[*client as usize] = Some(Work { reads: true, asked: *asked, steps: 0, begun: self.calls, quiescent });
-            }
+            Call::BeginRead { client, asked } => self.begin_read(*client, Ask { asked: *asked, counts: false }),
+            Call::BeginCount { client, asked } => self.begin_read(*client, Ask { asked: *asked, counts: true }),
             Call::BeginInsert { client, asked } | Call::BeginDelete { client, asked } => {
-                self.clients[*client as usize] = Some(Work { reads: false, asked: *asked, steps: 0, begun: self.calls, quiescent: false });
+                let ask = Ask { asked: *asked, counts: false };
+                self.clients[*client as usize] = Some(Work { reads: false, ask, steps: 0, begun: self.calls, quiescent: false });
                 self.disturb(|query| meet(asked, query));
             }
             Call::Step { client, .. } => {
@@ -113,27 +128,33 @@ impl Filing {
         None
     }
 
+    fn begin_read(&mut self, client: u32, ask: Ask) {
+        let quiescent = !self.clients.iter().flatten().any(|work| !work.reads && meet(&work.ask.asked, &ask.asked));
+        self.clients[client as usize] = Some(Work { reads: true, ask, steps: 0, begun: self.calls, quiescent });
+    }
+
     /// The reads under way and the filed answers whose query is such a one are quiescent no more.
     fn disturb(&mut self, hit: impl Fn(&Asked) -> bool) {
         for work in self.clients.iter_mut().flatten().filter(|work| work.quiescent) {
-            work.quiescent = !hit(&work.asked);
+            work.quiescent = !hit(&work.ask.asked);
         }
         for filed in self.filed.iter_mut().filter(|filed| filed.quiescent) {
-            filed.quiescent = !hit(&filed.asked);
+            filed.quiescent = !hit(&filed.ask.asked);
         }
     }
 
     /// A step before it is counted: what is wrong with what the read got or did not get.
     fn answered(&mut self, call: &Call, client: u32, reply: Reply, tray: &[u32]) -> Option<Wrong> {
         let work = self.clients.get(client as usize)?.as_ref()?;
-        let Some(filed) = self.filed.iter().find(|filed| filed.asked == work.asked) else {
+        let Some(filed) = self.filed.iter().find(|filed| filed.ask == work.ask) else {
             return (self.finds || reply.ending == 1).then_some(Wrong::NotFiled);
         };
-        let gets_it = gets(call, reply, tray, &filed.list, work.asked.words().len() / 2);
+        let gets_it = gets(call, reply, tray, filed);
         let quiescent = if work.begun < filed.begun { work.quiescent } else { filed.quiescent };
         if self.finds && quiescent {
             self.owed += 1;
             self.owed_to_earlier += (work.begun < filed.begun) as u64;
+            self.owed_to_counts += work.ask.counts as u64;
             return (!gets_it).then_some(Wrong::NotFetched);
         }
         (reply.ending == 1 && !gets_it).then_some(Wrong::NotFiled)
@@ -145,12 +166,12 @@ impl Filing {
         };
         work.steps += 1;
         let ended = reply.ending != 0 || reply.number != 0;
-        if work.reads && reply.ending == 2 && work.steps == looks(&work.asked) + 3 {
-            let numbers = reply.count as usize * work.asked.words().len() / 2;
+        if work.reads && reply.ending == 2 && work.steps == looks(&work.ask.asked) + 3 {
+            let (ask, count, begun, quiescent) = (work.ask, reply.count, work.begun, work.quiescent);
+            let numbers = if ask.counts { 0 } else { count as usize * ask.asked.words().len() / 2 };
             let list = hall.tray()[..numbers.min(hall.tray().len())].to_vec();
-            let (asked, begun, quiescent) = (work.asked, work.begun, work.quiescent);
-            self.filed.retain(|filed| filed.asked != asked);
-            self.filed.push(Filed { asked, list, begun, quiescent });
+            self.filed.retain(|filed| filed.ask != ask);
+            self.filed.push(Filed { ask, count, list, begun, quiescent });
         }
         if ended {
             self.clients[client as usize] = None;
@@ -172,13 +193,13 @@ impl Filing {
     }
 }
 
-/// "gets it": from file, the list's length as count, the list from the tray's start and the rest of the tray as it was.
-fn gets(call: &Call, reply: Reply, tray: &[u32], list: &[u32], k: usize) -> bool {
+/// "gets it": from file, the filed count or the list's length as count, the list from the tray's start and the rest of the tray as it was.
+fn gets(call: &Call, reply: Reply, tray: &[u32], filed: &Filed) -> bool {
     let Call::Step { tray: length, fill, .. } = call else {
         return false;
     };
-    let whole = list.iter().copied().chain(tray_of(*length, *fill).skip(list.len()));
-    reply.number == 0 && reply.ending == 1 && reply.count as usize * k == list.len() && tray.iter().copied().eq(whole)
+    let whole = filed.list.iter().copied().chain(tray_of(*length, *fill).skip(filed.list.len()));
+    reply.number == 0 && reply.ending == 1 && reply.count == filed.count && tray.iter().copied().eq(whole)
 }
 
 /// How many nodes a read looks at: 2^m, of m named columns.
@@ -201,11 +222,11 @@ fn is_node_of(label: &Label, asked: &Asked) -> bool {
     })
 }
 
-/// The answers memory holds an entry with the query's key: how many at place 0, 152 numbers each from place 8 on; the key is the named
-/// columns as bits, four values, and two numbers that are 0.
-fn is_filed(answers: &[u32], asked: &Asked) -> bool {
-    let mut key = [0; 7];
-    for (c, column) in asked.words().chunks(2).enumerate() {
+/// The answers memory holds an entry with this key: how many at place 0, 152 numbers each from place 8 on; the key is the named columns as
+/// bits and the bit after those of four columns for a count, four values, and two numbers that are 0.
+fn is_filed(answers: &[u32], ask: &Ask) -> bool {
+    let mut key = [(ask.counts as u32) << 4, 0, 0, 0, 0, 0, 0];
+    for (c, column) in ask.asked.words().chunks(2).enumerate() {
         key[0] |= column[0] << c;
         key[1 + c] = column[1];
     }

@@ -35,10 +35,21 @@ pub struct Findings {
     /// fetches that demand 2's last sentence owed the filed answer, and those of them that did not get it
     pub owed: u64,
     pub not_fetched: u64,
-    /// the table memory, a step limit, an ending of nothing, an answer that was not filed: each ends its history
+    /// steps of counts that have written the tray
+    pub trays: u64,
+    /// answers on file or from it that were not filed so; each ends its history
+    pub not_filed: u64,
+    /// the table memory, a step limit, an ending of nothing, a count that ended with 12: each ends its history
     pub others: u64,
     /// the first complaint, with the history up to it
     pub first: Option<(Script, Complaint)>,
+}
+
+impl Findings {
+    /// Every answer was right and on file as it should be, and nothing else was complained of, but for fetches and trays.
+    pub fn is_otherwise_true(&self) -> bool {
+        self.stale + self.not_filed + self.others == 0
+    }
 }
 
 /// Runs one side alone through histories from fresh openings, and checks each call.
@@ -71,10 +82,12 @@ fn one_history(side: &dyn Side, rng: &mut Rng, mut mixing: Mixing, length: u64, 
             match complaint {
                 Complaint::Stale { .. } => findings.stale += 1,
                 Complaint::NotFetched { .. } => findings.not_fetched += 1,
-                _ => {
-                    findings.others += 1;
-                    break;
-                }
+                Complaint::Tray { .. } => findings.trays += 1,
+                Complaint::NotFiled { .. } => findings.not_filed += 1,
+                _ => findings.others += 1,
+            }
+            if !matches!(complaint, Complaint::Stale { .. } | Complaint::NotFetched { .. } | Complaint::Tray { .. }) {
+                break;
             }
         }
     }

@@ -20,6 +20,9 @@ impl Side for Library {
     fn begin_read(&self, m: Lent, client: u32, query: &[u32]) -> Reply {
         plain(over(m).begin_read(client, query))
     }
+    fn begin_count(&self, m: Lent, client: u32, query: &[u32]) -> Reply {
+        plain(over(m).begin_count(client, query))
+    }
     fn begin_insert(&self, m: Lent, client: u32, query: &[u32]) -> Reply {
         plain(over(m).begin_insert(client, query))
     }

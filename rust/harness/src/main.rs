@@ -1,6 +1,6 @@
 //! The command `harness`: compares the library with the twin, and checks demand 3 and demand 2's last sentence. Exit status: 0 nothing found
 //! (with --all-faults: every fault found; with --gate: every part passed), 1 a difference, 2 wrong arguments, 3 the checker complains, 4 a
-//! fault was not found, 5 something that a long run must meet was not met, or a row of --limits is not as document 01 has it.
+//! fault was not found, 5 something that a long run must meet was not met, or a row of --limits is not as the documents have it.
 
 use harness::histories::{check_alone, Findings};
 use harness::library::Library;
@@ -20,8 +20,9 @@ const USAGE: &str = "usage: harness [--seed N] [--calls N] [--gate | --limits | 
   --calls N      how many calls (default 1000000)
   --gate         what the gate runs, all parts: the comparison with the checkers and all that it must meet, each fault of the twin found,
                  the checkers' own findings, the limits
-  --limits       both sides of every limit of document 01, library and twin each held to its number; --verbose prints every row
-  --fault NAME   build this fault into the twin: early-raise, back-at-one, one-bit, late-look, stacked, no-marks
+  --limits       both sides of every limit of the documents, library and twin each held to its number; --verbose prints every row
+  --fault NAME   build this fault into the twin: early-raise, back-at-one, one-bit, late-look, stacked, no-marks, one-key,
+                 count-on-tray
   --all-faults   each fault in turn; status 0 only if every one is found
   --check        run the checkers over the library's histories (the default); --no-check leaves them out
   --check-twin   histories of the twin alone (with its fault) under the checkers; nothing is compared
@@ -161,7 +162,7 @@ fn all_faults(options: &Options) -> u8 {
         let mut run = Run::new(&Library, twin_with(fault), options.seed, options.calls, false);
         let found = run.go().is_err();
         let calls = grouped(run.tally.calls);
-        println!("  {name:<12} {}", if found { format!("found after {calls} calls") } else { format!("NOT FOUND in {calls} calls") });
+        println!("  {name:<14} {}", if found { format!("found after {calls} calls") } else { format!("NOT FOUND in {calls} calls") });
         missed += !found as u32;
     }
     println!("  {} of {} faults found", FAULTS.len() as u32 - missed, FAULTS.len());
@@ -191,13 +192,16 @@ const CHECKED_ALONE: u64 = 100_000;
 /// What a side is like, the side, and whether what was found in its histories is as it should be.
 type Tried = (&'static str, &'static dyn Side, fn(&Findings) -> bool);
 
-/// The checkers find something where there is something, each its own: stale answers where looks pay no heed to marks, and
-/// fetches that do not get the filed answer where none does. In the plain twin they find nothing.
+/// The checkers find something where there is something, each its own: stale answers where looks pay no heed to marks, fetches that
+/// do not get the filed answer where none does, answers of the other wanting where a key does not tell it, trays that counts have
+/// written. In the plain twin they find nothing.
 fn checkers(options: &Options) -> u8 {
-    let tried: [Tried; 3] = [
+    let tried: [Tried; 5] = [
         ("the plain twin: nothing is found", twin_with(Fault::None), |f| f.first.is_none() && f.owed > 0),
         ("looks that see no marks: stale answers are found", twin_with(Fault::NoPending), |f| f.stale > 0),
-        ("fetches that find no answer: not fetched is found", &WithoutFetch, |f| f.not_fetched > 0 && f.stale == 0 && f.others == 0),
+        ("fetches that find no answer: not fetched is found", &WithoutFetch, |f| f.not_fetched > 0 && f.is_otherwise_true()),
+        ("keys that do not tell a count from a list: answers that were not filed so are found", twin_with(Fault::OneKey), |f| f.not_filed > 0),
+        ("counts that go to the tray: that is found, and nothing else", twin_with(Fault::CountOnTray), |f| f.trays > 0 && f.is_otherwise_true()),
     ];
     let mut missed = 0;
     for (name, side, as_it_should) in tried {

@@ -50,9 +50,9 @@ pub fn print_tally(tally: &Tally, checked: bool) {
     println!("  ways of lengths 0, least-1, least, least+1: {} of 256", tally.ways.iter().filter(|way| **way).count());
     println!("{} calls, {} numbers compared", grouped(tally.calls), grouped(tally.numbers));
     if checked {
-        let [checked, owed, earlier] = [tally.checked, tally.owed[0], tally.owed[1]].map(grouped);
-        println!("checkers: {checked} answers of histories looked at; {owed} fetches owed the filed answer,");
-        println!("  {earlier} of them of reads begun before the read that filed it");
+        let ([checked, counts], [owed, earlier, of_counts]) = (tally.checked.map(grouped), tally.owed.map(grouped));
+        println!("checkers: {checked} answers of histories looked at, {counts} of them counts; {owed} fetches owed the filed answer,");
+        println!("  {earlier} of them of reads begun before the read that filed it, {of_counts} of counts");
     }
 }
 
@@ -61,7 +61,8 @@ pub fn print_findings(findings: &Findings) {
     println!("    {} histories, {} calls", grouped(findings.histories), grouped(findings.calls));
     println!("    stale answers: {} of {}", grouped(findings.stale), grouped(findings.answers));
     println!("    not fetched: {} of {} fetches owed the filed answer", grouped(findings.not_fetched), grouped(findings.owed));
-    println!("    other complaints (table, step limits, endings, not filed): {}", grouped(findings.others));
+    println!("    trays written by a count: {}; answers that were not filed so: {}", grouped(findings.trays), grouped(findings.not_filed));
+    println!("    other complaints (table, step limits, endings, counts that ended with 12): {}", grouped(findings.others));
 }
 
 pub fn reply_text(reply: Reply) -> String {

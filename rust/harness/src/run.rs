@@ -1,6 +1,6 @@
 //! A run: scripts of five sorts, drawn from a seed, made on both sides and compared after each call. Leans on all but report.
 
-use crate::call::Call;
+use crate::call::{Call, KIND_NAMES};
 use crate::check::{Checker, Complaint};
 use crate::draw::{self, Mixing};
 use crate::hall::Hall;
@@ -31,15 +31,15 @@ pub struct Tally {
     /// by the k that the hall has after the call
     pub calls_of_columns: [u64; 5],
     /// by kind of call and number returned
-    pub outcomes: [[u64; 14]; 9],
+    pub outcomes: [[u64; 14]; KIND_NAMES.len()],
     pub endings: [u64; 5],
     pub limits: [u64; LIMITS.len()],
     /// ways to give the four memories lengths, of 256
     pub ways: [bool; 256],
-    /// answers that the checker has looked at
-    pub checked: u64,
-    /// fetches that demand 2's last sentence owed the filed answer, and those of them of reads begun before the filing read
-    pub owed: [u64; 2],
+    /// answers that the checker has looked at, and those of them that are counts
+    pub checked: [u64; 2],
+    /// fetches that demand 2's last sentence owed the filed answer, those of them of reads begun before the filing read, those of counts
+    pub owed: [u64; 3],
 }
 
 impl Tally {
@@ -52,12 +52,12 @@ impl Tally {
             calls_of_sort: [0; 5],
             accepted_of_sort: [0; 5],
             calls_of_columns: [0; 5],
-            outcomes: [[0; 14]; 9],
+            outcomes: [[0; 14]; KIND_NAMES.len()],
             endings: [0; 5],
             limits: [0; LIMITS.len()],
             ways: [false; 256],
-            checked: 0,
-            owed: [0; 2],
+            checked: [0; 2],
+            owed: [0; 3],
         }
     }
 }
@@ -181,12 +181,10 @@ impl<'a> Run<'a> {
         let Some(checker) = &mut made.checker else {
             return Ok(());
         };
-        self.tally.checked += matches!(reply.ending, 1 | 2) as u64;
-        let owed = checker.owed();
+        let (seen, owed) = ([checker.answers, checker.counts], checker.owed());
         let complaint = checker.after(call, reply, &made.left);
-        for (sum, (now, before)) in self.tally.owed.iter_mut().zip(checker.owed().into_iter().zip(owed)) {
-            *sum += now - before;
-        }
+        add(&mut self.tally.checked, [checker.answers, checker.counts], seen);
+        add(&mut self.tally.owed, checker.owed(), owed);
         match complaint {
             Some(complaint) => Err(made.failure(Some(complaint))),
             None => Ok(()),
@@ -273,7 +271,9 @@ impl<'a> Run<'a> {
             self.make(&mut made, Call::Step { client, tray: [0, 127, 128, 129][step], fill })?;
         }
         let (client, asked) = (self.rng.below(12), draw::plain_query(&mut self.rng, k, 4, 16));
-        self.make(&mut made, Call::BeginRead { client, asked })?;
+        let counts = self.rng.chance(1, 2);
+        self.make(&mut made, draw::begin_read(counts, client, asked))?;
+        self.make(&mut made, draw::begin_read(!counts, client, asked))?;
         self.make(&mut made, Call::BeginInsert { client, asked })?;
         self.make(&mut made, Call::BeginDelete { client, asked })?;
         // what else would be turned down, or not: 1 goes before it
@@ -281,6 +281,13 @@ impl<'a> Run<'a> {
         self.make_all(&mut made, odd)?;
         let rest = [Call::Abandon { client }, Call::EvictAnswer { place: 0 }, Call::EvictNode { place: 0 }, Call::Renew, Call::Open { k }];
         self.make_all(&mut made, rest.to_vec())
+    }
+}
+
+/// Adds to each sum what has come to it.
+fn add<const N: usize>(sums: &mut [u64; N], now: [u64; N], before: [u64; N]) {
+    for (sum, (now, before)) in sums.iter_mut().zip(now.into_iter().zip(before)) {
+        *sum += now - before;
     }
 }
 

@@ -8,7 +8,7 @@ use twin::layout::*;
 use twin::query::Query;
 use twin::PLAIN;
 
-pub const LIMITS: [&str; 23] = [
+pub const LIMITS: [&str; 30] = [
     "a list of 32 records is taken",
     "33 records: 12",
     "an insert at 2,047 records goes in",
@@ -32,24 +32,58 @@ pub const LIMITS: [&str; 23] = [
     "open with k 0: 2",
     "open with k 5: 2",
     "a tray of 127: 1",
+    "33 records: a count of 33",
+    "2,048 records: a count of 2,048",
+    "a count above 32 is answered from file",
+    "the longest filed count is 2,048",
+    "the longest filed count is 2,049: 3",
+    "the called desk holds a count of 2,048",
+    "the called desk holds a count of 2,049: 3",
 ];
 
 /// What is known before a call.
 #[derive(Clone, Copy)]
 pub enum Before {
     Nothing,
-    WriteBegin { highest: u32 },
-    Look { missing: bool, nodes: u32 },
-    ReadTable { matches: usize },
-    File { kept: u32 },
-    Announce { pending: Option<u32>, nodes: u32 },
-    Insert { records: u32 },
-    Raise { revision: Option<u32> },
+    WriteBegin {
+        highest: u32,
+    },
+    Look {
+        missing: bool,
+        nodes: u32,
+    },
+    ReadTable {
+        matches: usize,
+    },
+    CountTable {
+        matches: usize,
+    },
+    /// the called desk holds a count of all records, or of one more
+    Holds {
+        count: usize,
+    },
+    /// no other case: the longest filed count, where no filed list is too long
+    Filed {
+        count: usize,
+    },
+    File {
+        kept: u32,
+    },
+    Announce {
+        pending: Option<u32>,
+        nodes: u32,
+    },
+    Insert {
+        records: u32,
+    },
+    Raise {
+        revision: Option<u32>,
+    },
 }
 
 pub fn before(call: &Call, hall: &Hall) -> Before {
     let whole = (0..4).all(|m| hall.memories[m].len() >= LEAST[m]) && (1..=4).contains(&hall.columns());
-    let counts = hall.get(0, COUNT) <= 2048 && hall.get(1, NODE_COUNT) <= 1024;
+    let counts = hall.get(0, COUNT) <= 2048 && hall.get(1, NODE_COUNT) <= 1024 && hall.get(2, COUNT) <= 64;
     if !whole || !counts {
         return Before::Nothing;
     }
@@ -59,6 +93,17 @@ pub fn before(call: &Call, hall: &Hall) -> Before {
             Before::WriteBegin { highest: revisions.fold(hall.nodes()[FLOOR], u32::max) }
         }
         Call::Step { client, .. } if *client < 12 => before_step(*client, hall),
+        Call::BeginRead { .. } | Call::BeginCount { .. } => before_filed(hall),
+        _ => Before::Nothing,
+    }
+}
+
+/// A begin of a read meets no limit of its own, but those of what is filed.
+fn before_filed(hall: &Hall) -> Before {
+    let filed = || hall.answers()[HEAD..].chunks(ENTRY_WIDTH).take(hall.answers()[COUNT] as usize).map(|e| (e[0] & COUNT_BIT != 0, e[ENTRY_LENGTH]));
+    let long = filed().any(|(counts, length)| !counts && length as usize > LIST);
+    match filed().filter(|(counts, _)| *counts).map(|(_, count)| count as usize).max() {
+        Some(count) if !long => Before::Filed { count },
         _ => Before::Nothing,
     }
 }
@@ -71,8 +116,11 @@ fn before_step(client: u32, hall: &Hall) -> Before {
     let (kind, steps, nodes) = (own[CLIENT_KIND], own[CLIENT_STEPS], hall.nodes()[NODE_COUNT]);
     let node = |label| twin::nodes::find(hall.nodes(), &label).map(|place| twin::nodes::all(hall.nodes())[place]);
     let (looks, announcements) = (query.looks(), query.announcements());
+    let length = own[CLIENT_ENTRY + ENTRY_LENGTH] as usize;
     match kind {
+        READ if query.counts && (length == RECORDS || length == RECORDS + 1) => Before::Holds { count: length },
         READ if steps < looks => Before::Look { missing: node(query.read_label(steps)).is_none(), nodes },
+        READ if steps == looks + 1 && query.counts => Before::CountTable { matches: matches(hall, &query) },
         READ if steps == looks + 1 => Before::ReadTable { matches: matches(hall, &query) },
         READ if steps == looks + 2 => Before::File { kept: hall.answers()[COUNT] },
         INSERT | DELETE if steps < announcements => {
@@ -115,6 +163,13 @@ pub fn limit_met(call: &Call, before: Before, reply: Reply, hall: &Hall) -> Opti
         (Before::WriteBegin { highest }, 10) if highest == WORN + 1 => Some(13),
         (Before::Raise { revision: Some(revision) }, 0) if revision == u32::MAX - 1 => Some(14),
         (Before::Raise { revision: Some(u32::MAX) }, 3) => Some(15),
+        (Before::CountTable { matches: 33 }, 0) => Some(23),
+        (Before::CountTable { matches: RECORDS }, 0) => Some(24),
+        (_, 0) if reply.ending == 1 && reply.count as usize > LIST => Some(25),
+        (Before::Filed { count: RECORDS }, 0) => Some(26),
+        (Before::Filed { count }, 3) if count == RECORDS + 1 => Some(27),
+        (Before::Holds { count: RECORDS }, 0) => Some(28),
+        (Before::Holds { count }, 3) if count == RECORDS + 1 => Some(29),
         _ => by_argument(call, accepted, reply.number),
     }
 }
@@ -129,11 +184,13 @@ fn client_of(call: &Call, hall: &Hall, at: usize) -> u32 {
 fn by_argument(call: &Call, accepted: bool, number: u32) -> Option<usize> {
     match call {
         Call::Step { tray: 127, .. } if number == 1 => Some(22),
-        Call::Step { client, .. } | Call::BeginRead { client, .. } | Call::Abandon { client } => match (client, number) {
-            (11, 0) => Some(16),
-            (12, 4) => Some(17),
-            _ => None,
-        },
+        Call::Step { client, .. } | Call::BeginRead { client, .. } | Call::BeginCount { client, .. } | Call::Abandon { client } => {
+            match (client, number) {
+                (11, 0) => Some(16),
+                (12, 4) => Some(17),
+                _ => None,
+            }
+        }
         Call::Open { k: 1 } if accepted => Some(18),
         Call::Open { k: 4 } if accepted => Some(19),
         Call::Open { k: 0 } if number == 2 => Some(20),

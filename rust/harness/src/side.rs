@@ -1,4 +1,4 @@
-//! One side of a comparison: the nine calls, one method each. The twin with each fault is one. Leans on the twin.
+//! One side of a comparison: the ten calls, one method each. The twin with each fault is one. Leans on the twin.
 
 use twin::{Fault, Memories};
 
@@ -16,6 +16,7 @@ pub struct Lent<'a> {
 pub trait Side {
     fn open(&self, m: Lent, k: u32) -> Reply;
     fn begin_read(&self, m: Lent, client: u32, query: &[u32]) -> Reply;
+    fn begin_count(&self, m: Lent, client: u32, query: &[u32]) -> Reply;
     fn begin_insert(&self, m: Lent, client: u32, query: &[u32]) -> Reply;
     fn begin_delete(&self, m: Lent, client: u32, query: &[u32]) -> Reply;
     fn step(&self, m: Lent, tray: &mut [u32], client: u32) -> Reply;
@@ -41,6 +42,9 @@ impl<const FAULT: u8> Side for Twin<FAULT> {
     fn begin_read(&self, m: Lent, client: u32, query: &[u32]) -> Reply {
         Self::over(m).begin_read(client, query)
     }
+    fn begin_count(&self, m: Lent, client: u32, query: &[u32]) -> Reply {
+        Self::over(m).begin_count(client, query)
+    }
     fn begin_insert(&self, m: Lent, client: u32, query: &[u32]) -> Reply {
         Self::over(m).begin_insert(client, query)
     }
@@ -64,14 +68,16 @@ impl<const FAULT: u8> Side for Twin<FAULT> {
     }
 }
 
-/// The faults by name; the first five are those of document 01.
-pub const FAULTS: [(&str, Fault); 6] = [
+/// The faults by name; the first five are those of document 01, the last two of counts (S-1).
+pub const FAULTS: [(&str, Fault); 8] = [
     ("early-raise", Fault::EarlyRaise),
     ("back-at-one", Fault::BackAtOne),
     ("one-bit", Fault::OneBit),
     ("late-look", Fault::LateLook),
     ("stacked", Fault::Stacked),
     ("no-marks", Fault::NoPending),
+    ("one-key", Fault::OneKey),
+    ("count-on-tray", Fault::CountOnTray),
 ];
 
 pub fn fault_named(name: &str) -> Option<Fault> {
@@ -88,5 +94,7 @@ pub fn twin_with(fault: Fault) -> &'static dyn Side {
         Fault::LateLook => &Twin::<{ Fault::LateLook as u8 }>,
         Fault::Stacked => &Twin::<{ Fault::Stacked as u8 }>,
         Fault::NoPending => &Twin::<{ Fault::NoPending as u8 }>,
+        Fault::OneKey => &Twin::<{ Fault::OneKey as u8 }>,
+        Fault::CountOnTray => &Twin::<{ Fault::CountOnTray as u8 }>,
     }
 }

@@ -61,7 +61,26 @@ pub fn any_noise(rng: &mut Rng) -> Hall {
     hall
 }
 
-/// Noise in which k, the entry counts and (but for a few) the filed lists' lengths are in range.
+/// The most that the length of an entry may be whose key begins like this: a count's, or a list's.
+fn most(first: u32) -> u32 {
+    if first & COUNT_BIT != 0 {
+        RECORDS as u32
+    } else {
+        LIST as u32
+    }
+}
+
+/// A length for an entry whose key begins like this.
+fn length_for(rng: &mut Rng, first: u32) -> u32 {
+    count_below(rng, most(first) as usize)
+}
+
+/// The numbers of a filed answer.
+fn entry_at(hall: &mut Hall, place: usize) -> &mut [u32] {
+    &mut hall.memories[2][HEAD + place * ENTRY_WIDTH..][..ENTRY_WIDTH]
+}
+
+/// Noise in which k, the entry counts and (but for a few) the lengths of filed lists and counts are in range.
 fn sound_headers(rng: &mut Rng) -> Hall {
     let mut hall = noise(rng);
     hall.memories[3][COLUMNS] = 1 + rng.below(4);
@@ -69,13 +88,16 @@ fn sound_headers(rng: &mut Rng) -> Hall {
     hall.memories[1][NODE_COUNT] = count_below(rng, NODES);
     hall.memories[2][COUNT] = count_below(rng, ANSWERS);
     for place in 0..ANSWERS {
-        hall.memories[2][HEAD + place * ENTRY_WIDTH + ENTRY_LENGTH] = rng.below(33);
+        let entry = entry_at(&mut hall, place);
+        entry[0] ^= if rng.chance(1, 4) { COUNT_BIT } else { 0 };
+        entry[ENTRY_LENGTH] = length_for(rng, entry[0]);
     }
     if rng.chance(1, 16) {
         let newest = hall.get(2, COUNT).saturating_sub(1);
         let any = rng.below(64);
         let place = rng.pick(&[0, newest, any]) as usize;
-        hall.memories[2][HEAD + place * ENTRY_WIDTH + ENTRY_LENGTH] = 33;
+        let entry = entry_at(&mut hall, place);
+        entry[ENTRY_LENGTH] = most(entry[0]) + 1;
     }
     hall
 }
@@ -111,7 +133,7 @@ fn seat(rng: &mut Rng, hall: &mut Hall, client: usize) {
     let k = hall.columns();
     let kind = 1 + rng.below(3);
     let asked = plain_query(rng, k, 3, if kind == INSERT { 16 } else { 10 });
-    let query = Query::arrived(k as usize, asked.words());
+    let query = Query { counts: kind == READ && rng.chance(1, 2), ..Query::arrived(k as usize, asked.words()) };
     let last = if kind == READ { query.looks() + 3 } else { 2 * query.announcements() + 1 };
     let steps = if rng.chance(1, 3) { last - 1 - rng.below(last.min(3)) } else { rng.below(last) };
     let place = HEAD + client * CLIENT_WIDTH;
@@ -122,7 +144,7 @@ fn seat(rng: &mut Rng, hall: &mut Hall, client: usize) {
         own[flag] = rng.pick(&[0, 0, 0, 1, 2]);
     }
     own[CLIENT_ENTRY..CLIENT_ENTRY + KEY_WIDTH].copy_from_slice(&query.key());
-    own[CLIENT_ENTRY + ENTRY_LENGTH] = rng.below(33);
+    own[CLIENT_ENTRY + ENTRY_LENGTH] = length_for(rng, own[CLIENT_ENTRY]);
     if rng.chance(1, 8) {
         spoil(rng, &mut hall.memories[3][place..place + CLIENT_WIDTH], last);
     } else if kind == READ {
@@ -132,9 +154,11 @@ fn seat(rng: &mut Rng, hall: &mut Hall, client: usize) {
     }
 }
 
-/// One number of a desk just out of range: kind, step, list length, or one of the key.
+/// One number of a desk just out of range: kind, step, length, or one of the key. (A reader's that gets or loses the bit of a count may be
+/// in range still.)
 fn spoil(rng: &mut Rng, own: &mut [u32], last: u32) {
-    let (place, value) = match rng.below(7) {
+    let (place, value) = match rng.below(8) {
+        7 => (CLIENT_ENTRY, own[CLIENT_ENTRY] ^ COUNT_BIT),
         0 => (CLIENT_KIND, rng.pick(&[0, 4])),
         6 => {
             // a star, which an insert has not
@@ -142,7 +166,7 @@ fn spoil(rng: &mut Rng, own: &mut [u32], last: u32) {
             (CLIENT_ENTRY, own[CLIENT_ENTRY] & !1)
         }
         1 => (CLIENT_STEPS, last),
-        2 => (CLIENT_ENTRY + ENTRY_LENGTH, 33),
+        2 => (CLIENT_ENTRY + ENTRY_LENGTH, most(own[CLIENT_ENTRY]) + 1),
         3 => (CLIENT_ENTRY, own[CLIENT_ENTRY] ^ 1 << rng.below(6)),
         4 => (CLIENT_ENTRY + 1 + rng.below(4) as usize, 1 + rng.below(3)),
         _ => (CLIENT_ENTRY + 5 + rng.below(2) as usize, 1),
@@ -151,7 +175,7 @@ fn spoil(rng: &mut Rng, own: &mut [u32], last: u32) {
 }
 
 /// Some of a read's nodes are there, marked or not. Some reads find answers filed under their key, one or several, with revisions near those
-/// noted.
+/// noted; or under the key of a count where a list is wanted, and the other way round.
 fn seat_read(rng: &mut Rng, hall: &mut Hall, place: usize, query: &Query) {
     for number in 0..query.looks() {
         if rng.chance(1, 4) {
@@ -167,6 +191,8 @@ fn seat_read(rng: &mut Rng, hall: &mut Hall, place: usize, query: &Query) {
     for _ in 0..rng.below(4) {
         let entry = &mut hall.memories[2][HEAD + rng.below(count) as usize * ENTRY_WIDTH..][..ENTRY_WIDTH];
         entry[..KEY_WIDTH].copy_from_slice(&query.key());
+        entry[0] ^= if rng.chance(1, 4) { COUNT_BIT } else { 0 };
+        entry[ENTRY_LENGTH] = length_for(rng, entry[0]);
         if rng.chance(1, 8) {
             // a senseless key, which fits no read
             entry[5 + rng.below(2) as usize] = 1;
@@ -269,7 +295,7 @@ fn fill_nodes(rng: &mut Rng, hall: &mut Hall) {
     }
 }
 
-/// Answers to different queries, with short lists.
+/// Answers to different queries, with short lists, or counts.
 fn fill_answers(rng: &mut Rng, hall: &mut Hall) {
     let count = rng.pick(&[0, 1, 62, 63, 64]);
     hall.memories[2][COUNT] = count;
@@ -277,7 +303,8 @@ fn fill_answers(rng: &mut Rng, hall: &mut Hall) {
         let entry = &mut hall.memories[2][HEAD + i as usize * ENTRY_WIDTH..][..ENTRY_WIDTH];
         entry[0] = 1;
         entry[1] = i;
-        entry[ENTRY_LENGTH] = rng.pick(&[0, 1, 31, 32]);
+        entry[0] |= if rng.chance(1, 4) { COUNT_BIT } else { 0 };
+        entry[ENTRY_LENGTH] = length_for(rng, entry[0]);
         entry[ENTRY_REVISIONS..ENTRY_LIST].fill(1 + rng.below(3));
         entry[ENTRY_LIST..].fill(i);
     }
@@ -317,7 +344,8 @@ pub fn damage(rng: &mut Rng, hall: &Hall) -> Call {
         _ => HEAD as u32 + damaged_entry(rng, memory, used),
     };
     let old = hall.get(memory, place as usize);
-    let value = match rng.below(7) {
+    let value = match rng.below(8) {
+        7 => old ^ COUNT_BIT,
         0 => old.wrapping_add(1),
         1 => old.wrapping_sub(1),
         2 => old ^ 1 << rng.below(32),
@@ -328,8 +356,11 @@ pub fn damage(rng: &mut Rng, hall: &Hall) -> Call {
     Call::Damage { memory: memory as u8, place, value }
 }
 
-/// A place in use; of a desk mostly one of the numbers that are not its list.
+/// A place in use; of a desk mostly one of the numbers that are not its list, of a filed answer often what it answers or its length.
 fn damaged_entry(rng: &mut Rng, memory: usize, used: u32) -> u32 {
+    if memory == 2 && rng.chance(1, 2) {
+        return rng.below(used / ENTRY_WIDTH as u32) * ENTRY_WIDTH as u32 + rng.pick(&[0, ENTRY_LENGTH as u32]);
+    }
     if memory == 3 && rng.chance(3, 4) {
         return rng.below(CLIENTS as u32) * CLIENT_WIDTH as u32 + rng.below((CLIENT_ENTRY + ENTRY_LIST) as u32);
     }

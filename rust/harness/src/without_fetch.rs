@@ -19,6 +19,9 @@ impl Side for WithoutFetch {
     fn begin_read(&self, m: Lent, client: u32, query: &[u32]) -> Reply {
         plain().begin_read(m, client, query)
     }
+    fn begin_count(&self, m: Lent, client: u32, query: &[u32]) -> Reply {
+        plain().begin_count(m, client, query)
+    }
     fn begin_insert(&self, m: Lent, client: u32, query: &[u32]) -> Reply {
         plain().begin_insert(m, client, query)
     }

@@ -1,4 +1,4 @@
-//! Every row at a limit is as document 01 has it, for the library and for the plain twin; the rows ask for every number that a call can
+//! Every row at a limit is as the documents have it, for the library and for the plain twin; the rows ask for every number that a call can
 //! give, and sides that are wrong in one thing do not pass.
 
 use harness::call::KIND_NAMES;
@@ -28,6 +28,9 @@ impl<F: Fn(&mut Reply, &mut Lent)> Side for Wrong<F> {
     }
     fn begin_read(&self, m: Lent, client: u32, query: &[u32]) -> Reply {
         self.bent(m, |twin, m| twin.begin_read(m, client, query))
+    }
+    fn begin_count(&self, m: Lent, client: u32, query: &[u32]) -> Reply {
+        self.bent(m, |twin, m| twin.begin_count(m, client, query))
     }
     fn begin_insert(&self, m: Lent, client: u32, query: &[u32]) -> Reply {
         self.bent(m, |twin, m| twin.begin_insert(m, client, query))
@@ -60,7 +63,7 @@ fn found_by_each(wrong: &dyn Side, concern: impl Fn(&Row) -> bool) {
 }
 
 #[test]
-fn every_row_is_as_document_01_has_it() {
+fn every_row_is_as_the_documents_have_it() {
     let rows = rows();
     assert!(rows.iter().filter(|row| row.lent == MORE).count() >= ROWS_BEFORE);
     for (good, line) in rows.iter().map(|row| row.judge(&Library, twin_with(Fault::None))) {
@@ -70,8 +73,9 @@ fn every_row_is_as_document_01_has_it() {
 
 #[test]
 fn each_call_is_asked_for_every_number_that_it_has() {
-    let numbers: [&[u32]; 9] = [
+    let numbers: [&[u32]; KIND_NAMES.len()] = [
         &[0, 1, 2],
+        &[0, 1, 2, 3, 4, 5],
         &[0, 1, 2, 3, 4, 5],
         &[0, 1, 2, 3, 4, 5, 10],
         &[0, 1, 2, 3, 4, 5, 10],
@@ -100,7 +104,9 @@ fn another_reply_is_found() {
         let wrong = Wrong(|reply: &mut Reply, _: &mut Lent| reply.ending = if reply.ending == ending { 0 } else { reply.ending });
         found_by_each(&wrong, |row| row.wanted.ending == ending);
     }
-    found_by_each(&Wrong(|reply: &mut Reply, _: &mut Lent| reply.count += (reply.count == 32) as u32), |row| row.wanted.count == 32);
+    for count in [32, 33, 2_047, 2_048] {
+        found_by_each(&Wrong(|reply: &mut Reply, _: &mut Lent| reply.count += (reply.count == count) as u32), |row| row.wanted.count == count);
+    }
 }
 
 #[test]

@@ -18,7 +18,7 @@ const SHORTENING: Duration = Duration::from_secs(20);
 fn the_library_agrees_with_the_twin_and_a_short_run_meets_too_little() {
     let mut run = Run::new(&Library, twin_with(Fault::None), 9, 50_000, true);
     assert!(run.go().is_ok());
-    assert!(run.tally.calls >= 50_000 && run.tally.checked > 500);
+    assert!(run.tally.calls >= 50_000 && run.tally.checked[0] > 500 && run.tally.checked[1] > 100);
     let names = unmet(&run.tally);
     assert!(names.iter().any(|name| name.starts_with("way of lengths not made")), "{names:?}");
     assert!(!names.iter().any(|name| name.contains("has returned")), "{names:?}");
@@ -39,12 +39,14 @@ fn each_fault_is_found_and_shortened() {
     }
 }
 
+/// Each fault gives stale answers, but for the one whose counts are right and go to the tray.
 #[test]
-fn the_checker_finds_stale_answers_of_each_fault() {
+fn the_checker_finds_what_each_fault_does() {
     for (name, fault) in FAULTS {
         let side = twin_with(fault);
         let findings = check_alone(side, 5, 100_000);
-        assert!(findings.stale > 0, "{name}: no stale answer of {}", findings.answers);
+        let tray = fault == Fault::CountOnTray;
+        assert_eq!((findings.stale > 0, findings.trays > 0), (!tray, tray), "{name}: {} stale of {}", findings.stale, findings.answers);
         let (script, _) = findings.first.unwrap();
         let shorter = shorten(script, SHORTENING, &|s| complaint_in(side, s).is_some());
         assert!(shorter.calls.len() <= 100, "{name}: {} calls", shorter.calls.len());

@@ -1,6 +1,6 @@
 //! Three desks at one table, as a model for a program in Rust. An answer is filed and given again; a record is corrected, by a delete and an
 //! insert, step by step while other desks read; a refusal is met and named; a read of too many records and an insert into a full table come to
-//! their ends. Leans on the crate alone. The C example tells the same and prints the same.
+//! their ends; a count tells how many there are. Leans on the crate alone. The C example tells the same and prints the same.
 use mondzafeky::{number, Hall, Outcome, Query, Refusal, LIST};
 
 /// The most records of a table.
@@ -9,14 +9,16 @@ const RECORDS: u32 = 2_048;
 /// What a call replied. 12 and 13 are ends like the others: the desk is idle after them.
 fn tell(replied: Result<Outcome, Refusal>) {
     let numbered = |how: &str, n: u32| println!("{how} with {n}, {}. {}", number::name(n), number::sentence(n));
+    let place_of = |from_file| if from_file { "file" } else { "table" };
     match replied {
         Ok(Outcome::Answered { records, from_file }) => {
-            let (place, count) = (if from_file { "file" } else { "table" }, records.len());
+            let (place, count) = (place_of(from_file), records.len());
             // the records lie in the tray until the next answer: a few of them are printed
             let few: Vec<String> = records.take(3).map(|record| format!(" ({}, {})", record[0], record[1])).collect();
             let colon = if few.is_empty() { "" } else { ":" };
             println!("answered from {place} with {count}{colon}{}{}", few.join(","), if count > 3 { ", .." } else { "" });
         }
+        Ok(Outcome::Counted { count, from_file }) => println!("counted from {}: {count}", place_of(from_file)),
         Ok(Outcome::Long) => numbered("ended", number::LONG),
         Ok(Outcome::Full) => numbered("ended", number::FULL),
         Ok(other) => println!("{other}"),
@@ -40,6 +42,12 @@ fn begin_read(hall: &mut Hall, desk: u32, bench: u32) -> Result<(), Refusal> {
     hall.begin_read(desk, &Query::from([Some(bench), None]))
 }
 
+/// How many records there are, of any bench and setting.
+fn begin_count_all(hall: &mut Hall, desk: u32) -> Result<(), Refusal> {
+    println!("desk {desk} begins to count (*, *)");
+    hall.begin_count(desk, &Query::from([None, None]))
+}
+
 /// All steps up to the end, which is told.
 fn run(hall: &mut Hall, desk: u32) {
     print!("  desk {desk}: ");
@@ -49,6 +57,7 @@ fn run(hall: &mut Hall, desk: u32) {
 /// What is under way at a desk, and how many steps it has made.
 fn work(hall: &Hall, desk: u32) -> (String, u32) {
     match hall.inspect().work(desk) {
+        Ok(Some(work)) if work.counts => ("count".to_string(), work.steps),
         Ok(Some(work)) => (work.kind.to_string(), work.steps),
         _ => ("nothing".to_string(), 0),
     }
@@ -109,7 +118,7 @@ fn main() -> Result<(), Refusal> {
     ends(&mut hall)
 }
 
-/// 12 and 13.
+/// 12, a count, 13.
 fn ends(hall: &mut Hall) -> Result<(), Refusal> {
     println!("-- a read of more than 32 records ends with 12: read in parts");
     fill(hall, 7, LIST)?;
@@ -118,6 +127,11 @@ fn ends(hall: &mut Hall) -> Result<(), Refusal> {
     run(hall, 1);
     begin_read(hall, 1, 7)?;
     run(hall, 1);
+    println!("-- a count tells how many there are, past 32 too; it is filed as a list is");
+    begin_count_all(hall, 1)?;
+    steps(hall, &[1, 1, 1, 1]);
+    begin_count_all(hall, 2)?;
+    run(hall, 2);
     println!("-- an insert into a full table ends with 13");
     let left = RECORDS - held(hall);
     fill(hall, 8, left)?;

@@ -13,7 +13,8 @@ use crate::Memories;
 pub struct Reply {
     /// 0 accepted, 1 to 11 refused, 12 long, 13 full: see [`crate::number`].
     pub number: u32,
-    /// How many records were answered: `count` times k numbers lie in the tray from its start.
+    /// How many records were answered. Of a list, `count` times k numbers lie in the tray from its start; of a count, begun by `begin_count`, the
+    /// tray is as it was.
     pub count: u32,
     /// What has ended: see [`crate::ending`].
     pub ending: u32,
@@ -47,6 +48,7 @@ macro_rules! call {
 
 call!(mondzafeky_open, open, num k);
 call!(mondzafeky_begin_read, begin_read, num client, read query);
+call!(mondzafeky_begin_count, begin_count, num client, read query);
 call!(mondzafeky_begin_insert, begin_insert, num client, read query);
 call!(mondzafeky_begin_delete, begin_delete, num client, read query);
 call!(mondzafeky_step, step, mut tray, num client);

@@ -3,7 +3,7 @@
 use crate::inspect::Inspect;
 use crate::outcome::accepted;
 use crate::saved::{self, WrongLength};
-use crate::{layout, Memories, Outcome, Query, Refusal, Reply, TRAY_LEAST};
+use crate::{layout, Memories, Outcome, Query, Refusal, Reply, CLIENTS, TRAY_LEAST};
 use std::fmt;
 
 /// An opened hall: one table of records of k columns, the filed answers, the revision nodes, and twelve clients, the desks, 0 to 11.
@@ -57,6 +57,25 @@ impl Hall {
         accepted(self.memories().begin_read(client, query.as_numbers()))
     }
 
+    /// Begins a count at `client`, the desk: a read that wants only how many records match, and makes the same steps. It ends with
+    /// [`Outcome::Counted`], 0 to 2,048, and never with [`Outcome::Long`]; the count is that of some moment between this begin and the step that
+    /// tells it. Records that lie in the tray stay there. Refusals: `Columns`, `Unsound`, `NoClient`, `Taken`.
+    ///
+    /// ```
+    /// # fn main() -> Result<(), mondzafeky::Refusal> {
+    /// use mondzafeky::{Hall, Outcome, Query};
+    /// let mut hall = Hall::open(2)?;
+    /// hall.begin_insert(0, &[3, 40])?;
+    /// assert_eq!(hall.run(0)?, Outcome::Changed);
+    /// hall.begin_count(1, &Query::from([Some(3), None]))?;
+    /// assert_eq!(hall.run(1)?, Outcome::Counted { count: 1, from_file: false });
+    /// # Ok(())
+    /// # }
+    /// ```
+    pub fn begin_count(&mut self, client: u32, query: &Query) -> Result<(), Refusal> {
+        accepted(self.memories().begin_count(client, query.as_numbers()))
+    }
+
     /// Begins an insert of `record`, k numbers. Refusals: `Columns`, `Unsound`, `NoClient`, `Taken`, `Worn`.
     pub fn begin_insert(&mut self, client: u32, record: &[u32]) -> Result<(), Refusal> {
         accepted(self.memories().begin_insert(client, Query::of_record(record).as_numbers()))
@@ -70,19 +89,28 @@ impl Hall {
 
     /// One step of what is under way at `client`, the desk. Refusals: `Unsound`, `NoClient`, `Idle`.
     pub fn step(&mut self, client: u32) -> Result<Outcome<'_>, Refusal> {
+        let counts = self.counts(client);
         let reply = saved::memories(&mut self.numbers).step(&mut self.tray, client);
-        self.outcome(reply)
+        self.outcome(reply, counts)
     }
 
     /// Steps a desk to the end of its read or write, or to the first step that is refused: at most 19 steps of a read, 33 of a write.
     /// [`Outcome::UnderWay`] is none of its outcomes. Refusals: as for a step.
     pub fn run(&mut self, client: u32) -> Result<Outcome<'_>, Refusal> {
+        let counts = self.counts(client);
         let reply = saved::memories(&mut self.numbers).run(&mut self.tray, client);
-        self.outcome(reply)
+        self.outcome(reply, counts)
     }
 
-    fn outcome(&self, reply: Reply) -> Result<Outcome<'_>, Refusal> {
-        Outcome::of(reply, &self.tray, self.columns())
+    /// Whether a count is under way at `client`, the desk, by its key. Asked before a step, since the step that ends it leaves the desk idle.
+    fn counts(&self, client: u32) -> bool {
+        let [_, _, _, clients] = saved::parts(&self.numbers);
+        let key = layout::HEADER + layout::CLIENT_WIDTH * client as usize + layout::CLIENT_ENTRY;
+        client < CLIENTS && layout::is_count(clients[key])
+    }
+
+    fn outcome(&self, reply: Reply, counts: bool) -> Result<Outcome<'_>, Refusal> {
+        Outcome::of(reply, &self.tray, self.columns(), counts)
     }
 
     /// Gives up a read, or a write before its table step. Refusals: `Unsound`, `NoClient`, `Idle`, `Committed`.

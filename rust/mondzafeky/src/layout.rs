@@ -23,8 +23,10 @@ pub(crate) const TAG_VALUE: u32 = 1;
 pub(crate) const TAG_WILDCARD: u32 = 2;
 pub(crate) const TAG_ANY: u32 = 3;
 
-/// An entry, a filed answer: key, list length, 16 revisions, 128 numbers of list.
+/// An entry, a filed answer: key, list length or count, 16 revisions, 128 numbers of list.
 pub(crate) const ENTRY_WIDTH: usize = 152;
+/// In the key's first number, beside a bit for each named column: a count is wanted, and not a list.
+pub(crate) const COUNT_BIT: u32 = 16;
 pub(crate) const KEY_VALUES: usize = 1;
 /// The key's two numbers that are kept for a range.
 pub(crate) const KEY_RANGE: usize = 5;
@@ -41,3 +43,8 @@ pub(crate) const CLIENT_SAW: usize = 2;
 pub(crate) const CLIENT_CHANGED: usize = 3;
 pub(crate) const CLIENT_FULL: usize = 4;
 pub(crate) const CLIENT_ENTRY: usize = 5;
+
+/// Whether an entry is a count's, by its key's first number: this one bit says it, whatever the others are.
+pub(crate) fn is_count(first: u32) -> bool {
+    first & COUNT_BIT != 0
+}

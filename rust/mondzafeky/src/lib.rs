@@ -8,14 +8,16 @@
 //!
 //! Every read is answered with a list that was true: exactly the records that matched at some moment between the read's begin and the step that
 //! answers it, whether it came from the file or from the table, and however the steps of the desks were mixed. A read that begins after a write
-//! has ended sees that write: **begin the read after the write's end to see it**. Every read ends within 19 steps and every write within 33. What
-//! a call does to every number of every memory is proved in the library; this crate only hands the memories over.
+//! has ended sees that write: **begin the read after the write's end to see it**. A count is a read that wants only how many records match, and is
+//! true in the same way. Every read ends within 19 steps and every write within 33. What a call does to every number of every memory is proved in
+//! the library; this crate only hands the memories over.
 //!
 //! # How to call it
 //!
 //! [`Hall`] owns its memories. A call that is turned down returns a [`Refusal`], 1 to 11, and has altered nothing. **12 and 13 are ends**, not
 //! refusals: the read found more than 32 records ([`Outcome::Long`]), the insert found the table full ([`Outcome::Full`]), and the desk is idle
-//! after them as after every other end ([`Outcome::has_ended`]). A correction is a delete and an insert, and between their ends neither record
+//! after them as after every other end ([`Outcome::has_ended`]). How many they are is told by a count ([`Hall::begin_count`],
+//! [`Outcome::Counted`]), which never ends with 12. A correction is a delete and an insert, and between their ends neither record
 //! is there, or both are: the caller chooses by their order.
 //!
 //! Calls are **indivisible towards each other, but not thread-safe**: steps of different desks may follow each other in any order, two calls at
@@ -113,8 +115,8 @@ pub mod number {
     pub const SHORT: u32 = 1;
     /// k not 1 to 4 at opening; not a query of k columns; an insert with a star.
     pub const COLUMNS: u32 = 2;
-    /// k, a count or a filed list's length in memory is out of range, or what stands at the desk or at its node is, or no unmarked node
-    /// can make room.
+    /// k, a number of entries, a filed list's length or a filed count in memory is out of range, or what stands at the desk or at its node is, or
+    /// no unmarked node can make room.
     pub const UNSOUND: u32 = 3;
     /// The client, the desk, is above 11.
     pub const NO_CLIENT: u32 = 4;
@@ -132,7 +134,7 @@ pub mod number {
     pub const WORN: u32 = 10;
     /// A renewal with a busy desk.
     pub const OCCUPIED: u32 = 11;
-    /// The read has ended: more than 32 records match, and the tray is untouched.
+    /// The read has ended: more than 32 records match, and the tray is untouched. A count is never ended so.
     pub const LONG: u32 = 12;
     /// The insert has ended: the table held 2,048 records and not this one.
     pub const FULL: u32 = 13;
@@ -142,9 +144,9 @@ pub mod number {
 pub mod ending {
     /// Nothing has ended, or the number says what.
     pub const NONE: u32 = 0;
-    /// A read was answered with a filed answer.
+    /// A read or a count was answered with a filed answer.
     pub const FROM_FILE: u32 = 1;
-    /// A read was answered from the table.
+    /// A read or a count was answered from the table.
     pub const FROM_TABLE: u32 = 2;
     /// A write has ended and changed the table.
     pub const CHANGED: u32 = 3;
@@ -178,6 +180,12 @@ impl Memories<'_> {
         calls::begin_read(self, client, query)
     }
 
+    /// Begins a count at `client`: a read, step by step, that wants only how many records match. It is answered with [`Reply::count`], 0 to 2,048,
+    /// and never with 12; its steps need a tray that is long enough, and none of them writes it. Refusals: 1 to 5.
+    pub fn begin_count(&mut self, client: u32, query: &[u32]) -> Reply {
+        calls::begin_count(self, client, query)
+    }
+
     /// Begins an insert of the record that `query` names, a value in every column. Refusals: 1 to 5, 10.
     pub fn begin_insert(&mut self, client: u32, query: &[u32]) -> Reply {
         calls::begin_insert(self, client, query)
@@ -188,8 +196,8 @@ impl Memories<'_> {
         calls::begin_delete(self, client, query)
     }
 
-    /// One step of what is under way at `client`, the desk. An answer writes `count` records of k numbers each from the tray's start, and nothing
-    /// else of it. Refusals: 1 (the tray too), 3, 4, 6; ends a read with 12, an insert with 13.
+    /// One step of what is under way at `client`, the desk. A list's answer writes `count` records of k numbers each from the tray's start, and
+    /// nothing else of it; a count's writes nothing of it. Refusals: 1 (the tray too), 3, 4, 6; ends a list's read with 12, an insert with 13.
     pub fn step(&mut self, tray: &mut [u32], client: u32) -> Reply {
         calls::step(self, tray, client)
     }

@@ -5,7 +5,7 @@ const WORDS: [(&str, &str); 14] = [
     ("accepted", "The call was accepted; a read or write that it has not ended goes on by a step."),
     ("short", "A lent memory is below its least length; lend a longer one."),
     ("columns", "At opening k is not 1 to 4; at a begin the query has not as many columns as the hall, or a mark above 1, or a star with a value, or it is an insert with a star; open the hall with 1 to 4 columns, or correct the query."),
-    ("unsound", "k, a count or a filed list's length in memory is out of range, or what stands at the desk or at its node is, or no unmarked node can make room; open the hall, or load what the calls last left."),
+    ("unsound", "k, a number of entries, a filed list's length or a filed count in memory is out of range, or what stands at the desk or at its node is, or no unmarked node can make room; open the hall, or load what the calls last left."),
     ("no desk", "The desk is above 11; name one of 0 to 11."),
     ("taken", "The desk is busy; step its read or write to the end, or abandon it, and begin again."),
     ("idle", "The desk is idle, so there is nothing to step or abandon; begin a read or write there."),

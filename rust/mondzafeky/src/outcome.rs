@@ -1,4 +1,4 @@
-//! What an accepted step says: whether the read or write has ended, and how; the records of an answer. Leans on refusal.
+//! What an accepted step says: whether the read or write has ended, and how; the records of an answer, or their count. Leans on refusal.
 use crate::{ending, number, Refusal, Reply};
 use std::fmt;
 use std::iter::FusedIterator;
@@ -11,12 +11,19 @@ pub enum Outcome<'a> {
     UnderWay,
     /// The read's end: the records that match, in ascending order, at most 32.
     Answered {
-        /// The records; they lie in the hall's tray until its next answer.
+        /// The records; they lie in the hall's tray until its next list.
         records: Records<'a>,
         /// They were filed before; otherwise they were taken from the table.
         from_file: bool,
     },
-    /// 12, the read's end: more than 32 records match, and none is answered.
+    /// A count's end: how many records match.
+    Counted {
+        /// How many, 0 to 2,048.
+        count: u32,
+        /// It was filed before; otherwise it was counted in the table.
+        from_file: bool,
+    },
+    /// 12, the read's end: more than 32 records match, and none is answered. No end of a count.
     Long,
     /// The write's end: it changed the table.
     Changed,
@@ -27,12 +34,18 @@ pub enum Outcome<'a> {
 }
 
 impl<'a> Outcome<'a> {
-    /// What a step's reply says, with the tray that it was lent and the columns of its hall.
+    /// What a step's reply says, with the tray that it was lent and the columns of its hall. `counts`: a count was under way at the desk, which the
+    /// reply does not tell.
     ///
     /// # Panics
     /// If the number or the ending is none that the library gives: then this crate was linked with an archive of another version.
-    pub(crate) fn of(reply: Reply, tray: &'a [u32], columns: u32) -> Result<Outcome<'a>, Refusal> {
-        let answered = |from_file| Outcome::Answered { records: Records::of(tray, columns as usize, reply.count as usize), from_file };
+    pub(crate) fn of(reply: Reply, tray: &'a [u32], columns: u32, counts: bool) -> Result<Outcome<'a>, Refusal> {
+        let answered = |from_file| {
+            if counts {
+                return Outcome::Counted { count: reply.count, from_file };
+            }
+            Outcome::Answered { records: Records::of(tray, columns as usize, reply.count as usize), from_file }
+        };
         match (reply.number, reply.ending) {
             (number::ACCEPTED, ending::NONE) => Ok(Outcome::UnderWay),
             (number::ACCEPTED, ending::FROM_FILE) => Ok(answered(true)),
@@ -55,12 +68,14 @@ impl<'a> Outcome<'a> {
 impl fmt::Display for Outcome<'_> {
     fn fmt(&self, f: &mut fmt::Formatter<'_>) -> fmt::Result {
         let numbered = |f: &mut fmt::Formatter<'_>, n| write!(f, "{n}, {}: {}", number::name(n), number::sentence(n));
+        let records_from = |f: &mut fmt::Formatter<'_>, how, count, from_file| {
+            let (place, s) = (if from_file { "file" } else { "the table" }, if count == 1 { "" } else { "s" });
+            write!(f, "{how} from {place}, {count} record{s}")
+        };
         match self {
             Outcome::UnderWay => write!(f, "under way"),
-            Outcome::Answered { records, from_file } => {
-                let (place, s) = (if *from_file { "file" } else { "the table" }, if records.len() == 1 { "" } else { "s" });
-                write!(f, "answered from {place}, {} record{s}", records.len())
-            }
+            Outcome::Answered { records, from_file } => records_from(f, "answered", records.len(), *from_file),
+            Outcome::Counted { count, from_file } => records_from(f, "counted", *count as usize, *from_file),
             Outcome::Long => numbered(f, number::LONG),
             Outcome::Changed => write!(f, "ended, the table has changed"),
             Outcome::Unchanged => write!(f, "ended, the table is as it was"),

@@ -19,8 +19,8 @@ pub enum Refusal {
     Short = number::SHORT,
     /// 2: k not 1 to 4 at opening; not a query of k columns; an insert of another number of columns.
     Columns = number::COLUMNS,
-    /// 3: k, a count or a filed list's length in memory is out of range, or what stands at the desk or at its node is, or no unmarked node
-    /// can make room.
+    /// 3: k, a number of entries, a filed list's length or a filed count in memory is out of range, or what stands at the desk or at its node is,
+    /// or no unmarked node can make room.
     Unsound = number::UNSOUND,
     /// 4: the client, the desk, is above 11.
     NoClient = number::NO_CLIENT,

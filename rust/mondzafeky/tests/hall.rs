@@ -21,6 +21,15 @@ fn read(hall: &mut Hall, client: u32, query: &Query) -> (Vec<Vec<u32>>, bool) {
     }
 }
 
+/// How many records a count tells, and whether that was filed.
+fn count(hall: &mut Hall, client: u32, query: &Query) -> (u32, bool) {
+    hall.begin_count(client, query).unwrap();
+    match hall.run(client).unwrap() {
+        Outcome::Counted { count, from_file } => (count, from_file),
+        other => panic!("a count ended with {other:?}"),
+    }
+}
+
 /// A hall of two columns with three records.
 fn three_records() -> Hall {
     let mut hall = Hall::open(2).unwrap();
@@ -63,6 +72,52 @@ fn single_steps_say_when_the_work_has_ended() {
 }
 
 #[test]
+fn a_count_is_told_and_no_records() {
+    let mut hall = three_records();
+    let bench_3 = Query::from([Some(3), None]);
+    hall.begin_count(5, &bench_3).unwrap();
+    for _ in 0..4 {
+        assert_eq!(hall.step(5), Ok(Outcome::UnderWay));
+    }
+    let outcome = hall.step(5).unwrap();
+    assert!(outcome.has_ended());
+    assert_eq!((outcome.to_string(), outcome), ("counted from the table, 2 records".into(), Outcome::Counted { count: 2, from_file: false }));
+    assert_eq!(hall.step(5), Err(Refusal::Idle));
+    assert_eq!(Outcome::Counted { count: 1, from_file: true }.to_string(), "counted from file, 1 record");
+    assert_eq!(count(&mut hall, 5, &bench_3), (2, true));
+    assert_eq!(count(&mut hall, 5, &[None, None].into()), (3, false));
+    assert_eq!(count(&mut hall, 5, &[Some(9), None].into()), (0, false));
+}
+
+/// A step's outcome is that of what was begun at its desk, whatever is under way at the others and was at this one before.
+#[test]
+fn lists_and_counts_at_neighbouring_desks() {
+    let mut hall = three_records();
+    let bench_3 = Query::from([Some(3), None]);
+    for round in 0..2 {
+        for client in 0..12 {
+            let begun = if client % 2 == round { hall.begin_count(client, &bench_3) } else { hall.begin_read(client, &bench_3) };
+            begun.unwrap();
+        }
+        for client in (0..12).rev() {
+            let outcome = hall.run(client).unwrap();
+            match outcome {
+                Outcome::Counted { count, .. } => assert_eq!((count, client % 2), (2, round)),
+                Outcome::Answered { records, .. } => assert_eq!((records.len(), client % 2), (2, 1 - round)),
+                other => panic!("desk {client} ended with {other:?}"),
+            }
+        }
+    }
+    for client in [12, 13, u32::MAX] {
+        assert_eq!(hall.begin_count(client, &bench_3), Err(Refusal::NoClient));
+        assert_eq!((hall.step(client).err(), hall.run(client).err()), (Some(Refusal::NoClient), Some(Refusal::NoClient)));
+    }
+    hall.begin_count(11, &bench_3).unwrap();
+    assert_eq!(hall.begin_count(11, &bench_3), Err(Refusal::Taken));
+    assert_eq!((hall.abandon(11), hall.step(11)), (Ok(()), Err(Refusal::Idle)));
+}
+
+#[test]
 fn each_k_has_its_queries() {
     for k in 1..=4 {
         let mut hall = Hall::open(k).unwrap();
@@ -71,10 +126,12 @@ fn each_k_has_its_queries() {
         for named in 0..1 << k {
             let columns: Vec<_> = (0..k as usize).map(|c| (named >> c & 1 == 1).then_some(record[c])).collect();
             assert_eq!(read(&mut hall, 0, &Query::from(&columns[..])).0, [&record[..]], "{columns:?}");
+            assert_eq!(count(&mut hall, 0, &Query::from(&columns[..])), (1, false), "{columns:?}");
         }
         for columns in [0, 1, 2, 3, 4, 5, 9, 100].into_iter().filter(|&n| n != k as usize) {
             let (query, before) = (Query::from(&vec![Some(7); columns][..]), hall.clone());
             assert_eq!(hall.begin_read(0, &query), Err(Refusal::Columns), "{columns}");
+            assert_eq!(hall.begin_count(0, &query), Err(Refusal::Columns));
             assert_eq!(hall.begin_delete(0, &query), Err(Refusal::Columns));
             assert_eq!(hall.begin_insert(0, &vec![7; columns]), Err(Refusal::Columns));
             assert!(hall == before);
@@ -132,6 +189,8 @@ fn refused_calls_alter_nothing() {
     hall.begin_insert(7, &[9, 9]).unwrap();
     let before = hall.clone();
     assert_eq!(hall.begin_read(7, &[None, None].into()), Err(Refusal::Taken));
+    assert_eq!(hall.begin_count(7, &[None, None].into()), Err(Refusal::Taken));
+    assert_eq!(hall.begin_count(12, &[None, None].into()), Err(Refusal::NoClient));
     assert_eq!(hall.begin_insert(12, &[1, 1]), Err(Refusal::NoClient));
     assert_eq!(hall.begin_delete(1, &[None].into()), Err(Refusal::Columns));
     assert_eq!(hall.step(u32::MAX), Err(Refusal::NoClient));
@@ -186,6 +245,7 @@ fn long_and_full_are_ends() {
     let outcome = hall.run(1).unwrap();
     assert!(outcome.has_ended() && outcome.to_string().starts_with("12, long: "));
     assert_eq!(outcome, Outcome::Long);
+    assert_eq!((count(&mut hall, 1, &[None].into()), count(&mut hall, 1, &[None].into())), ((2_048, false), (2_048, true)));
     assert!(Outcome::Full.has_ended() && Outcome::Full.to_string().starts_with("13, full: "));
     // The desks of both are idle.
     assert_eq!(hall.step(0), Err(Refusal::Idle));
@@ -214,6 +274,7 @@ fn a_hall_is_saved_and_loaded_with_what_is_under_way() {
     read(&mut hall, 0, &[None, Some(40)].into());
     hall.begin_insert(4, &[5, 5]).unwrap();
     (0..6).for_each(|_| assert_eq!(hall.step(4), Ok(Outcome::UnderWay)));
+    hall.begin_count(5, &[None, None].into()).unwrap();
     let bytes = hall.to_bytes();
     assert_eq!((bytes.len(), saved::BYTES, saved::NUMBERS), (113_600, 113_600, 28_400));
     assert_eq!(bytes[..4], [4, 0, 0, 0], "the first number is how many records there are, lowest byte first");
@@ -221,6 +282,7 @@ fn a_hall_is_saved_and_loaded_with_what_is_under_way() {
     let mut loaded = Hall::from_bytes(&bytes).unwrap();
     assert!(loaded == hall && loaded.to_bytes() == bytes);
     assert_eq!(loaded.run(4), Ok(Outcome::Changed));
+    assert_eq!(loaded.run(5), Ok(Outcome::Counted { count: 4, from_file: false }));
     assert_eq!(read(&mut loaded, 0, &[None, None].into()).0, [[3, 40], [3, 41], [4, 40], [5, 5]]);
     assert!(loaded != hall);
 }
@@ -249,9 +311,9 @@ fn contents_of_any_kind_are_loaded_and_met_by_the_calls() {
 fn an_unopened_hall() {
     let mut zeros = vec![0; saved::NUMBERS];
     let mut m: Memories<'_> = saved::memories(&mut zeros);
-    let begins = [m.begin_read(0, &[1, 5]), m.begin_insert(0, &[1, 5]), m.begin_delete(0, &[1, 5])];
+    let begins = [m.begin_read(0, &[1, 5]), m.begin_count(0, &[1, 5]), m.begin_insert(0, &[1, 5]), m.begin_delete(0, &[1, 5])];
     let others = [m.step(&mut [0; TRAY_LEAST], 0), m.abandon(0), m.evict_answer(0), m.evict_node(0), m.renew()];
-    assert_eq!(begins.map(Reply::refusal), [Some(Refusal::Columns); 3]);
+    assert_eq!(begins.map(Reply::refusal), [Some(Refusal::Columns); 4]);
     assert_eq!(others.map(Reply::refusal), [Some(Refusal::Unsound); 5]);
     assert_eq!(m.open(1).number, number::ACCEPTED);
 }
@@ -265,7 +327,11 @@ fn the_low_calls_of_a_hall() {
     hall.begin_insert(2, &[5]).unwrap();
     assert_eq!(low.memories().begin_insert(2, &[1, 5]).number, number::ACCEPTED);
     assert_eq!((hall.run(2), low.memories().run(&mut tray, 2).ending), (Ok(Outcome::Changed), ending::CHANGED));
+    hall.begin_count(2, &[Some(5)].into()).unwrap();
+    assert_eq!(low.memories().begin_count(2, &[1, 5]).number, number::ACCEPTED);
     assert!(hall == low);
+    assert_eq!((hall.run(2), low.memories().run(&mut tray, 2).count), (Ok(Outcome::Counted { count: 1, from_file: false }), 1));
+    assert!(hall == low && tray == [0; TRAY_LEAST]);
     assert_eq!(read(&mut low, 0, &[Some(5)].into()).0, [[5]]);
 }
 

@@ -1,8 +1,9 @@
-//! The header for C says the same as this crate: the words and sentences of the numbers, the version, the least lengths.
+//! The header for C says the same as this crate: the calls, the words and sentences of the numbers, the version, the least lengths, the limits.
 
 use mondzafeky::number;
 
 const HEADER: &str = include_str!("../../../c/mondzafeky.h");
+const CALLS: &str = include_str!("../src/calls.rs");
 
 /// The strings of one function of the header, in the order of its cases: adjacent literals are one.
 fn strings_of(function: &str) -> Vec<String> {
@@ -34,8 +35,16 @@ fn words_and_sentences_are_the_same() {
     }
 }
 
+/// The calls of the archive, in their order; each is declared in the header from the first column on.
 #[test]
-fn version_and_lengths_are_the_same() {
+fn the_calls_are_the_same() {
+    let declared: Vec<&str> = HEADER.lines().filter_map(|line| line.strip_prefix("mondzafeky_reply ")?.strip_suffix('(')).collect();
+    let called: Vec<&str> = CALLS.lines().filter_map(|line| Some(line.strip_prefix("call!(")?.split_once(',')?.0)).collect();
+    assert_eq!((declared.len(), declared), (10, called));
+}
+
+#[test]
+fn version_lengths_and_limits_are_the_same() {
     let defined = |name: &str| {
         let line = HEADER.lines().find(|line| line.starts_with(&format!("#define {name} "))).expect(name);
         line.split_whitespace().nth(2).unwrap().trim_end_matches('u').trim_matches('"').to_string()
@@ -50,5 +59,9 @@ fn version_and_lengths_are_the_same() {
     ];
     for (name, length) in lengths {
         assert_eq!(defined(&format!("MONDZAFEKY_{name}_LEAST")), length.to_string());
+    }
+    let limits = [("RECORDS", mondzafeky::RECORDS), ("NODES", mondzafeky::NODES), ("ANSWERS", mondzafeky::ANSWERS)];
+    for (name, limit) in limits.into_iter().chain([("CLIENTS", mondzafeky::CLIENTS), ("LIST", mondzafeky::LIST)]) {
+        assert_eq!(defined(&format!("MONDZAFEKY_{name}")), limit.to_string());
     }
 }

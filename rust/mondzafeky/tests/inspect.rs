@@ -2,11 +2,11 @@
 //! that the proved calls give on damaged halls. Nothing panics on memories of any lengths and contents.
 mod rng;
 
-use mondzafeky::inspect::{Inspect, Kind, Label, OutOfRange, Stage, Term};
-use mondzafeky::{saved, Hall, Memories, Outcome, Query};
+use mondzafeky::inspect::{Entry, Inspect, Kind, Label, OutOfRange, Stage, Term, Value};
+use mondzafeky::{saved, Hall, Memories, Outcome, Query, Refusal};
 use rng::Rng;
 
-/// Records (3, 40) and (3, 41), a filed answer to (3, *), an insert of (8, 9) that has been at the table, and a read under way.
+/// Records (3, 40) and (3, 41), a list and a count of (3, *) on file, an insert of (8, 9) that has been at the table, a read and a count under way.
 fn busy_hall() -> Hall {
     let mut hall = Hall::open(2).unwrap();
     for record in [[3, 41], [3, 40]] {
@@ -15,9 +15,12 @@ fn busy_hall() -> Hall {
     }
     hall.begin_read(1, &[Some(3), None].into()).unwrap();
     assert!(hall.run(1).unwrap().has_ended());
+    hall.begin_count(1, &[Some(3), None].into()).unwrap();
+    assert!(hall.run(1).unwrap().has_ended());
     hall.begin_insert(0, &[8, 9]).unwrap();
     hall.begin_read(11, &[None, Some(9)].into()).unwrap();
-    for client in [0, 0, 0, 0, 0, 11] {
+    hall.begin_count(6, &[Some(3), None].into()).unwrap();
+    for client in [0, 0, 0, 0, 0, 11, 6] {
         assert_eq!(hall.step(client), Ok(Outcome::UnderWay));
     }
     hall
@@ -27,7 +30,7 @@ fn busy_hall() -> Hall {
 fn sizes_records_nodes_and_answers() {
     let hall = busy_hall();
     let inside = hall.inspect();
-    assert_eq!((inside.columns(), inside.record_count(), inside.answer_count(), inside.floor()), (Ok(2), Ok(3), Ok(1), Ok(1)));
+    assert_eq!((inside.columns(), inside.record_count(), inside.answer_count(), inside.floor()), (Ok(2), Ok(3), Ok(2), Ok(1)));
     assert_eq!(inside.records().map(Result::unwrap).collect::<Vec<_>>(), [[3, 40], [3, 41], [8, 9]]);
     let nodes: Vec<String> = inside.nodes().map(|node| node.unwrap().to_string()).collect();
     assert_eq!(nodes.len(), inside.node_count().unwrap() as usize);
@@ -39,7 +42,10 @@ fn sizes_records_nodes_and_answers() {
     assert_eq!(inside.node(place as u32).unwrap().label, Ok(Label(vec![Term::Any, Term::Wildcard])));
     let answer = inside.answer(0).unwrap();
     assert_eq!((answer.query, answer.revisions), (Ok(Query::from([Some(3), None])), &[3, 1][..]));
-    assert_eq!(answer.list.unwrap().collect::<Vec<_>>(), [[3, 40], [3, 41]]);
+    let Ok(Value::List(list)) = answer.value else { panic!() };
+    assert_eq!(list.collect::<Vec<_>>(), [[3, 40], [3, 41]]);
+    let counted = Entry { query: Ok(Query::from([Some(3), None])), revisions: &[3, 1], value: Ok(Value::Count(2)) };
+    assert_eq!(inside.answer(1), Ok(counted));
 }
 
 #[test]
@@ -49,18 +55,20 @@ fn desks_and_how_far_they_are() {
     assert_eq!(insert.to_string(), "insert of (8, 9), 5 of 9 steps made, next: raise 1 of 4");
     assert_eq!((insert.kind, insert.changed, insert.full, insert.noted.len()), (Kind::Insert, true, false, 0));
     assert_eq!(read.to_string(), "read of (*, 9), 1 of 5 steps made, next: look 2 of 2");
-    assert_eq!((read.kind, read.saw_pending, read.noted), (Kind::Read, true, vec![1]));
-    assert!((1..11).all(|client| hall.inspect().work(client) == Ok(None)));
+    assert_eq!((read.kind, read.counts, read.saw_pending, read.noted), (Kind::Read, false, true, vec![1]));
+    let count = hall.inspect().work(6).unwrap().unwrap();
+    assert_eq!(count.to_string(), "count of (3, *), 1 of 5 steps made, next: look 2 of 2");
+    assert_eq!((count.kind, count.counts, count.saw_pending, count.noted), (Kind::Read, true, false, vec![3]));
+    assert!((1..11).filter(|&client| client != 6).all(|client| hall.inspect().work(client) == Ok(None)));
     assert_eq!(hall.inspect().work(12).unwrap_err().to_string(), "the desk out of range: 12, wanted 0 to 11");
 }
 
-/// The stages of a whole read and of a whole delete, as they come.
+/// The stages of a whole read, of a whole count and of a whole delete, as they come.
 #[test]
 fn every_stage_in_its_order() {
     let mut hall = Hall::open(2).unwrap();
-    let mut stages = |query: Query, read: bool| {
-        let begun = if read { hall.begin_read(6, &query) } else { hall.begin_delete(6, &query) };
-        begun.unwrap();
+    let mut stages = |query: Query, begin: fn(&mut Hall, u32, &Query) -> Result<(), Refusal>| {
+        begin(&mut hall, 6, &query).unwrap();
         let mut stages = Vec::new();
         while let Some(work) = hall.inspect().work(6).unwrap() {
             assert_eq!((work.steps as usize, &work.query), (stages.len(), &query));
@@ -69,10 +77,11 @@ fn every_stage_in_its_order() {
         }
         stages.iter().map(Stage::to_string).collect::<Vec<_>>().join(", ")
     };
-    assert_eq!(stages([Some(3), None].into(), true), "look 1 of 2, look 2 of 2, fetch, table, file");
-    assert_eq!(stages([None, None].into(), true), "look 1 of 1, fetch, table, file");
+    assert_eq!(stages([Some(3), None].into(), Hall::begin_read), "look 1 of 2, look 2 of 2, fetch, table, file");
+    assert_eq!(stages([Some(3), None].into(), Hall::begin_count), "look 1 of 2, look 2 of 2, fetch, table, file");
+    assert_eq!(stages([None, None].into(), Hall::begin_read), "look 1 of 1, fetch, table, file");
     let write = "mark 1 of 4, mark 2 of 4, mark 3 of 4, mark 4 of 4, table, raise 1 of 4, raise 2 of 4, raise 3 of 4, raise 4 of 4";
-    assert_eq!(stages([None, Some(2)].into(), false), write);
+    assert_eq!(stages([None, Some(2)].into(), Hall::begin_delete), write);
 }
 
 /// The first thing that is out of range.
@@ -80,7 +89,7 @@ fn first(inside: Inspect<'_>) -> Option<OutOfRange> {
     let counts = [inside.columns(), inside.record_count(), inside.node_count(), inside.answer_count()];
     let mut faults: Vec<OutOfRange> = counts.into_iter().filter_map(Result::err).collect();
     faults.extend(inside.nodes().flatten().filter_map(|node| node.label.err()));
-    faults.extend(inside.answers().flatten().flat_map(|entry| [entry.query.err(), entry.list.err()]).flatten());
+    faults.extend(inside.answers().flatten().flat_map(|entry| [entry.query.err(), entry.value.err()]).flatten());
     faults.extend((0..12).filter_map(|client| inside.work(client).err()));
     faults.into_iter().next()
 }
@@ -96,15 +105,41 @@ fn altered(memory: usize, place: usize, number: u32) -> Hall {
 #[test]
 fn the_largest_numbers_are_in_range() {
     assert_eq!(first(busy_hall().inspect()), None);
-    for (memory, place, number) in [(0, 0, 2_048), (2, 15, 32), (3, 8 + 11 * 157 + 1, 4), (3, 8 + 1, 8), (3, 8 + 12, 32), (1, 13, u32::MAX)] {
-        assert_eq!(first(altered(memory, place, number).inspect()), None);
+    let (desk_6, desk_11) = (8 + 6 * 157, 8 + 11 * 157);
+    let lengths = [(2, 15, 32), (2, 152 + 15, 2_048), (3, 8 + 12, 32), (3, desk_6 + 12, 2_048)];
+    for (memory, place, number) in [(0, 0, 2_048), (3, desk_11 + 1, 4), (3, 8 + 1, 8), (1, 13, u32::MAX)].into_iter().chain(lengths) {
+        assert_eq!(first(altered(memory, place, number).inspect()), None, "{memory} {place}");
     }
+}
+
+/// Which limit a kept length has is bit 4's alone to say, and numbers where a count's entry has no list are no records.
+#[test]
+fn counts_that_no_history_leaves() {
+    let value_of = |key: u32, length: u32| {
+        let mut hall = altered(2, 160, key);
+        hall.memories().answers[160 + 7..][..145].fill(length);
+        format!("{:?}", hall.inspect().answer(1).unwrap().value.map_err(|fault| (fault.found, fault.wanted)))
+    };
+    for key in [16, 17, 48, u32::MAX] {
+        assert_eq!([0, 33, 2_048].map(|count| value_of(key, count)), ["Ok(Count(0))", "Ok(Count(33))", "Ok(Count(2048))"], "{key}");
+        for count in [2_049, u32::MAX] {
+            assert_eq!(value_of(key, count), format!("Err((Some({count}), \"0 to 2,048\"))"), "{key}");
+        }
+    }
+    for key in [0, 1, 15, 32, u32::MAX - 16] {
+        assert_eq!([1, 33].map(|length| value_of(key, length)), ["Ok(List([[1, 1]]))", "Err((Some(33), \"0 to 32\"))"], "{key}");
+    }
+    // A count is told without k; a list is not.
+    let without_k = altered(3, 0, 5);
+    let told: Vec<bool> = without_k.inspect().answers().map(|entry| entry.unwrap().value.is_ok()).collect();
+    assert_eq!(told, [false, true]);
 }
 
 /// What is said of one number that is altered.
 #[test]
 fn what_is_out_of_range_is_said() {
-    let desk_11 = 8 + 11 * 157;
+    let (desk_6, desk_11) = (8 + 6 * 157, 8 + 11 * 157);
+    let marks = "a bit for each named column, 16 more for a count, and nothing else";
     let cases = [
         (3, 0, 5, "k out of range: 5, wanted 1 to 4 (clients memory, place 0)"),
         (0, 0, 2_049, "the number of records out of range: 2049, wanted 0 to 2,048 (table memory, place 0)"),
@@ -112,7 +147,12 @@ fn what_is_out_of_range_is_said() {
         (2, 0, 65, "the number of answers out of range: 65, wanted 0 to 64 (answers memory, place 0)"),
         (1, 8, 0x0401, "the label's tags out of range: 1025, wanted 1, 2 or 3 in each column's byte, 0 in the others (nodes memory, place 8)"),
         (1, 11, 1, "the label's value out of range: 1, wanted 0 where the column has none (nodes memory, place 11)"),
-        (2, 8, 4, "the marks of the query out of range: 4, wanted a bit for each named column and no other (answers memory, place 8)"),
+        (2, 8, 4, &format!("the marks of the query out of range: 4, wanted {marks} (answers memory, place 8)")),
+        (2, 160, 49, &format!("the marks of the query out of range: 49, wanted {marks} (answers memory, place 160)")),
+        (2, 160 + 7, 2_049, "the count out of range: 2049, wanted 0 to 2,048 (answers memory, place 167)"),
+        (3, desk_6 + 12, 2_049, "the count out of range: 2049, wanted 0 to 2,048 (clients memory, place 962)"),
+        (3, desk_6 + 5, 20, &format!("the marks of the query out of range: 20, wanted {marks} (clients memory, place 955)")),
+        (3, desk_6, 3, "the marks of a write out of range: 17, wanted a bit for each named column and no other (clients memory, place 955)"),
         (2, 15, 33, "the list's length out of range: 33, wanted 0 to 32 (answers memory, place 15)"),
         (3, desk_11, 4, "the kind of a busy desk out of range: 4, wanted 1 to 3 (clients memory, place 1735)"),
         (3, desk_11 + 1, 5, "the number of steps made out of range: 5, wanted below the steps of this work (clients memory, place 1736)"),
@@ -177,32 +217,34 @@ fn memories_of_any_lengths_and_contents_do_not_panic() {
     }
 }
 
-/// A busy hall with some numbers altered: headers, and numbers at the desks.
+/// A busy hall with some numbers altered: headers, filed keys and lengths, and numbers at the desks; of some only the bit of a count.
 fn damaged(rng: &mut Rng, sound: &[u32]) -> Vec<u32> {
     let mut numbers = sound.to_vec();
     for _ in 0..1 + rng.below(3) {
-        let place = match rng.below(6) {
+        let place = match rng.below(7) {
             0 => [0, 8_201, 16_400, 26_400][rng.below(4) as usize],
-            1 => 16_400 + 8 + rng.below(152),
-            2 => 26_408 + 157 * rng.below(12) + rng.below(157),
-            _ => 26_408 + 157 * [0, 11][rng.below(2) as usize] + rng.below(14),
-        };
-        numbers[place as usize] = rng.number();
+            1 => 16_408 + rng.below(2 * 152),
+            2 => 16_408 + 152 * rng.below(2) + 7 * rng.below(2),
+            3 => 26_408 + 157 * rng.below(12) + rng.below(157),
+            _ => 26_408 + 157 * [0, 6, 11][rng.below(3) as usize] + rng.below(14),
+        } as usize;
+        numbers[place] = if rng.below(4) == 0 { numbers[place] ^ 16 } else { rng.number() };
     }
     numbers
 }
 
-/// On damaged halls the proved calls decide: 3 at putting out the answer past all places exactly if k, a count or a filed list's length is out of
-/// range here; and if not, a begin is accepted at a desk seen idle, 5 at one seen busy, 3 at one out of range.
+/// On damaged halls the proved calls decide: 3 at putting out the answer past all places exactly if k, a number of entries, a filed list's length
+/// or a filed count is out of range here; and if not, a begin is accepted at a desk seen idle, 5 at one seen busy, 3 at one out of range.
 #[test]
 fn what_is_seen_agrees_with_the_numbers_of_the_calls() {
     let sound = saved::numbers_of(&busy_hall().to_bytes());
-    let (mut rng, mut met) = (Rng(7), [0; 6]);
-    for _ in 0..600 {
+    let (mut rng, mut met, mut above_32) = (Rng(7), [0; 6], 0);
+    for _ in 0..2_000 {
         let mut numbers = damaged(&mut rng, &sound);
         let inside = Inspect::of_saved(&numbers);
         let counts = [inside.columns(), inside.record_count(), inside.node_count(), inside.answer_count()];
-        let whole = counts.iter().all(Result::is_ok) && inside.answers().all(|entry| entry.unwrap().list.is_ok());
+        let whole = counts.iter().all(Result::is_ok) && inside.answers().all(|entry| entry.unwrap().value.is_ok());
+        above_32 += inside.answers().flatten().filter(|entry| matches!(entry.value, Ok(Value::Count(33..)))).count();
         look_at_all(inside);
         let seen: Vec<_> = (0..12).map(|client| inside.work(client).map(|work| work.is_some())).collect();
         let stars = vec![0; 2 * inside.columns().unwrap_or(0) as usize];
@@ -215,4 +257,5 @@ fn what_is_seen_agrees_with_the_numbers_of_the_calls() {
         met[4] += !whole as u32;
     }
     assert!([0, 3, 4, 5].into_iter().all(|n| met[n] > 30), "{met:?}");
+    assert!(above_32 > 5, "filed counts above 32: {above_32}");
 }

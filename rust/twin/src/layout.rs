@@ -32,13 +32,15 @@ pub const LABEL_WIDTH: usize = 5;
 pub const NODE_PENDING: usize = 5;
 pub const NODE_REVISION: usize = 6;
 
-/// a filed answer: key, list length, 16 revisions, 128 numbers of the list
+/// a filed answer: key, list length or count, 16 revisions, 128 numbers of the list
 pub const ENTRY_WIDTH: usize = 152;
 pub const KEY_WIDTH: usize = 7;
 pub const ENTRY_LENGTH: usize = 7;
 pub const ENTRY_REVISIONS: usize = 8;
 pub const ENTRY_LIST: usize = 24;
 pub const LIST_WIDTH: usize = 128;
+/// in a key's first number, above the marks of four columns: what is wanted is a count, not a list
+pub const COUNT_BIT: u32 = 16;
 
 /// a client, the desk: five numbers of its own, then an entry as in the answers memory
 pub const CLIENT_WIDTH: usize = 157;

@@ -13,7 +13,7 @@ pub mod table;
 use layout::*;
 use query::Query;
 
-/// Document 01, "Faults a bench would show", and a sixth: looks that pay no heed to marks.
+/// Document 01, "Faults a bench would show", and three more: looks that pay no heed to marks, and two of counts.
 #[derive(Clone, Copy, PartialEq, Eq, Debug)]
 #[repr(u8)]
 pub enum Fault {
@@ -30,12 +30,16 @@ pub enum Fault {
     Stacked,
     /// looks see no pending writes, the marks
     NoPending,
+    /// a key is compared without what is wanted: a filed list serves a count, and a filed count of at most 32 a list
+    OneKey,
+    /// a count's answer is written to the tray too
+    CountOnTray,
 }
 
 /// The number for a plain twin, to be given as `Memories<'_, PLAIN>` where it is not the default.
 pub const PLAIN: u8 = Fault::None as u8;
 
-/// What a call returns: the paper's number, how many records were answered, and what ended: 0 nothing (or the number says it),
+/// What a call returns: the paper's number, how many records were answered or counted, and what ended: 0 nothing (or the number says it),
 /// 1 answered from file, 2 answered from the table, 3 a write ended and changed the table, 4 a write ended and did not.
 #[derive(Clone, Copy, PartialEq, Eq, Debug)]
 pub struct Reply {
@@ -88,30 +92,35 @@ impl<const FAULT: u8> Memories<'_, FAULT> {
     }
 
     pub fn begin_read(&mut self, client: u32, query: &[u32]) -> Reply {
-        self.begin(READ, client, query)
+        self.begin(READ, false, client, query)
+    }
+
+    /// A read that wants how many records lie in the query's subspace.
+    pub fn begin_count(&mut self, client: u32, query: &[u32]) -> Reply {
+        self.begin(READ, true, client, query)
     }
 
     pub fn begin_insert(&mut self, client: u32, query: &[u32]) -> Reply {
-        self.begin(INSERT, client, query)
+        self.begin(INSERT, false, client, query)
     }
 
     pub fn begin_delete(&mut self, client: u32, query: &[u32]) -> Reply {
-        self.begin(DELETE, client, query)
+        self.begin(DELETE, false, client, query)
     }
 
-    fn begin(&mut self, kind: u32, client: u32, asked: &[u32]) -> Reply {
+    fn begin(&mut self, kind: u32, counts: bool, client: u32, asked: &[u32]) -> Reply {
         let refusal = self.begin_refusal(kind, client, asked);
         if refusal != 0 {
             return Reply::refused(refusal);
         }
-        let key = Query::arrived(self.clients[COLUMNS] as usize, asked).key();
+        let key = Query { counts, ..Query::arrived(self.clients[COLUMNS] as usize, asked) }.key();
         let own = self.client_mut(client);
         own[CLIENT_KIND] = kind;
         own[CLIENT_ENTRY..CLIENT_ENTRY + KEY_WIDTH].copy_from_slice(&key);
         Reply::ACCEPTED
     }
 
-    /// One step of what is under way at the desk. Only an answer writes to the tray.
+    /// One step of what is under way at the desk. Only a list's answer writes to the tray.
     pub fn step(&mut self, tray: &mut [u32], client: u32) -> Reply {
         if self.is_short() || tray.len() < TRAY_LEAST {
             return Reply::refused(1);

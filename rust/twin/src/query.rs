@@ -3,21 +3,23 @@
 use crate::layout::*;
 use crate::Fault;
 
-/// A query of k columns: bit c of `named` is 1 where column c names `values[c]`, which is 0 otherwise.
+/// A query of k columns: bit c of `named` is 1 where column c names `values[c]`, which is 0 otherwise. And what a read of it wants.
 #[derive(Clone, Copy, PartialEq, Eq, Debug)]
 pub struct Query {
     pub k: usize,
     pub named: u32,
     pub values: [u32; 4],
+    /// a read that wants a count, not a list; never of a write
+    pub counts: bool,
 }
 
 /// The five numbers of a node's label: a byte of tags for each column, then the values.
 pub type Label = [u32; LABEL_WIDTH];
 
 impl Query {
-    /// The query that a begin was given, known to have k columns, k from 1 to 4.
+    /// The query that a begin was given, known to have k columns, k from 1 to 4; for a list or a write.
     pub fn arrived(k: usize, asked: &[u32]) -> Query {
-        let mut q = Query { k, named: 0, values: [0; 4] };
+        let mut q = Query { k, named: 0, values: [0; 4], counts: false };
         for (c, column) in asked.chunks_exact(2).enumerate() {
             q.named |= column[0] << c;
             q.values[c] = column[1];
@@ -27,7 +29,8 @@ impl Query {
 
     /// The query that a desk's key holds, if it is the key of a query of k columns.
     pub fn kept(k: usize, key: &[u32; KEY_WIDTH]) -> Option<Query> {
-        let q = Query { k, named: key[0], values: [key[1], key[2], key[3], key[4]] };
+        let counts = key[0] & COUNT_BIT != 0;
+        let q = Query { k, named: key[0] & !COUNT_BIT, values: [key[1], key[2], key[3], key[4]], counts };
         let free = q.named < 1 << k && key[5] == 0 && key[6] == 0;
         let zeros = (0..4).all(|c| q.names(c) || q.values[c] == 0);
         (free && zeros).then_some(q)
@@ -35,7 +38,8 @@ impl Query {
 
     pub fn key(&self) -> [u32; KEY_WIDTH] {
         let v = self.values;
-        [self.named, v[0], v[1], v[2], v[3], 0, 0]
+        let wanted = if self.counts { COUNT_BIT } else { 0 };
+        [self.named | wanted, v[0], v[1], v[2], v[3], 0, 0]
     }
 
     pub fn names(&self, column: usize) -> bool {

@@ -1,6 +1,7 @@
 //! What the controller turns down, the smallest number that applies (document 01). Leans on layout, answers and query.
 //! What only a step or an abandoning can find at a node stands in nodes.
 
+use crate::answers::entry_of;
 use crate::layout::*;
 use crate::query::{self, Query};
 use crate::{answers, nodes, Memories};
@@ -20,13 +21,13 @@ impl<const FAULT: u8> Memories<'_, FAULT> {
         self.table.len() < TABLE_LEAST || self.nodes.len() < NODES_LEAST || self.answers.len() < ANSWERS_LEAST || self.clients.len() < CLIENTS_LEAST
     }
 
-    /// 3: k, an entry count or a filed list's length is out of range.
+    /// 3: k, an entry count or the length of a filed list or count is out of range.
     fn is_unsound(&self) -> bool {
         !(1..=4).contains(&self.clients[COLUMNS])
             || self.table[COUNT] as usize > RECORDS
             || self.nodes[NODE_COUNT] as usize > NODES
             || self.answers[COUNT] as usize > ANSWERS
-            || answers::all(self.answers).iter().any(|entry| entry[ENTRY_LENGTH] as usize > LIST)
+            || answers::all(self.answers).iter().any(|entry| entry[ENTRY_LENGTH] as usize > answers::most(entry))
     }
 
     /// 1 or 3 of the memories as a whole, or 0.
@@ -44,16 +45,18 @@ impl<const FAULT: u8> Memories<'_, FAULT> {
         self.client(client).iter().all(|number| *number == 0)
     }
 
-    /// The query of a desk that is not idle, if its kind, query, step and list length are in range.
+    /// The query of a desk that is not idle, if its kind, query, step and length are in range. No write wants a count.
     fn sound_query(&self, client: u32) -> Option<Query> {
         let own = self.client(client);
         let kind = own[CLIENT_KIND];
-        let query = Query::kept(self.clients[COLUMNS] as usize, own[CLIENT_ENTRY..].first_chunk()?)?;
+        let entry = entry_of(own);
+        let query = Query::kept(self.clients[COLUMNS] as usize, entry.first_chunk()?)?;
         let steps = if kind == READ { query.looks() + 3 } else { 2 * query.announcements() + 1 };
         let sound = (READ..=DELETE).contains(&kind)
+            && (kind == READ || !query.counts)
             && (kind != INSERT || query.names_all())
             && own[CLIENT_STEPS] < steps
-            && own[CLIENT_ENTRY + ENTRY_LENGTH] as usize <= LIST;
+            && entry[ENTRY_LENGTH] as usize <= answers::most(entry);
         sound.then_some(query)
     }
 

@@ -1,6 +1,6 @@
 //! One step of a desk, after its refusals (document 01, "One desk, step by step"). Leans on nodes, answers and table.
 
-use crate::answers::Entry;
+use crate::answers::{entry_of, Entry};
 use crate::layout::*;
 use crate::query::Query;
 use crate::table::Change;
@@ -13,7 +13,9 @@ impl<const FAULT: u8> Memories<'_, FAULT> {
         if steps < looks {
             self.look(client, query, steps)
         } else if steps == looks {
-            self.fetch(tray, client, looks as usize)
+            self.fetch(tray, client, query)
+        } else if steps == looks + 1 && query.counts {
+            self.take_count(tray, client, query)
         } else if steps == looks + 1 {
             self.take_list(tray, client, query)
         } else {
@@ -34,15 +36,14 @@ impl<const FAULT: u8> Memories<'_, FAULT> {
         Reply::ACCEPTED
     }
 
-    fn fetch(&mut self, tray: &mut [u32], client: u32, looks: usize) -> Reply {
-        let k = self.clients[COLUMNS] as usize;
-        let own = self.client(client);
-        let found = if own[CLIENT_SAW] == 0 { answers::fetch(self.answers, entry_of(own), looks) } else { None };
+    fn fetch(&mut self, tray: &mut [u32], client: u32, query: &Query) -> Reply {
+        let (own, looks) = (self.client(client), query.looks() as usize);
+        let found = if own[CLIENT_SAW] == 0 { answers::fetch::<FAULT>(self.answers, entry_of(own), looks) } else { None };
         let Some(entry) = found else {
             self.client_mut(client)[CLIENT_STEPS] += 1;
             return Reply::ACCEPTED;
         };
-        let count = write_tray(tray, entry, k);
+        let count = give::<FAULT>(tray, entry, query);
         self.client_mut(client).fill(0);
         Reply::answered(count, true)
     }
@@ -65,13 +66,28 @@ impl<const FAULT: u8> Memories<'_, FAULT> {
         Reply::ACCEPTED
     }
 
+    /// However many there are: a count never ends with 12. Nothing stands in the list's place.
+    fn take_count(&mut self, tray: &mut [u32], client: u32, query: &Query) -> Reply {
+        let count = table::count(self.table, query);
+        let own = self.client_mut(client);
+        if own[CLIENT_SAW] != 0 {
+            own.fill(0);
+            spoil_tray::<FAULT>(tray, count);
+            return Reply::answered(count, false);
+        }
+        own[CLIENT_ENTRY + ENTRY_LENGTH] = count as u32;
+        own[CLIENT_ENTRY + ENTRY_LIST..].fill(0);
+        own[CLIENT_STEPS] += 1;
+        Reply::ACCEPTED
+    }
+
     fn file(&mut self, tray: &mut [u32], client: u32, query: &Query) -> Reply {
         if FAULT == Fault::LateLook as u8 {
             self.note_afresh(client, query);
         }
         let entry = *entry_of(self.client(client));
-        answers::file(self.answers, &entry);
-        let count = write_tray(tray, &entry, query.k);
+        answers::file::<FAULT>(self.answers, &entry);
+        let count = give::<FAULT>(tray, &entry, query);
         self.client_mut(client).fill(0);
         Reply::answered(count, false)
     }
@@ -122,13 +138,20 @@ impl<const FAULT: u8> Memories<'_, FAULT> {
     }
 }
 
-fn entry_of(client: &[u32; CLIENT_WIDTH]) -> &Entry {
-    client.last_chunk().unwrap()
+/// A list's records, known to be at most 32, go to the tray's start; a count leaves the tray as it is.
+fn give<const FAULT: u8>(tray: &mut [u32], entry: &Entry, query: &Query) -> usize {
+    let (count, k) = (entry[ENTRY_LENGTH] as usize, query.k);
+    if query.counts {
+        spoil_tray::<FAULT>(tray, count);
+    } else {
+        tray[..count * k].copy_from_slice(&entry[ENTRY_LIST..ENTRY_LIST + count * k]);
+    }
+    count
 }
 
-/// An answer's records go to the tray's start; the list's length is known to be at most 32.
-fn write_tray(tray: &mut [u32], entry: &Entry, k: usize) -> usize {
-    let count = entry[ENTRY_LENGTH] as usize;
-    tray[..count * k].copy_from_slice(&entry[ENTRY_LIST..ENTRY_LIST + count * k]);
-    count
+/// the fault: a count goes to the tray's start
+fn spoil_tray<const FAULT: u8>(tray: &mut [u32], count: usize) {
+    if FAULT == Fault::CountOnTray as u8 {
+        tray[0] = count as u32;
+    }
 }

@@ -1,4 +1,4 @@
-//! The table memory: lists, inserts, deletes (document 01, "One desk, step by step"). Leans on layout and query.
+//! The table memory: lists, counts, inserts, deletes (document 01, "One desk, step by step"). Leans on layout and query.
 //! The count in memory is known to be at most 2,048 and the memory to be long enough: refusals come first. The records need
 //! not be ascending, so every search goes through the table from the start.
 
@@ -68,6 +68,16 @@ fn list_of<const K: usize>(table: &[u32], query: &Query, out: &mut [u32; LIST_WI
         }
     }
     Some(count)
+}
+
+/// How many records lie in the query's subspace: one pass, and nothing is copied.
+pub fn count(table: &[u32], query: &Query) -> usize {
+    by_width!(query.k, count_of(table, query))
+}
+
+fn count_of<const K: usize>(table: &[u32], query: &Query) -> usize {
+    let wanted = test::<K>(query);
+    records::<K>(table).iter().filter(|record| lies(record, &wanted)).count()
 }
 
 /// The record goes in before the first greater one, unless it is anywhere in the table or 2,048 are there.

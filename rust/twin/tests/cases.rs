@@ -1,4 +1,4 @@
-//! The cases of document 01, "On each side of a line", on the twin: 1 to 5 on labels, 6 to 12 on memories.
+//! The cases of document 01, "On each side of a line", on the twin: 1 to 5 on labels, 6 to 12 on memories; and those of a count (S-1).
 
 use twin::layout::*;
 use twin::query::{Label, Query};
@@ -57,6 +57,15 @@ impl Hall {
     fn read(&mut self, client: u32, query: &[u32]) -> (u32, Reply) {
         assert_eq!(self.lend().begin_read(client, query), ACCEPTED);
         self.run(client)
+    }
+
+    /// A count, whose tray keeps every number at each step.
+    fn count(&mut self, client: u32, query: &[u32]) -> (u32, Reply) {
+        assert_eq!(self.lend().begin_count(client, query), ACCEPTED);
+        let tray = self.tray.clone();
+        let ended = self.run(client);
+        assert_eq!(self.tray, tray);
+        ended
     }
 
     fn insert(&mut self, client: u32, query: &[u32]) -> (u32, Reply) {
@@ -214,5 +223,124 @@ fn case_12_worn() {
         hall.nodes[place] = 4_294_967_104;
         assert_eq!(hall.lend().begin_insert(2, &[1, 5]).number, 10);
         assert_eq!(hall.lend().begin_read(2, &[1, 5]), ACCEPTED);
+    }
+}
+
+const UNSOUND: Reply = Reply { number: 3, count: 0, ending: 0 };
+
+/// The first number of a count's key: the bit, and no column named.
+const STARS: u32 = COUNT_BIT;
+
+#[test]
+fn a_count_goes_past_32_up_to_all_records() {
+    for (k, n) in (1..=4).flat_map(|k| [0, 32, 33, 2047, 2048].map(|n| (k, n))) {
+        let wildcards = vec![0; 2 * k as usize];
+        let mut hall = filled(k, n);
+        assert_eq!(hall.count(0, &wildcards), (4, from_table(n)));
+        assert_eq!((hall.answers[HEAD], hall.answers[HEAD + ENTRY_LENGTH]), (STARS, n));
+        assert!(hall.answers[HEAD + ENTRY_LIST..].iter().all(|number| *number == 0));
+        assert_eq!(hall.count(0, &wildcards), (2, from_file(n)));
+        assert!(hall.clients[HEAD..].iter().all(|number| *number == 0));
+    }
+}
+
+#[test]
+fn a_count_is_of_its_querys_records_alone() {
+    let mut hall = filled(2, 40);
+    assert_eq!(hall.count(0, &[1, 39, 0, 0]), (5, from_table(1)));
+    assert_eq!(hall.count(0, &[1, 40, 0, 0]), (5, from_table(0)));
+    assert_eq!(hall.count(0, &[0, 0, 1, 0]), (5, from_table(40)));
+}
+
+#[test]
+fn a_list_and_a_count_of_one_query_are_filed_side_by_side_and_both_used() {
+    let mut hall = filled(1, 9);
+    assert_eq!(hall.read(0, &[1, 5]), (5, from_table(1)));
+    assert_eq!(hall.count(0, &[1, 5]), (5, from_table(1)));
+    assert_eq!(hall.answers[COUNT], 2);
+    hall.tray.fill(7);
+    assert_eq!(hall.count(0, &[1, 5]), (3, from_file(1)));
+    assert_eq!(hall.read(0, &[1, 5]), (3, from_file(1)));
+    assert_eq!(hall.tray[..2], [5, 7]);
+}
+
+#[test]
+fn a_count_that_saw_a_pending_write_is_answered_at_the_table_step_and_not_filed() {
+    let mut hall = filled(1, 2048);
+    hall.lend().begin_delete(1, &[0, 0]);
+    hall.steps(1, 2);
+    assert_eq!(hall.count(0, &[0, 0]), (3, from_table(2048)));
+    assert_eq!(hall.answers[COUNT], 0);
+}
+
+#[test]
+fn a_table_step_of_a_count_clears_the_lists_place() {
+    let mut hall = filled(1, 33);
+    assert_eq!(hall.lend().begin_count(0, &[0, 0]), ACCEPTED);
+    hall.clients[HEAD + CLIENT_ENTRY + ENTRY_LIST..][..LIST_WIDTH].fill(7);
+    hall.steps(0, 3);
+    assert_eq!(hall.clients[HEAD + CLIENT_ENTRY + ENTRY_LENGTH], 33);
+    assert!(hall.clients[HEAD + CLIENT_ENTRY + ENTRY_LIST..][..LIST_WIDTH].iter().all(|number| *number == 0));
+}
+
+#[test]
+fn a_tray_of_127_is_short_for_every_step_of_a_count() {
+    for steps in 0..5 {
+        let mut hall = Hall::open(1);
+        assert_eq!(hall.lend().begin_count(0, &[1, 5]), ACCEPTED);
+        hall.steps(0, steps);
+        hall.tray.truncate(127);
+        assert_eq!(hall.step(0).number, 1);
+        hall.tray.resize(128, 7);
+        assert_eq!(hall.step(0).number, 0);
+    }
+}
+
+#[test]
+fn a_filed_count_is_at_most_2048_and_a_filed_list_32_by_the_bit_alone() {
+    let bits = [0, 1, 2, 3, 5, 6, 31].map(|bit| 1 << bit);
+    let limits = [(0, 32), (COUNT_BIT, 2048)].into_iter().flat_map(|(wanted, most)| bits.map(|bit| (wanted | bit, most)));
+    for (first, most) in limits.chain([(0, 32), (STARS, 2048)]) {
+        let mut hall = Hall::open(1);
+        hall.answers[COUNT] = 1;
+        hall.answers[HEAD] = first;
+        hall.answers[HEAD + ENTRY_LENGTH] = most;
+        assert_eq!(hall.lend().begin_count(0, &[1, 5]), ACCEPTED);
+        hall.answers[HEAD + ENTRY_LENGTH] = most + 1;
+        assert_eq!(hall.lend().begin_count(1, &[1, 5]), UNSOUND);
+        assert_eq!((hall.step(0), hall.lend().abandon(0), hall.lend().renew()), (UNSOUND, UNSOUND, UNSOUND));
+        assert_eq!((hall.lend().evict_answer(0), hall.lend().evict_node(0)), (UNSOUND, UNSOUND));
+    }
+}
+
+#[test]
+fn a_held_count_is_at_most_2048_at_the_called_desk_and_anything_at_another() {
+    for (length, reply) in [(33, ACCEPTED), (2048, ACCEPTED), (2049, UNSOUND)] {
+        let mut hall = Hall::open(1);
+        assert_eq!(hall.lend().begin_count(3, &[1, 5]), ACCEPTED);
+        hall.clients[HEAD + 3 * CLIENT_WIDTH + CLIENT_ENTRY + ENTRY_LENGTH] = length;
+        assert_eq!(hall.count(4, &[1, 5]).1, from_table(0));
+        assert_eq!((hall.step(3), hall.lend().abandon(3)), (reply, reply));
+    }
+}
+
+#[test]
+fn no_write_wants_a_count() {
+    for (kind, reply) in [(READ, ACCEPTED), (INSERT, UNSOUND), (DELETE, UNSOUND)] {
+        let mut hall = Hall::open(2);
+        assert_eq!(hall.lend().begin_insert(0, &[1, 5, 1, 6]), ACCEPTED);
+        hall.clients[HEAD + CLIENT_KIND] = kind;
+        hall.clients[HEAD + CLIENT_ENTRY] |= COUNT_BIT;
+        assert_eq!(hall.step(0), reply);
+    }
+}
+
+#[test]
+fn above_the_counts_bit_a_key_has_none() {
+    for bit in 5..32 {
+        let mut hall = Hall::open(4);
+        assert_eq!(hall.lend().begin_count(0, &[0; 8]), ACCEPTED);
+        hall.clients[HEAD + CLIENT_ENTRY] |= 1 << bit;
+        assert_eq!((hall.step(0), hall.lend().begin_read(0, &[0; 8])), (UNSOUND, UNSOUND));
     }
 }

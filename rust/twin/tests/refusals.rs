@@ -22,8 +22,9 @@ fn refusals_alter_nothing() {
         let [table, nodes, answers, clients] = &mut after;
         let mut m: Memories = Memories { table, nodes, answers, clients };
         let (client, place) = (seed as u32 % 13, seed as u32 % 5);
-        let reply = match seed / 13 % 8 {
+        let reply = match seed / 13 % 9 {
             0 => m.begin_read(client, &[1, 2, 0, 0]),
+            8 => m.begin_count(client, &[1, 2, 0, 0]),
             1 => m.begin_insert(client, &[1, 2, 1, 3]),
             2 => m.begin_delete(client, &[1, 2]),
             3 => m.step(&mut [0; 128], client),

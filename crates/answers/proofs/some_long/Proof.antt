@@ -1,5 +1,5 @@
--- `answers::some_long` meets its contract. Invariant: entry i starts at `at`, and no list before it is too long. Assumes nothing.
-use mathlib.Core.Path.{_≡_, sym}
+-- `answers::some_long` meets its contract. Invariant: entry i starts at `at`, and none before it says too much. Assumes nothing.
+use mathlib.Core.Path.{_≡_, sym, _∙_}
 use Prim.Native.Nat.{_+_, _*_, _-_, _≤_}
 use lib.ListN.{drop}
 use Rattle.lists.specs.Lists.{place}
@@ -8,7 +8,7 @@ use Rattle.lists.specs.Lists.{header}
 use Rattle.query.specs.Shape.{narrow}
 use Rattle.rules.specs.Layout.{entryWidth}
 use Rattle.rules.specs.Memory.{answersIn}
-use Rattle.answers.proofs.AnswerScan.{scan-start, long-found, long-next, long-none}
+use Rattle.answers.proofs.AnswerScan.{scan-start, scan-found, scan-next, scan-none, long-found, long-none}
 use borrow.Author.Needs.{needs}
 use Rattle.answers.proofs.some_long.Statement.{statement}
 use Rattle.answers.proofs.some_long.Tie as tie
@@ -28,22 +28,28 @@ cast-count c = search needs
 loop-holds : tie.Need-loop-holds Inv-loop μ-loop
 loop-holds c = (search needs, (search needs, scan-start _ _))
 
-add-if1 : tie.Need-add-if1 Inv-loop μ-loop
-add-if1 c = search needs
+add-end : tie.Need-add-end Inv-loop μ-loop
+add-end c = search needs
 
-mul-if1 : tie.Need-mul-if1 Inv-loop μ-loop
-mul-if1 c = search needs
+mul-is-long : tie.Need-mul-is-long Inv-loop μ-loop
+mul-is-long c = search needs
 
-shared-slice-read-if1 : tie.Need-shared-slice-read-if1 Inv-loop μ-loop
-shared-slice-read-if1 c = search needs
+sub-is-long : tie.Need-sub-is-long Inv-loop μ-loop
+sub-is-long c = search needs
+
+part-is-long-start : tie.Need-part-is-long-start Inv-loop μ-loop
+part-is-long-start c = search needs
+
+part-is-long-end : tie.Need-part-is-long-end Inv-loop μ-loop
+part-is-long-end c = search needs
+
+is-long-requires : tie.Need-is-long-requires Inv-loop μ-loop
+is-long-requires c κs = search needs
 
 returns : tie.Need-returns Inv-loop μ-loop
 returns c =
-    let l = c .before .before .before in
-    sym (long-found _ (l .loop .at) (l .loop .i) (l .loop .inv .1 .1) (search needs) (search needs) (c .if1 .taken))
-
-add-at : tie.Need-add-at Inv-loop μ-loop
-add-at c = search needs
+    let l = c .before .before .before .before in
+    sym (long-found _ (l .loop .i) (scan-found _ _ (l .loop .at) (l .loop .i) (l .loop .inv .1 .1) (search needs) (search needs) (sym (c .before .is-long .ensures) ∙ c .if1 .taken)) (search needs))
 
 add-i : tie.Need-add-i Inv-loop μ-loop
 add-i c = search needs
@@ -53,13 +59,13 @@ loop-less c = search needs
 
 loop-again : tie.Need-loop-again Inv-loop μ-loop
 loop-again c =
-    let l = c .before .before .before in
-    (search needs, (search needs, long-next _ (l .loop .at) (l .loop .i) (l .loop .inv .1 .1) (search needs) (search needs) (c .if1 .left)))
+    let l = c .before .before .before .before in
+    (search needs, (search needs, scan-next _ _ (l .loop .at) (l .loop .i) (l .loop .inv .1 .1) (search needs) (search needs) (sym (c .before .is-long .ensures) ∙ c .if1 .left)))
 
 returns-2 : tie.Need-returns-2 Inv-loop μ-loop
 returns-2 c =
     let l = c .before in
-    sym (long-none _ (l .loop .i) (l .loop .inv .1 .1) (search needs) (search needs))
+    sym (long-none _ (scan-none _ _ (l .loop .i) (l .loop .inv .1 .1) (search needs) (search needs)))
 
 pub some-long-spec : {M : Type 1} → statement M
 some-long-spec =
@@ -70,11 +76,13 @@ some-long-spec =
     shared-slice-read-count
     cast-count
     loop-holds
-    add-if1
-    mul-if1
-    shared-slice-read-if1
+    add-end
+    mul-is-long
+    sub-is-long
+    part-is-long-start
+    part-is-long-end
+    is-long-requires
     returns
-    add-at
     add-i
     loop-less
     loop-again

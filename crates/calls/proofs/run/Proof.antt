@@ -15,35 +15,41 @@ begin-read-requires c κs = search needs
 enum-known-call-2 : tie.Need-enum-known-call-2
 enum-known-call-2 c = search needs
 
-begin-insert-requires : tie.Need-begin-insert-requires
-begin-insert-requires c κs = search needs
+begin-count-requires : tie.Need-begin-count-requires
+begin-count-requires c κs = search needs
 
 enum-known-call-3 : tie.Need-enum-known-call-3
 enum-known-call-3 c = search needs
 
-begin-delete-requires : tie.Need-begin-delete-requires
-begin-delete-requires c κs = search needs
+begin-insert-requires : tie.Need-begin-insert-requires
+begin-insert-requires c κs = search needs
 
 enum-known-call-4 : tie.Need-enum-known-call-4
 enum-known-call-4 c = search needs
 
-step-requires : tie.Need-step-requires
-step-requires c κs = search needs
+begin-delete-requires : tie.Need-begin-delete-requires
+begin-delete-requires c κs = search needs
 
 enum-known-call-5 : tie.Need-enum-known-call-5
 enum-known-call-5 c = search needs
 
-abandon-requires : tie.Need-abandon-requires
-abandon-requires c κs = search needs
+step-requires : tie.Need-step-requires
+step-requires c κs = search needs
 
 enum-known-call-6 : tie.Need-enum-known-call-6
 enum-known-call-6 c = search needs
 
-evict-answer-requires : tie.Need-evict-answer-requires
-evict-answer-requires c κs = search needs
+abandon-requires : tie.Need-abandon-requires
+abandon-requires c κs = search needs
 
 enum-known-call-7 : tie.Need-enum-known-call-7
 enum-known-call-7 c = search needs
+
+evict-answer-requires : tie.Need-evict-answer-requires
+evict-answer-requires c κs = search needs
+
+enum-known-call-8 : tie.Need-enum-known-call-8
+enum-known-call-8 c = search needs
 
 evict-node-requires : tie.Need-evict-node-requires
 evict-node-requires c κs = search needs
@@ -90,7 +96,7 @@ unfolding ran withTray callOf trayAfter callResult
 returns-2 c =
     let b = c .before .before .before .before .before .before .before .before in
     let k = b .before .before .before .before .before .before in
-    rw (k .call2 .given .1) (without-tray _ (b .begin-insert .ensures))
+    rw (k .call2 .given .1) (without-tray _ (b .begin-count .ensures))
 
 same-length-9 : tie.Need-same-length-9
 same-length-9 c = search needs
@@ -109,7 +115,7 @@ unfolding ran withTray callOf trayAfter callResult
 returns-3 c =
     let b = c .before .before .before .before .before .before .before .before in
     let k = b .before .before .before .before .before .before in
-    rw (k .call3 .given .1) (without-tray _ (b .begin-delete .ensures))
+    rw (k .call3 .given .1) (without-tray _ (b .begin-insert .ensures))
 
 same-length-13 : tie.Need-same-length-13
 same-length-13 c = search needs
@@ -123,16 +129,15 @@ same-length-15 c = search needs
 same-length-16 : tie.Need-same-length-16
 same-length-16 c = search needs
 
-same-length-17 : tie.Need-same-length-17
-same-length-17 c = search needs
-
 returns-4 : tie.Need-returns-4
 unfolding ran withTray callOf trayAfter callResult
 returns-4 c =
-    let t = c .before .before in
-    let b = t .before .before .before .before .before .before .before .before in
-    let k = b .before .before .before .before .before .before .before in
-    rw (k .call4 .given .1) (b .step .ensures)
+    let b = c .before .before .before .before .before .before .before .before in
+    let k = b .before .before .before .before .before .before in
+    rw (k .call4 .given .1) (without-tray _ (b .begin-delete .ensures))
+
+same-length-17 : tie.Need-same-length-17
+same-length-17 c = search needs
 
 same-length-18 : tie.Need-same-length-18
 same-length-18 c = search needs
@@ -149,9 +154,10 @@ same-length-21 c = search needs
 returns-5 : tie.Need-returns-5
 unfolding ran withTray callOf trayAfter callResult
 returns-5 c =
-    let b = c .before .before .before .before .before .before .before .before in
-    let k = b .before .before .before .before .before .before in
-    rw (k .call5 .given .1) (without-tray _ (b .abandon .ensures))
+    let t = c .before .before in
+    let b = t .before .before .before .before .before .before .before .before in
+    let k = b .before .before .before .before .before .before .before in
+    rw (k .call5 .given .1) (b .step .ensures)
 
 same-length-22 : tie.Need-same-length-22
 same-length-22 c = search needs
@@ -170,7 +176,7 @@ unfolding ran withTray callOf trayAfter callResult
 returns-6 c =
     let b = c .before .before .before .before .before .before .before .before in
     let k = b .before .before .before .before .before .before in
-    rw (k .call6 .given .1) (without-tray _ (b .evict-answer .ensures))
+    rw (k .call6 .given .1) (without-tray _ (b .abandon .ensures))
 
 same-length-26 : tie.Need-same-length-26
 same-length-26 c = search needs
@@ -189,7 +195,7 @@ unfolding ran withTray callOf trayAfter callResult
 returns-7 c =
     let b = c .before .before .before .before .before .before .before .before in
     let k = b .before .before .before .before .before .before in
-    rw (k .call7 .given .1) (without-tray _ (b .evict-node .ensures))
+    rw (k .call7 .given .1) (without-tray _ (b .evict-answer .ensures))
 
 same-length-30 : tie.Need-same-length-30
 same-length-30 c = search needs
@@ -207,6 +213,25 @@ returns-8 : tie.Need-returns-8
 unfolding ran withTray callOf trayAfter callResult
 returns-8 c =
     let b = c .before .before .before .before .before .before .before .before in
+    let k = b .before .before .before .before .before .before in
+    rw (k .call8 .given .1) (without-tray _ (b .evict-node .ensures))
+
+same-length-34 : tie.Need-same-length-34
+same-length-34 c = search needs
+
+same-length-35 : tie.Need-same-length-35
+same-length-35 c = search needs
+
+same-length-36 : tie.Need-same-length-36
+same-length-36 c = search needs
+
+same-length-37 : tie.Need-same-length-37
+same-length-37 c = search needs
+
+returns-9 : tie.Need-returns-9
+unfolding ran withTray callOf trayAfter callResult
+returns-9 c =
+    let b = c .before .before .before .before .before .before .before .before in
     let k = b .before .before .before .before .before in
     rw (k .enum-told .given .1) (without-tray _ (b .renew .ensures))
 
@@ -217,16 +242,18 @@ run-spec =
     enum-known-call
     begin-read-requires
     enum-known-call-2
-    begin-insert-requires
+    begin-count-requires
     enum-known-call-3
-    begin-delete-requires
+    begin-insert-requires
     enum-known-call-4
-    step-requires
+    begin-delete-requires
     enum-known-call-5
-    abandon-requires
+    step-requires
     enum-known-call-6
-    evict-answer-requires
+    abandon-requires
     enum-known-call-7
+    evict-answer-requires
+    enum-known-call-8
     evict-node-requires
     enum-told
     renew-requires
@@ -249,8 +276,8 @@ run-spec =
     same-length-14
     same-length-15
     same-length-16
-    same-length-17
     returns-4
+    same-length-17
     same-length-18
     same-length-19
     same-length-20
@@ -270,4 +297,9 @@ run-spec =
     same-length-31
     same-length-32
     same-length-33
-    returns-8)
+    returns-8
+    same-length-34
+    same-length-35
+    same-length-36
+    same-length-37
+    returns-9)

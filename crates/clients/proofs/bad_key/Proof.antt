@@ -1,8 +1,11 @@
--- `clients::bad_key` meets its contract: the key's part of the memory is tested. Assumes nothing.
+-- `clients::bad_key` meets its contract: the key's part of the memory behind its first number is tested with the marks. Assumes nothing.
 use mathlib.Core.Path.{ap, _∙_}
 use mathlib.Core.Bool.{not}
+use mathlib.Core.List.{List, _∷_}
+use Prim.Native.Nat.{ℕ}
 use Rattle.query.specs.Encoding.{isKey}
-use Rattle.clients.proofs.ClientReads.{key-read}
+use Rattle.query.specs.Shape.{shapeOf}
+use Rattle.clients.proofs.ClientReads.{rest-read}
 use borrow.Author.Needs.{needs}
 use Rattle.clients.proofs.bad_key.Statement.{statement}
 use Rattle.clients.proofs.bad_key.Tie as tie
@@ -18,6 +21,9 @@ add-at-2 c = search needs
 
 add-end : tie.Need-add-end
 add-end c = search needs
+
+sub-end : tie.Need-sub-end
+sub-end c = search needs
 
 mul-is-key : tie.Need-mul-is-key
 mul-is-key c = search needs
@@ -35,7 +41,9 @@ is-key-requires : tie.Need-is-key-requires
 is-key-requires c κs = search needs
 
 returns : tie.Need-returns
-returns c = ap not (c .is-key .ensures ∙ ap (isKey _) (key-read _ _))
+returns c =
+    let a = c .before .before .before .args in
+    ap not (c .is-key .ensures ∙ ap (λ (l : List ℕ). isKey (shapeOf (a .k)) (a .marks ∷ l)) (rest-read (a .clients .now) (a .d)))
 
 pub bad-key-spec : {M : Type 1} → statement M
 bad-key-spec =
@@ -45,6 +53,7 @@ bad-key-spec =
     add-at
     add-at-2
     add-end
+    sub-end
     mul-is-key
     sub-is-key
     part-is-key-start

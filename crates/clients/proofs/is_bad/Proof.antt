@@ -3,21 +3,22 @@ use mathlib.Core.Path.{sym, _∙_}
 use Prim.Native.Nat.{_^_, _<_}
 use borrow.Author.Tests.{not-false}
 use Rattle.clients.proofs.HeldLaws.{held-marks}
-use Rattle.clients.proofs.ClientSound.{bad-none, bad-kind, bad-key, bad-insert, bad-step, bad-length, key-held, insert-held, steps-held}
+use Rattle.clients.proofs.ClientSound.{bad-none, bad-kind, bad-key, bad-wanting, bad-insert, bad-step, bad-length, few-held, key-held, wanting-held, insert-held, steps-held}
 use borrow.Author.Needs.{needs}
 use Rattle.clients.proofs.is_bad.Statement.{statement}
 use Rattle.clients.proofs.is_bad.Tie as tie
-use Rattle.clients.proofs.bad_insert.Reads as bad-insert-reads
-use Rattle.clients.proofs.bad_key.Reads as bad-key-reads
-use Rattle.clients.proofs.bad_length.Reads as bad-length-reads
-use Rattle.clients.proofs.is_idle.Reads as is-idle-reads
-use Rattle.clients.proofs.steps_in_all.Reads as steps-in-all-reads
 
 -- the arguments, from behind the key's test
 abbrev start : tie.Else3 → tie.Start
 start c =
     let k = c .before .before .before in
     k .before .before .before .before
+
+-- behind the key's test the marks are those of the hall's columns
+marked : (c : tie.Else3) → start c .args .h .marks < 2 ^ start c .args .h .columns
+marked c =
+    let p = start c .pre in
+    held-marks (p .0) (p .1 .0) (p .1 .1) (not-false _ (sym (key-held (p .1 .0) (p .0) (c .before .bad-key .ensures)) ∙ c .if3 .left))
 
 is-idle-requires : tie.Need-is-idle-requires
 is-idle-requires c κs = search needs
@@ -36,53 +37,64 @@ returns-3 c =
     let k = c .before .before in
     let x = k .before .before in
     let p = x .before .before .before .pre in
-    bad-key _ _ _ (p .1 .0 .kind) (x .if1 .left) (k .if2 .left) _ (key-held (p .1 .0) (c .before .bad-key .ensures)) (c .if3 .taken)
+    bad-key _ _ _ (p .1 .0 .kind) (x .if1 .left) (few-held (p .1 .0) (p .1 .1)) (k .if2 .left) _ (key-held (p .1 .0) (p .0) (c .before .bad-key .ensures)) (c .if3 .taken)
 
--- behind the key's test the marks are those of the hall's columns
-marked : (c : tie.Else3) → start c .args .h .marks < 2 ^ start c .args .h .columns
-marked c =
-    let p = start c .pre in
-    held-marks (p .0) (p .1 .0) (p .1 .1) (not-false _ (sym (key-held (p .1 .0) (c .before .bad-key .ensures)) ∙ c .if3 .left))
-
-bad-insert-requires : tie.Need-bad-insert-requires
-bad-insert-requires c κs = (search needs, marked c)
+bad-wanting-requires : tie.Need-bad-wanting-requires
+bad-wanting-requires c κs = search needs
 
 returns-4 : tie.Need-returns-4
 returns-4 c =
     let t = c .before .before in
     let k = t .before .before in
     let p = start t .pre in
-    bad-insert _ _ _ (p .1 .0 .kind) (k .before .before .if1 .left) (k .if2 .left) _ (key-held (p .1 .0) (t .before .bad-key .ensures)) (t .if3 .left)
-    _ (insert-held (p .1 .0) (p .1 .1) (c .before .bad-insert .ensures)) (c .if4 .taken)
+    bad-wanting _ _ _ (p .1 .0 .kind) (k .before .before .if1 .left) (few-held (p .1 .0) (p .1 .1)) (k .if2 .left) _ (key-held (p .1 .0) (p .0) (t .before .bad-key .ensures)) (t .if3 .left)
+    _ (wanting-held (p .1 .0) (c .before .bad-wanting .ensures)) (c .if4 .taken)
 
-steps-in-all-requires : tie.Need-steps-in-all-requires
-steps-in-all-requires c κs = (search needs, marked (c .before .before))
+bad-insert-requires : tie.Need-bad-insert-requires
+bad-insert-requires c κs = (search needs, marked (c .before .before))
 
 returns-5 : tie.Need-returns-5
 returns-5 c =
-    let n = c .before .before in
-    let b = n .before in
-    let t = b .before .before in
+    let v = c .before .before in
+    let t = v .before .before in
     let k = t .before .before in
     let p = start t .pre in
-    bad-step _ _ _ (p .1 .0 .kind) (k .before .before .if1 .left) (k .if2 .left) _ (key-held (p .1 .0) (t .before .bad-key .ensures)) (t .if3 .left)
-    _ (insert-held (p .1 .0) (p .1 .1) (b .before .bad-insert .ensures)) (b .if4 .left)
-    _ _ (steps-held (p .1 .0) (p .1 .1) (n .steps-in-all .ensures)) (p .1 .0 .steps) (c .if5 .taken)
+    bad-insert _ _ _ (p .1 .0 .kind) (k .before .before .if1 .left) (few-held (p .1 .0) (p .1 .1)) (k .if2 .left) _ (key-held (p .1 .0) (p .0) (t .before .bad-key .ensures)) (t .if3 .left)
+    _ (wanting-held (p .1 .0) (v .before .bad-wanting .ensures)) (v .if4 .left)
+    _ (insert-held (p .1 .0) (p .1 .1) (c .before .bad-insert .ensures)) (c .if5 .taken)
+
+steps-in-all-requires : tie.Need-steps-in-all-requires
+steps-in-all-requires c κs = (search needs, marked (c .before .before .before .before))
+
+returns-6 : tie.Need-returns-6
+returns-6 c =
+    let n = c .before .before in
+    let b = n .before in
+    let v = b .before .before in
+    let t = v .before .before in
+    let k = t .before .before in
+    let p = start t .pre in
+    bad-step _ _ _ (p .1 .0 .kind) (k .before .before .if1 .left) (few-held (p .1 .0) (p .1 .1)) (k .if2 .left) _ (key-held (p .1 .0) (p .0) (t .before .bad-key .ensures)) (t .if3 .left)
+    _ (wanting-held (p .1 .0) (v .before .bad-wanting .ensures)) (v .if4 .left)
+    _ (insert-held (p .1 .0) (p .1 .1) (b .before .bad-insert .ensures)) (b .if5 .left)
+    _ _ (steps-held (p .1 .0) (p .1 .1) (n .steps-in-all .ensures)) (p .1 .0 .steps) (c .if6 .taken)
 
 bad-length-requires : tie.Need-bad-length-requires
 bad-length-requires c κs = search needs
 
-returns-6 : tie.Need-returns-6
-returns-6 c =
+returns-7 : tie.Need-returns-7
+returns-7 c =
     let e = c .before in
     let n = e .before .before in
     let b = n .before in
-    let t = b .before .before in
+    let v = b .before .before in
+    let t = v .before .before in
     let k = t .before .before in
     let p = start t .pre in
-    bad-length _ _ _ (p .1 .0 .kind) (k .before .before .if1 .left) (k .if2 .left) _ (key-held (p .1 .0) (t .before .bad-key .ensures)) (t .if3 .left)
-    _ (insert-held (p .1 .0) (p .1 .1) (b .before .bad-insert .ensures)) (b .if4 .left)
-    _ _ (steps-held (p .1 .0) (p .1 .1) (n .steps-in-all .ensures)) (p .1 .0 .steps) (e .if5 .left) _ (c .bad-length .ensures)
+    bad-length _ _ _ (p .1 .0 .kind) (k .before .before .if1 .left) (few-held (p .1 .0) (p .1 .1)) (k .if2 .left) _ (key-held (p .1 .0) (p .0) (t .before .bad-key .ensures)) (t .if3 .left)
+    _ (wanting-held (p .1 .0) (v .before .bad-wanting .ensures)) (v .if4 .left)
+    _ (insert-held (p .1 .0) (p .1 .1) (b .before .bad-insert .ensures)) (b .if5 .left)
+    _ _ (steps-held (p .1 .0) (p .1 .1) (n .steps-in-all .ensures)) (p .1 .0 .steps) (e .if6 .left) _ (c .bad-length .ensures)
 
 pub is-bad-spec : {M : Type 1} → statement M
 is-bad-spec =
@@ -93,9 +105,11 @@ is-bad-spec =
     returns-2
     bad-key-requires
     returns-3
-    bad-insert-requires
+    bad-wanting-requires
     returns-4
-    steps-in-all-requires
+    bad-insert-requires
     returns-5
+    steps-in-all-requires
+    returns-6
     bad-length-requires
-    returns-6)
+    returns-7)

@@ -1,4 +1,4 @@
--- `reading::answer_held` meets its contract: the list of the client's own entry. Assumes nothing.
+-- `reading::answer_held` meets its contract: the client's own entry is given. Assumes nothing.
 use Rattle.clients.proofs.ClientReads.{entry-length}
 use Rattle.reading.proofs.Filing.{short-own, given-own}
 use borrow.Author.Needs.{needs}

@@ -1,5 +1,4 @@
--- `reading::file_step` meets its contract: the client's own entry filed, its list given. Assumes nothing.
-use Rattle.rules.proofs.ClientLaws.{busy-short}
+-- `reading::file_step` meets its contract: the client's own entry filed and given. Assumes nothing.
 use Rattle.clients.proofs.ClientReads.{entry-length}
 use Rattle.clients.proofs.HeldLaws.{at-few}
 use Rattle.reading.proofs.Filing.{file-left}
@@ -17,7 +16,7 @@ answer-held-requires : tie.Need-answer-held-requires
 answer-held-requires c κs =
     let f = c .before .before .before .before in
     let p = f .before .before .before .before .before .before .before .pre in
-    record { client = p .read .fit; few = at-few (p .read); short = busy-short (p .read .busy); room = search needs }
+    record { client = p .read .fit; few = at-few (p .read); short = p .read .busy .short; room = search needs }
 
 same-length : tie.Need-same-length
 same-length c = search needs

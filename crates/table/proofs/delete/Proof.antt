@@ -28,10 +28,10 @@ cast-n c = search needs
 
 -- the record that the scan stands at ends inside the memory, and so does the last
 room : (c : tie.In-loop Inv-loop μ-loop) → c .before .loop .from + c .before .before .before .before .args .k ≤ tableLeast
-room c = scan-in _ _ _ _ (c .before .before .before .before .pre) (c .loop-test .taken) (c .before .loop .inv .from-is)
+room c = scan-in _ _ _ _ (c .before .before .before .before .pre) (c .loop-test .taken) (c .before .loop .inv .scan .at-is)
 
 ended : (c : tie.At-loop Inv-loop μ-loop) → c .loop .from ≤ tableLeast
-ended c = scan-end _ _ _ _ (c .before .before .before .pre) (c .loop .inv .le) (c .loop .inv .from-is)
+ended c = scan-end _ _ _ _ (c .before .before .before .pre) (c .loop .inv .scan .le) (c .loop .inv .scan .at-is)
 
 loop-holds : tie.Need-loop-holds Inv-loop μ-loop
 loop-holds c = delete-none _ _ _ _ _
@@ -74,7 +74,7 @@ loop-again c =
     let l = c .before .before .before .before .before in
     let f = c .before .before .before .before .before .before .before .before .pre in
     let h = c .before .before .before .before .loop-test .taken in
-    let e = l .loop .inv .from-is in
+    let e = l .loop .inv .scan .at-is in
     let d = l .loop .inv .back in
     let r = tested _ _ _ _ _ f h e d _ _ (c .before .lies .ensures) in
     ⊎-elim

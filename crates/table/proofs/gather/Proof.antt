@@ -28,7 +28,7 @@ cast-n c = search needs
 
 -- the record that the scan stands at ends inside the memory
 room : (c : tie.In-loop Inv-loop μ-loop) → c .before .loop .at + c .before .before .before .before .before .args .k ≤ tableLeast
-room c = scan-in _ _ _ _ (c .before .before .before .before .before .pre .0) (c .loop-test .taken) (c .before .loop .inv .at-is)
+room c = scan-in _ _ _ _ (c .before .before .before .before .before .pre .0) (c .loop-test .taken) (c .before .loop .inv .scan .at-is)
 
 loop-holds : tie.Need-loop-holds Inv-loop μ-loop
 loop-holds c = gather-none _ _ _ _ _
@@ -63,7 +63,7 @@ returns c =
     let l = c .before .before .before .before .before in
     let f = c .before .before .before .before .before .before .before .before .before .pre in
     let h = c .before .before .before .before .loop-test .taken in
-    let e = l .loop .inv .at-is in
+    let e = l .loop .inv .scan .at-is in
     let r = tested _ _ _ _ _ (f .0) h e refl _ _ (c .before .before .lies .ensures) in
     gather-many _ _ _ _ _ _ _ _ _ _ (l .loop .inv) h (length-records _ _) (sym r ∙ c .before .if1 .taken) (c .if2 .taken)
 
@@ -72,7 +72,7 @@ write-requires c κs =
     let l = c .before .before .before .before .before .before in
     let f = c .before .before .before .before .before .before .before .before .before .before .pre in
     let h = c .before .before .before .before .before .loop-test .taken in
-    let e = l .loop .inv .at-is in
+    let e = l .loop .inv .scan .at-is in
     out-room _ _ _ _ _ _ _ _ _ _ (l .loop .inv) h (length-records _ _) _ (part-is _ _ _ _ _ (f .0) h e refl) (part-long _ _ _ _ _ (f .0) h e refl) (search needs) (f .1) (c .before .if2 .left)
 
 add-to : tie.Need-add-to Inv-loop μ-loop
@@ -80,7 +80,7 @@ add-to c =
     let l = c .before .before .before .before .before .before .before .before .before in
     let f = c .before .before .before .before .before .before .before .before .before .before .before .before .before .pre in
     let h = c .before .before .before .before .before .before .before .before .loop-test .taken in
-    let e = l .loop .inv .at-is in
+    let e = l .loop .inv .scan .at-is in
     omega (arith, out-room _ _ _ _ _ _ _ _ _ _ (l .loop .inv) h (length-records _ _) _ (part-is _ _ _ _ _ (f .0) h e refl) (part-long _ _ _ _ _ (f .0) h e refl) (search needs) (f .1) (c .before .before .before .before .if2 .left))
 
 add-j : tie.Need-add-j Inv-loop μ-loop
@@ -97,7 +97,7 @@ loop-again c =
     let l = c .before .before .before .before in
     let f = c .before .before .before .before .before .before .before .before .pre in
     let h = c .before .before .before .loop-test .taken in
-    let e = l .loop .inv .at-is in
+    let e = l .loop .inv .scan .at-is in
     let r = tested _ _ _ _ _ (f .0) h e refl _ _ (c .before .lies .ensures) in
     ⊎-elim
     (λ w. turn-found _ _ _ _ _ _ _ _ _ _ (l .loop .inv) h (length-records _ _) _ (part-is _ _ _ _ _ (f .0) h e refl) (part-long _ _ _ _ _ (f .0) h e refl) (search needs) (f .1) (w .1 .left)

@@ -77,7 +77,7 @@ pub fn order(rows: &mut Vec<Row>, k: u32) {
         let mut asked = query(k, ALL, 5).words().to_vec();
         asked[0] += odd;
         for (desk, own) in [(0, 0), (4, 5), (12, 4)] {
-            let late = |kind| if kind == READ { 0 } else { 10 * worn };
+            let late = |kind| if is_write(kind) { 10 * worn } else { 0 };
             calls.extend(KINDS.map(|kind| (begin(kind, desk, Asked::new(&asked)), [own, 2 * odd, late(kind)])));
         }
         for (call, own) in calls {

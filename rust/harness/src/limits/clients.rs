@@ -3,6 +3,7 @@
 use super::*;
 
 const OUT: &str = "the called desk is not idle and its kind, query, step or list length is out of range";
+const COUNT: Limit = ("desk's count", "a filed or held count above 2,048 is 3");
 const OCCUPIED: Limit = ("renewal, busy desk", "renew with a busy desk");
 const IDLE: Limit = ("renewal, busy desks", "renew with a busy desk");
 const STRAY: Limit = ("number of the desks memory that is not 0", "an idle desk is all 0");
@@ -14,7 +15,7 @@ type Good = Option<(Reply, u32)>;
 const GOES_ON: Good = Some((says(0), 0));
 
 /// All calls while number `at` of desk 4 is `value`.
-fn busy(rows: &mut Vec<Row>, k: u32, name: &'static str, work: Work, (at, value): (usize, u32), good: Good) {
+fn busy(rows: &mut Vec<Row>, k: u32, limit: Limit, work: Work, (at, value): (usize, u32), good: Good) {
     let (kind, named, v, steps) = work;
     let scene = Scene::opened(k).begun(kind, 4, named, v).steps(4, steps).put(client(4, at), value);
     let five = query(k, ALL, 5);
@@ -23,44 +24,69 @@ fn busy(rows: &mut Vec<Row>, k: u32, name: &'static str, work: Work, (at, value)
     let moved = [(step(4), stepped), (abandon(4), says(abandoned))];
     // a renewal asks only whether the desk is idle, a call at another desk not even that
     let others = [(Call::Renew, says(11)), (begin(READ, 5, five), says(0)), (Call::EvictAnswer { place: 0 }, says(8))];
-    rows.extend(begun.into_iter().chain(moved).chain(others).map(|(call, wanted)| scene.row((name, OUT), value, call, wanted)));
+    rows.extend(begun.into_iter().chain(moved).chain(others).map(|(call, wanted)| scene.row(limit, value, call, wanted)));
 }
 
 pub fn kinds(rows: &mut Vec<Row>, k: u32) {
     for (kind, good) in [(0, None), (1, GOES_ON), (2, GOES_ON), (3, GOES_ON), (4, None), (u32::MAX, None)] {
-        busy(rows, k, "desk's kind", (DELETE, ALL, 5, 0), (CLIENT_KIND, kind), good);
+        busy(rows, k, ("desk's kind", OUT), (DELETE, ALL, 5, 0), (CLIENT_KIND, kind), good);
     }
 }
 
-pub fn list_lengths(rows: &mut Vec<Row>, k: u32) {
+pub fn lengths(rows: &mut Vec<Row>, k: u32) {
+    let at = CLIENT_ENTRY + ENTRY_LENGTH;
     for (length, good) in [(32, GOES_ON), (33, None), (u32::MAX, None)] {
-        KINDS.iter().for_each(|kind| busy(rows, k, "desk's list length", (*kind, ALL, 5, 0), (CLIENT_ENTRY + ENTRY_LENGTH, length), good));
+        [READ, INSERT, DELETE].iter().for_each(|kind| busy(rows, k, ("desk's list length", OUT), (*kind, ALL, 5, 0), (at, length), good));
+    }
+    for (length, good) in [(33, GOES_ON), (2_048, GOES_ON), (2_049, None), (u32::MAX, None)] {
+        busy(rows, k, COUNT, (COUNTS, ALL, 5, 0), (at, length), good);
     }
 }
 
 /// A read that names m columns has 2^m looks, fetch, table and file: the last of its steps finds 2^m + 2 made. A write has 2^k marks,
 /// the table and 2^k raises.
 pub fn steps(rows: &mut Vec<Row>, k: u32) {
-    let reads = (0..=k).map(|m| (READ, marks(m), (1 << m) + 2, (from_table(0), 0)));
+    let reads = READS.into_iter().flat_map(|kind| (0..=k).map(move |m| (kind, marks(m), (1 << m) + 2, (from_table(0), 0))));
     let last = 2 << k;
     let writes = [(INSERT, ALL, last, (CHANGED, 7)), (DELETE, 0, last, (UNCHANGED, 7))];
     for (kind, named, last, end) in reads.chain(writes) {
         for (made, good) in [(last, Some(end)), (last + 1, None), (u32::MAX, None)] {
-            busy(rows, k, "desk's steps", (kind, named, 5, last), (CLIENT_STEPS, made), good);
+            busy(rows, k, ("desk's steps", OUT), (kind, named, 5, last), (CLIENT_STEPS, made), good);
         }
     }
 }
 
 pub fn keys(rows: &mut Vec<Row>, k: u32) {
-    let named = (READ, ALL, 5, 0);
-    let stars = (READ, 0, 0, 0);
-    let (all, past) = (marks(k), 1 << k);
-    for (work, marks, good) in [(named, all, GOES_ON), (named, all + past, None), (named, u32::MAX, None), (stars, past, None)] {
-        busy(rows, k, "marks of the desk's query", work, (CLIENT_ENTRY, marks), good);
+    READS.iter().for_each(|kind| keys_of_reads(rows, k, *kind));
+    let all = marks(k);
+    // all values are 0, so that no star has one
+    busy(rows, k, ("marks of an insert's query at the desk", OUT), (INSERT, ALL, 0, 0), (CLIENT_ENTRY, all), GOES_ON);
+    for column in 0..k {
+        let star = (CLIENT_ENTRY, all - (1 << column));
+        busy(rows, k, ("marks of an insert's query at the desk", OUT), (INSERT, ALL, 0, 0), star, None);
+        busy(rows, k, ("marks of a delete's query at the desk", OUT), (DELETE, ALL, 0, 0), star, GOES_ON);
     }
+    for kind in [INSERT, DELETE] {
+        busy(rows, k, ("marks of a write's query that wants a count", OUT), (kind, ALL, 5, 0), (CLIENT_ENTRY, all + COUNT_BIT), None);
+    }
+}
+
+/// Of a desk that reads and wants a list or a count; what is wanted may be the other just as well.
+fn keys_of_reads(rows: &mut Vec<Row>, k: u32, kind: u32) {
+    let named = (kind, ALL, 5, 0);
+    let stars = (kind, 0, 0, 0);
+    // a bit that is no column's, nor a count's
+    let (all, past) = (marks(k), if k < 4 { 1 << k } else { 32 });
+    for wanted in [0, COUNT_BIT] {
+        let keys = [(named, all, GOES_ON), (named, all + past, None), (stars, 0, GOES_ON), (stars, past, None), (stars, 32, None)];
+        for (work, marks, good) in keys {
+            busy(rows, k, ("marks of the desk's query", OUT), work, (CLIENT_ENTRY, marks + wanted), good);
+        }
+    }
+    busy(rows, k, ("marks of the desk's query", OUT), named, (CLIENT_ENTRY, u32::MAX), None);
     for (value, good) in [(0, GOES_ON), (1, None)] {
         for spare in [5, 6] {
-            busy(rows, k, "spare number of the desk's query", named, (CLIENT_ENTRY + spare, value), good);
+            busy(rows, k, ("spare number of the desk's query", OUT), named, (CLIENT_ENTRY + spare, value), good);
         }
         for column in 0..4 {
             let (name, work) = if column < k {
@@ -68,15 +94,8 @@ pub fn keys(rows: &mut Vec<Row>, k: u32) {
             } else {
                 ("value past the last column of the desk's query", named)
             };
-            busy(rows, k, name, work, (CLIENT_ENTRY + 1 + column as usize, value), good);
+            busy(rows, k, (name, OUT), work, (CLIENT_ENTRY + 1 + column as usize, value), good);
         }
-    }
-    // all values are 0, so that no star has one
-    busy(rows, k, "marks of an insert's query at the desk", (INSERT, ALL, 0, 0), (CLIENT_ENTRY, all), GOES_ON);
-    for column in 0..k {
-        let star = (CLIENT_ENTRY, all - (1 << column));
-        busy(rows, k, "marks of an insert's query at the desk", (INSERT, ALL, 0, 0), star, None);
-        busy(rows, k, "marks of a delete's query at the desk", (DELETE, ALL, 0, 0), star, GOES_ON);
     }
 }
 

@@ -9,6 +9,9 @@ const RECORDS: Limit = ("records in memory", "2,048 records");
 const NODES: Limit = ("nodes in memory", "1,024 nodes");
 const ANSWERS: Limit = ("filed answers in memory", "64 answers");
 const LENGTH: &str = "a filed list's length in memory out of range";
+const COUNT: Limit = ("filed count", "a filed or held count above 2,048 is 3");
+const LIST: Limit = ("filed list's length", LENGTH);
+const BESIDE: Limit = ("list's length beside a filed count of 33", LENGTH);
 const DESK: Limit = ("desk", "desk above 11");
 const BUSY: Limit = ("busy desk", "begin at a busy desk");
 const SHORT: &str = "a lent memory is below its least length";
@@ -57,6 +60,24 @@ pub fn lists(rows: &mut Vec<Row>, k: u32) {
     }
 }
 
+/// Whether it is a count's is told by one bit of its first number, whatever the others are: 2,048 is its limit, and else 32.
+pub fn filed(rows: &mut Vec<Row>, k: u32) {
+    let others = [0, 1, marks(k), 32, u32::MAX - COUNT_BIT];
+    for (first, i) in others.into_iter().flat_map(|other| [0, 63].map(|i| (other, i))) {
+        let scene = |first, length| Scene::opened(k).answers(64).put(answer(i, 0), first).put(answer(i, ENTRY_LENGTH), length);
+        for (length, sound) in [(33, true), (2_048, true), (2_049, false), (u32::MAX, false)] {
+            every_call(rows, &scene(first | COUNT_BIT, length), COUNT, length, sound);
+        }
+        for (length, sound) in [(32, true), (33, false)] {
+            every_call(rows, &scene(first, length), LIST, length, sound);
+        }
+    }
+    let counted = Scene::opened(k).answers(2).put(answer(0, 0), 1 | COUNT_BIT).put(answer(0, ENTRY_LENGTH), 33);
+    for (length, sound) in [(32, true), (33, false)] {
+        every_call(rows, &counted.clone().put(answer(1, ENTRY_LENGTH), length), BESIDE, length, sound);
+    }
+}
+
 /// The calls but opening. In range, in an idle hall: begins 0, step and abandoning 6, evictions at no place 8, renewal 0. Out of range: 3.
 fn every_call(rows: &mut Vec<Row>, scene: &Scene, limit: Limit, value: u32, sound: bool) {
     let place = u32::MAX;
@@ -72,23 +93,28 @@ fn every_call(rows: &mut Vec<Row>, scene: &Scene, limit: Limit, value: u32, soun
 pub fn desks(rows: &mut Vec<Row>, k: u32) {
     let (opened, five) = (Scene::opened(k), query(k, ALL, 5));
     let idle = [(0, 0, 6), (11, 0, 6), (12, 4, 4), (13, 4, 4), (u32::MAX, 4, 4)].map(|numbers| (DESK, opened.clone(), numbers));
-    let busy = [(0, 5, 0), (11, 5, 0)].map(|numbers| (BUSY, opened.clone().begun(READ, numbers.0, ALL, 5), numbers));
+    let reads = READS.into_iter().flat_map(|kind| [(0, 5, 0), (11, 5, 0)].map(|numbers| (kind, numbers)));
+    let busy = reads.map(|(kind, numbers)| (BUSY, opened.clone().begun(kind, numbers.0, ALL, 5), numbers));
     for (limit, scene, (desk, begins, others)) in idle.into_iter().chain(busy) {
         rows.extend(KINDS.map(|kind| scene.row(limit, desk, begin(kind, desk, five), says(begins))));
         rows.extend([step(desk), abandon(desk)].map(|call| scene.row(limit, desk, call, says(others))));
     }
 }
 
-/// The calls, accepted but for one opening; memories that are full, or a read that answers with as much as a tray must hold.
-fn calls(k: u32) -> Vec<(Scene, Call, Reply)> {
+/// The calls, accepted but for one opening; memories that are full, or a read that answers with as much as a tray must hold, or a count with
+/// more.
+fn calls(k: u32) -> Vec<Row> {
     let full = || Scene::opened(k).records(2_048, 0).nodes(1_024, 0).answers(64);
     let five = query(k, ALL, 5);
     let read = Scene::opened(k).records(32, 0).begun(READ, 11, marks(k) >> 1, 7);
+    let count = Scene::opened(k).records(2_048, 0).begun(COUNTS, 11, marks(k) >> 1, 7);
+    let counted = count.clone().steps(11, (1 << (k - 1)) + 2).row(LONG, 3, step(11), from_table(2_048)).counted();
     let begins = KINDS.map(|kind| (full(), begin(kind, 11, five), says(0)));
     let others = [
         (Scene::noise(k), Call::Open { k }, says(0)),
         (Scene::noise(k), Call::Open { k: 5 }, says(2)),
         // a step that does not write the tray, and one that does
+        (count, step(11), says(0)),
         (read.clone(), step(11), says(0)),
         (read.steps(11, (1 << (k - 1)) + 2), step(11), from_table(32)),
         (full().begun(INSERT, 11, ALL, 5).steps(11, 1), abandon(11), says(0)),
@@ -96,21 +122,22 @@ fn calls(k: u32) -> Vec<(Scene, Call, Reply)> {
         (full(), Call::EvictNode { place: 1_023 }, says(0)),
         (full(), Call::Renew, says(0)),
     ];
-    begins.into_iter().chain(others).collect()
+    let rows = begins.into_iter().chain(others).map(|(scene, call, own)| scene.row(LONG, 3, call, own));
+    rows.chain([counted]).collect()
 }
 
 pub fn lengths(rows: &mut Vec<Row>, k: u32) {
-    for (scene, call, own) in calls(k) {
+    for row in calls(k) {
         // the tray is for a step only
-        let memories = if matches!(call, Call::Step { .. }) { 5 } else { 4 };
+        let memories = if matches!(row.call, Call::Step { .. }) { 5 } else { 4 };
         for memory in 0..memories {
             for length in [0, LEAST[memory] - 1] {
                 let mut lent = LEAST;
                 lent[memory] = length;
-                rows.push(scene.row(LENGTHS[memory], length as u32, call, says(1)).lent(lent));
+                rows.push(Row { limit: LENGTHS[memory], value: length as u32, wanted: says(1), lent, ..row.clone() });
             }
         }
         // this row is lent the least lengths too
-        rows.push(scene.row(LONG, 3, call, own));
+        rows.push(row);
     }
 }

@@ -1,9 +1,11 @@
-//! Both sides of every limit of document 01 and of every least length, as rows: a scene, a call, and what document 01 has for it, with the
-//! words that give it. Library and twin are each held to that; neither is judged by the other, though their memories are compared too.
-//! scene: scenes and calls; memories, clients, arguments, steps, nodes: the rows. Leans on call, hall and side.
+//! Both sides of every limit of document 01, of S-1 in document 02 and of every least length, as rows: a scene, a call, and what the
+//! documents have for it, with the words that give it. Library and twin are each held to that; neither is judged by the other, though their
+//! memories are compared too.
+//! scene: scenes and calls; memories, clients, arguments, steps, counts, nodes: the rows. Leans on call, hall and side.
 
 mod arguments;
 mod clients;
+mod counts;
 mod memories;
 mod nodes;
 mod scene;
@@ -20,7 +22,7 @@ pub const LEAST: [usize; 5] = [8_200, 8_200, 10_000, 2_000, 128];
 /// A few numbers more of each, so that writing past the least length would show.
 pub const MORE: [usize; 5] = [8_203, 8_205, 10_007, 2_009, 131];
 
-/// What a limit is of, and document 01's words for it. Where they are not met, "under no other conditions than these" gives 0.
+/// What a limit is of, and the documents' words for it. Where they are not met, "under no other conditions than these" gives 0.
 pub type Limit = (&'static str, &'static str);
 
 /// One call at a limit.
@@ -34,6 +36,8 @@ pub struct Row {
     pub lent: [usize; 5],
     pub call: Call,
     pub wanted: Reply,
+    /// how many numbers the answer writes to the tray
+    pub written: usize,
     /// some numbers of the memories after the call
     pub after: Vec<(Place, u32)>,
 }
@@ -55,7 +59,7 @@ const fn from_table(count: u32) -> Reply {
 const CHANGED: Reply = Reply { number: 0, count: 0, ending: 3 };
 const UNCHANGED: Reply = Reply { number: 0, count: 0, ending: 4 };
 
-/// What one side made of a row: its reply, if the scene could be made; the first thing that is not as document 01 has it; the memories.
+/// What one side made of a row: its reply, if the scene could be made; the first thing that is not as the documents have it; the memories.
 pub struct Came {
     pub reply: Option<Reply>,
     pub flaw: Option<String>,
@@ -66,6 +70,11 @@ impl Row {
     fn after(mut self, numbers: impl IntoIterator<Item = (Place, u32)>) -> Row {
         self.after.extend(numbers);
         self
+    }
+
+    /// What is answered is a count: "The tray of a count is untouched".
+    fn counted(self) -> Row {
+        Row { written: 0, ..self }
     }
 
     fn lent(self, lent: [usize; 5]) -> Row {
@@ -94,14 +103,14 @@ impl Row {
             return Some("another reply".to_string());
         }
         if let Some(((memory, place), wanted)) = self.after.iter().find(|((memory, place), wanted)| hall.get(*memory, *place) != *wanted) {
-            return Some(format!("{}: {}, document 01 has {wanted}", self.named(*memory, *place), hall.get(*memory, *place)));
+            return Some(format!("{}: {}, the documents have {wanted}", self.named(*memory, *place), hall.get(*memory, *place)));
         }
         // "1 to 11 .. alter no memory"
         if (1..=11).contains(&self.wanted.number) {
             return before.first_difference(hall).map(|(memory, place)| format!("{}: altered by a refusal", self.named(memory, place)));
         }
         // "the rest of the tray keeps its contents"
-        let mut rest = (self.wanted.count * self.scene.k) as usize..hall.tray().len();
+        let mut rest = self.written..hall.tray().len();
         rest.find(|i| hall.tray()[*i] != before.tray()[*i]).map(|place| format!("{}: altered", self.named(4, place)))
     }
 
@@ -115,7 +124,7 @@ impl Row {
         let difference = came[0].hall.first_difference(&came[1].hall);
         let lent = if self.lent == MORE { String::new() } else { format!(", lent {:?}", self.lent) };
         let mut line = format!("{} {}, k {}, {}{lent}: ", self.limit.0, self.value, self.scene.k, self.call);
-        line += &format!("document 01 has {} (\"{}\")", reply_text(self.wanted), self.limit.1);
+        line += &format!("the documents have {} (\"{}\")", reply_text(self.wanted), self.limit.1);
         for (side, came) in ["library", "twin"].iter().zip(&came) {
             let flaw = came.flaw.as_ref().map_or(String::new(), |flaw| format!(" ({flaw})"));
             line += &format!(", {side} gave {}{flaw}", came.reply.map_or("nothing".to_string(), reply_text));
@@ -134,10 +143,19 @@ type Part = fn(&mut Vec<Row>, u32);
 pub fn rows() -> Vec<Row> {
     let mut rows = Vec::new();
     memories::columns(&mut rows);
-    let parts: [[Part; 7]; 3] = [
-        [memories::counts, memories::lists, memories::desks, memories::lengths, arguments::evictions, arguments::queries, arguments::order],
-        [clients::kinds, clients::steps, clients::list_lengths, clients::keys, clients::renewals, steps::lists, steps::fetches],
-        [steps::filings, steps::inserts, steps::deletes, steps::abandonings, nodes::room, nodes::writes, nodes::worn],
+    let parts: [[Part; 8]; 3] = [
+        [
+            memories::counts,
+            memories::lists,
+            memories::filed,
+            memories::desks,
+            memories::lengths,
+            arguments::evictions,
+            arguments::queries,
+            arguments::order,
+        ],
+        [clients::kinds, clients::steps, clients::lengths, clients::keys, clients::renewals, steps::lists, steps::fetches, counts::counted],
+        [steps::filings, steps::inserts, steps::deletes, steps::abandonings, nodes::room, nodes::writes, nodes::worn, counts::beside_lists],
     ];
     for k in 1..=4 {
         parts.iter().flatten().for_each(|part| part(&mut rows, k));
@@ -157,6 +175,6 @@ pub fn run_limits(library: &dyn Side, twin: &dyn Side, verbose: bool) -> bool {
             println!("{line}");
         }
     }
-    println!("limits: {} rows, {} as document 01 has them", grouped(rows.len() as u64), grouped(wanted as u64));
+    println!("limits: {} rows, {} as the documents have them", grouped(rows.len() as u64), grouped(wanted as u64));
     wanted == rows.len()
 }

@@ -14,7 +14,7 @@ const WORN: &str = "a write begins while the floor or a counter is above 4,294,9
 
 /// The first look or mark: its label names 5 in every column. Node 0 is marked; node 1, which is not, is at counter 7.
 fn room_for(rows: &mut Vec<Row>, k: u32, kind: u32) {
-    let pending = (kind != READ) as u32;
+    let pending = is_write(kind) as u32;
     let beside = |n| Scene::opened(k).nodes(n, 0).put(node(0, NODE_PENDING), 1).put(node(1, NODE_REVISION), 7).begun(kind, 0, ALL, 5);
     for n in [2, 1_022, 1_023] {
         let added = [(node(n, 1), 5), (node(n, NODE_PENDING), pending), (node(n, NODE_REVISION), 3)];
@@ -106,7 +106,7 @@ pub fn worn(rows: &mut Vec<Row>, k: u32) {
         let places = [("floor", FLOOR, worn), ("first counter", at(0), worn), ("last counter", at(2), worn), ("behind it", at(3), 0)];
         for (name, place, number) in places {
             let scene = three().put(place, counter);
-            for (kind, named, number) in [(READ, ALL, 0), (INSERT, ALL, number), (DELETE, ALL, number), (DELETE, 0, number)] {
+            for (kind, named, number) in [(READ, ALL, 0), (COUNTS, ALL, 0), (INSERT, ALL, number), (DELETE, ALL, number), (DELETE, 0, number)] {
                 rows.push(scene.row((name, WORN), counter, begin(kind, 0, query(k, named, 5)), says(number)));
             }
         }

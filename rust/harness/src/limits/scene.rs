@@ -5,8 +5,8 @@ use super::{Limit, Row, MORE};
 use crate::call::{Asked, Call};
 use crate::hall::Hall;
 use crate::side::{Reply, Side};
-pub use twin::layout::{CLIENT_ENTRY, CLIENT_KIND, CLIENT_STEPS, CLIENT_WIDTH, ENTRY_LENGTH, ENTRY_REVISIONS, ENTRY_WIDTH, HEAD};
-pub use twin::layout::{DELETE, INSERT, NODE_PENDING, NODE_REVISION, NODE_WIDTH, READ, TAG_VALUE};
+pub use twin::layout::{CLIENT_ENTRY, CLIENT_KIND, CLIENT_STEPS, CLIENT_WIDTH, ENTRY_LENGTH, ENTRY_LIST, ENTRY_REVISIONS, ENTRY_WIDTH, HEAD};
+pub use twin::layout::{COUNT_BIT, DELETE, INSERT, NODE_PENDING, NODE_REVISION, NODE_WIDTH, READ, TAG_VALUE};
 
 /// A memory (0 table, 1 nodes, 2 answers, 3 desks, 4 tray) and a place in it.
 pub type Place = (usize, usize);
@@ -36,7 +36,20 @@ pub fn idle(desk: u32) -> impl Iterator<Item = (Place, u32)> {
     (0..CLIENT_WIDTH).map(move |at| (client(desk, at), 0))
 }
 
-pub const KINDS: [u32; 3] = [READ, INSERT, DELETE];
+/// What begins: a read that wants a list, one that wants a count, an insert, a delete. At its desk a count is a read.
+pub const COUNTS: u32 = READ | COUNT_BIT;
+pub const READS: [u32; 2] = [READ, COUNTS];
+pub const KINDS: [u32; 4] = [READ, COUNTS, INSERT, DELETE];
+
+pub fn is_write(kind: u32) -> bool {
+    !READS.contains(&kind)
+}
+
+/// What a key's first number has beside the marks.
+pub fn wanted(kind: u32) -> u32 {
+    kind & COUNT_BIT
+}
+
 /// A set of columns, bit c for column c: all that there are.
 pub const ALL: u32 = u32::MAX;
 
@@ -60,6 +73,7 @@ pub fn one_record(k: u32, last: u32) -> Asked {
 pub fn begin(kind: u32, client: u32, asked: Asked) -> Call {
     match kind {
         READ => Call::BeginRead { client, asked },
+        COUNTS => Call::BeginCount { client, asked },
         INSERT => Call::BeginInsert { client, asked },
         _ => Call::BeginDelete { client, asked },
     }
@@ -140,7 +154,8 @@ impl Scene {
 
     /// A row: this scene and a call in it, `value` standing on one side of the limit.
     pub fn row(&self, limit: Limit, value: u32, call: Call, wanted: Reply) -> Row {
-        Row { limit, value, scene: self.clone(), lent: MORE, call, wanted, after: Vec::new() }
+        let written = (wanted.count * self.k) as usize;
+        Row { limit, value, scene: self.clone(), lent: MORE, call, wanted, written, after: Vec::new() }
     }
 
     /// The hall as one side's calls make it, or the call that this side did not accept.

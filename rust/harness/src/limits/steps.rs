@@ -17,20 +17,25 @@ const LATER: Limit = ("last raise of a full insert, records by then", "at the ta
 const ABANDONED: Limit = ("abandoning of a write, steps made", "abandon of a write after its table step");
 const READ_ABANDONED: Limit = ("abandoning of a read, steps made", "A reader's desk becomes idle");
 
-/// Begins a read of the records that have 7 in all columns but the last, at desk 0, and makes its looks and some steps more.
-fn reads(scene: Scene, more: u32) -> Scene {
+/// Begins a read, for a list or a count, of the records that have 7 in all columns but the last, at desk 0, and makes its looks and some
+/// steps more.
+pub fn reading(scene: Scene, kind: u32, more: u32) -> Scene {
     let k = scene.k;
-    scene.begun(READ, 0, marks(k) >> 1, 7).steps(0, (1 << (k - 1)) + more)
+    scene.begun(kind, 0, marks(k) >> 1, 7).steps(0, (1 << (k - 1)) + more)
+}
+
+fn reads(scene: Scene, more: u32) -> Scene {
+    reading(scene, READ, more)
 }
 
 /// An insert of a record that lies in that read has set its marks at desk 1.
-fn marked(scene: Scene) -> Scene {
+pub fn marked(scene: Scene) -> Scene {
     let k = scene.k;
     scene.begun(INSERT, 1, ALL, 7).steps(1, 1 << k)
 }
 
 /// The records as `Scene::records` has them, on the tray.
-fn on_tray(k: u32, n: u32) -> impl Iterator<Item = (Place, u32)> {
+pub fn on_tray(k: u32, n: u32) -> impl Iterator<Item = (Place, u32)> {
     (0..n * k).map(move |i| ((4, i as usize), if i % k == k - 1 { i / k } else { 7 }))
 }
 
@@ -56,38 +61,46 @@ pub fn lists(rows: &mut Vec<Row>, k: u32) {
 }
 
 /// Answer i is made one to the read that names 5 in every column, under revision 3 at each of its nodes.
-fn answered(scene: Scene, i: u32) -> Scene {
+fn answered(scene: Scene, kind: u32, i: u32) -> Scene {
     let k = scene.k;
-    scene.put(answer(i, 0), marks(k)).series(answer(i, 1), 1, k, 5, 0).series(answer(i, ENTRY_REVISIONS), 1, 1 << k, 3, 0)
+    scene.put(answer(i, 0), marks(k) | wanted(kind)).series(answer(i, 1), 1, k, 5, 0).series(answer(i, ENTRY_REVISIONS), 1, 1 << k, 3, 0)
 }
 
 pub fn fetches(rows: &mut Vec<Row>, k: u32) {
+    READS.iter().for_each(|kind| fetches_of(rows, k, *kind));
+}
+
+fn fetches_of(rows: &mut Vec<Row>, k: u32, kind: u32) {
     // nodes that are added have the floor as counter
-    let filed = || answered(Scene::opened(k).put(FLOOR, 3).answers(1), 0);
+    let filed = || answered(Scene::opened(k).put(FLOOR, 3).answers(1), kind, 0);
     let looks = 1 << k;
     for look in 0..looks {
         for (revision, wanted) in [(0, says(0)), (2, says(0)), (3, from_file(0)), (4, from_file(0))] {
-            let scene = filed().put(answer(0, ENTRY_REVISIONS + look as usize), revision).begun(READ, 0, ALL, 5).steps(0, looks);
+            let scene = filed().put(answer(0, ENTRY_REVISIONS + look as usize), revision).begun(kind, 0, ALL, 5).steps(0, looks);
             rows.push(scene.row(FETCH, revision, step(0), wanted));
         }
     }
     let write = filed().begun(INSERT, 1, ALL, 5);
     for (set, wanted) in [(0, from_file(0)), (looks, says(0))] {
-        let scene = write.clone().steps(1, set).begun(READ, 0, ALL, 5).steps(0, looks);
+        let scene = write.clone().steps(1, set).begun(kind, 0, ALL, 5).steps(0, looks);
         rows.push(scene.row(SAW_FILED, set, step(0), wanted));
     }
 }
 
-/// A read that names 5 in every column, at its file step, beside n filed answers to other queries.
 pub fn filings(rows: &mut Vec<Row>, k: u32) {
-    let up_to_file = |n| Scene::opened(k).answers(n).begun(READ, 0, ALL, 5).steps(0, (1 << k) + 2);
+    READS.iter().for_each(|kind| filings_of(rows, k, *kind));
+}
+
+/// A read that names 5 in every column, at its file step, beside n filed answers to other queries.
+fn filings_of(rows: &mut Vec<Row>, k: u32, kind: u32) {
+    let up_to_file = |n| Scene::opened(k).answers(n).begun(kind, 0, ALL, 5).steps(0, (1 << k) + 2);
     for (n, kept, first) in [(1, 2, 1000), (63, 64, 1000), (64, 64, 1001)] {
         let after = [(ANSWER_COUNT, kept), (answer(0, 1), first), (answer(kept - 1, 1), 5)];
         rows.push(up_to_file(n).row(FILED, n, step(0), from_table(0)).after(after).after(idle(0)));
     }
     for n in [11, 63, 64] {
         let after = [(ANSWER_COUNT, n), (answer(0, 1), 1000), (answer(9, 1), 1009), (answer(n - 1, 1), 5)];
-        let row = answered(up_to_file(n), 10).row(SAME, n, step(0), from_table(0)).after(after);
+        let row = answered(up_to_file(n), kind, 10).row(SAME, n, step(0), from_table(0)).after(after);
         // the next one has moved up
         rows.push(if n > 11 { row.after([(answer(10, 1), 1011)]) } else { row });
     }
@@ -146,8 +159,8 @@ pub fn abandonings(rows: &mut Vec<Row>, k: u32) {
             rows.push(if made <= 1 << k { row.after(taken_back) } else { row });
         }
     }
-    for made in 0..(1 << k) + 3 {
-        let scene = Scene::opened(k).begun(READ, 0, ALL, 5).steps(0, made);
+    for (kind, made) in READS.into_iter().flat_map(|kind| (0..(1 << k) + 3).map(move |made| (kind, made))) {
+        let scene = Scene::opened(k).begun(kind, 0, ALL, 5).steps(0, made);
         rows.push(scene.row(READ_ABANDONED, made, abandon(0), says(0)).after(idle(0)));
     }
 }

@@ -1,19 +1,30 @@
-//! The filed answers: query, revisions, list; and a query as it is kept, at a desk too. Leans on range.
+//! The filed answers: query, revisions, list or count; and a query as it is kept, at a desk too. Leans on range.
 use super::range::{below, Memory};
 use super::{Inspect, OutOfRange};
-use crate::layout::{ENTRY_LENGTH, ENTRY_LIST, ENTRY_REVISIONS, ENTRY_WIDTH, HEADER, KEY_RANGE, KEY_VALUES, MAX_COLUMNS, MAX_LOOKS};
-use crate::{Query, Records, LIST};
+use crate::layout::{is_count, COUNT_BIT, ENTRY_LENGTH, ENTRY_LIST, ENTRY_REVISIONS, ENTRY_WIDTH, HEADER, KEY_RANGE, KEY_VALUES};
+use crate::layout::{MAX_COLUMNS, MAX_LOOKS};
+use crate::{Query, Records, LIST, RECORDS};
 
 /// An entry of the answers memory: a filed answer. A query that is out of range is none of this hall's: no read gets that answer. A list's length
-/// that is out of range is 3 at every call but opening.
+/// or a count that is out of range is 3 at every call but opening.
 #[derive(Clone, Debug, PartialEq, Eq)]
 pub struct Entry<'a> {
     /// The query that it answers.
     pub query: Result<Query, OutOfRange>,
     /// The revisions noted when it was filed, one for each look in the looks' order; all 16 places where the query is out of range.
     pub revisions: &'a [u32],
-    /// The records.
-    pub list: Result<Records<'a>, OutOfRange>,
+    /// What it answers with.
+    pub value: Result<Value<'a>, OutOfRange>,
+}
+
+/// What a filed answer holds. Bit 4 of its key's first number alone says which of the two; so it is told of every entry, of one whose query is out
+/// of range too.
+#[derive(Clone, Debug, PartialEq, Eq)]
+pub enum Value<'a> {
+    /// The answer to a read: its records, at most 32.
+    List(Records<'a>),
+    /// The answer to a count: how many records there are, at most 2,048. Numbers that stand in the list's place are no records.
+    Count(u32),
 }
 
 impl<'a> Inspect<'a> {
@@ -24,9 +35,17 @@ impl<'a> Inspect<'a> {
         let numbers = self.answers.part(at, ENTRY_WIDTH, "an answer")?;
         let query = self.columns().and_then(|columns| query_at(&self.answers, at, columns as usize));
         let looks = query.as_ref().map_or(MAX_LOOKS, looks);
-        let length = self.columns().and_then(|columns| Ok((columns as usize, length_at(&self.answers, at)? as usize)));
-        let list = length.map(|(columns, length)| Records::of(&numbers[ENTRY_LIST..], columns, length));
-        Ok(Entry { query, revisions: &numbers[ENTRY_REVISIONS..][..looks], list })
+        Ok(Entry { query, revisions: &numbers[ENTRY_REVISIONS..][..looks], value: self.value(at, numbers) })
+    }
+
+    /// What the entry of these numbers, which starts at `at`, holds. Only records need k.
+    fn value(&self, at: usize, numbers: &'a [u32]) -> Result<Value<'a>, OutOfRange> {
+        if is_count(numbers[0]) {
+            return Ok(Value::Count(length_at(&self.answers, at)?));
+        }
+        let columns = self.columns()? as usize;
+        let length = length_at(&self.answers, at)? as usize;
+        Ok(Value::List(Records::of(&numbers[ENTRY_LIST..], columns, length)))
     }
 }
 
@@ -35,14 +54,18 @@ pub(super) fn looks(query: &Query) -> usize {
     1 << query.columns().flatten().count()
 }
 
-/// The length of a kept list, 0 to 32, in the entry that starts at `at`.
+/// The length of a kept list, 0 to 32, or a kept count, 0 to 2,048, in the entry that starts at `at`.
 pub(super) fn length_at(memory: &Memory<'_>, at: usize) -> Result<u32, OutOfRange> {
-    memory.checked(at + ENTRY_LENGTH, "the list's length", "0 to 32", |length| length <= LIST)
+    let counts = is_count(memory.at(at, "the marks of the query")?);
+    let (what, wanted, most) = if counts { ("the count", "0 to 2,048", RECORDS) } else { ("the list's length", "0 to 32", LIST) };
+    memory.checked(at + ENTRY_LENGTH, what, wanted, |length| length <= most)
 }
 
-/// The query in the entry that starts at `at`: marks, values, and two numbers that are kept for a range.
+/// The query in the entry that starts at `at`: marks, values, and two numbers that are kept for a range. Beside the marks stands the count's bit,
+/// which is no part of the query.
 pub(super) fn query_at(memory: &Memory<'_>, at: usize, columns: usize) -> Result<Query, OutOfRange> {
-    let marks = memory.checked(at, "the marks of the query", "a bit for each named column and no other", |marks| marks >> columns == 0)?;
+    let wanted = "a bit for each named column, 16 more for a count, and nothing else";
+    let marks = memory.checked(at, "the marks of the query", wanted, |first| (first & !COUNT_BIT) >> columns == 0)?;
     let mut query = Vec::new();
     for column in 0..MAX_COLUMNS as usize {
         let named = marks >> column & 1 == 1;

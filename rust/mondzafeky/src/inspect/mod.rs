@@ -20,7 +20,7 @@ mod node;
 mod range;
 mod work;
 
-pub use entry::Entry;
+pub use entry::{Entry, Value};
 pub use node::{Label, Node, Term};
 pub use range::OutOfRange;
 pub use work::{Kind, Stage, Work};

@@ -2,14 +2,15 @@
 use super::entry::{length_at, looks, query_at};
 use super::range::below;
 use super::{Inspect, OutOfRange};
-use crate::layout::{CLIENT_CHANGED, CLIENT_ENTRY, CLIENT_FULL, CLIENT_KIND, CLIENT_SAW, CLIENT_STEPS, CLIENT_WIDTH, ENTRY_REVISIONS, HEADER};
+use crate::layout::{is_count, CLIENT_CHANGED, CLIENT_ENTRY, CLIENT_FULL, CLIENT_KIND, CLIENT_SAW, CLIENT_STEPS, CLIENT_WIDTH};
+use crate::layout::{ENTRY_REVISIONS, HEADER};
 use crate::{Query, CLIENTS};
 use std::fmt;
 
 /// What a desk does.
 #[derive(Clone, Copy, Debug, PartialEq, Eq, Hash)]
 pub enum Kind {
-    /// A read of a query.
+    /// A read of a query, for a list or for a count ([`Work::counts`]).
     Read,
     /// An insert of a record: its query names every column.
     Insert,
@@ -34,6 +35,8 @@ pub struct Work {
     pub kind: Kind,
     /// The query that is read or deleted, or that names the record.
     pub query: Query,
+    /// A read: it wants a count, and not a list.
+    pub counts: bool,
     /// How many steps it has made.
     pub steps: u32,
     /// How many steps it makes at most; a write makes as many, a read may be answered before.
@@ -60,7 +63,7 @@ pub enum Stage {
     },
     /// A read looks for its answer in the file.
     Fetch,
-    /// A read takes its list from the table, or a write changes the table.
+    /// A read takes its list or its count from the table, or a write changes the table.
     Table,
     /// A read files its answer.
     File,
@@ -113,9 +116,11 @@ impl Work {
     }
 }
 
+/// "read of (3, *), .." of a read for a list, "count of (3, *), .." of one for a count.
 impl fmt::Display for Work {
     fn fmt(&self, f: &mut fmt::Formatter<'_>) -> fmt::Result {
-        let Work { kind, query, steps, of, .. } = self;
+        let Work { kind, query, counts, steps, of, .. } = self;
+        let kind = if *counts { "count".to_string() } else { kind.to_string() };
         write!(f, "{kind} of {query}, {steps} of {of} steps made, next: {}", self.stage())
     }
 }
@@ -137,6 +142,9 @@ impl Inspect<'_> {
         let columns = self.columns()? as usize;
         let kind = self.kind(at)?;
         let query = query_at(&self.clients, at + CLIENT_ENTRY, columns)?;
+        if kind != Kind::Read {
+            self.clients.checked(at + CLIENT_ENTRY, "the marks of a write", "a bit for each named column and no other", |marks| !is_count(marks))?;
+        }
         if kind == Kind::Insert {
             self.clients.checked(at + CLIENT_ENTRY, "the marks of an insert", "a bit for every column", |marks| marks == (1 << columns) - 1)?;
         }
@@ -149,6 +157,7 @@ impl Inspect<'_> {
         Ok(Some(Work {
             kind,
             query,
+            counts: is_count(own[CLIENT_ENTRY]),
             steps,
             of,
             saw_pending: is_set(CLIENT_SAW),

@@ -4,39 +4,17 @@ use Rattle.columns.proofs.KeyLoops.{key-high, key-low}
 use Rattle.columns.proofs.keys.is_key.Statement.{statement}
 use Rattle.columns.proofs.keys.is_key.Tie as tie
 
-shared-slice-read-marks : tie.Need-shared-slice-read-marks
-shared-slice-read-marks c = search needs
-
 power-requires : tie.Need-power-requires
 power-requires c κs = search needs
 
 returns : tie.Need-returns
-returns c = key-high _ _ _ (c .before .power .ensures) (search needs) (search needs) (search needs)
-
-sub-values : tie.Need-sub-values
-sub-values c = search needs
-
-part-values-start : tie.Need-part-values-start
-part-values-start c = search needs
-
-part-values-end : tie.Need-part-values-end
-part-values-end c = search needs
+returns c = key-high _ _ _ _ (c .before .power .ensures) (search needs) (search needs) (search needs)
 
 zero-under-requires : tie.Need-zero-under-requires
 zero-under-requires c κs = search needs
 
 returns-2 : tie.Need-returns-2
-returns-2 c = key-low _ _ _ _ (c .before .before .before .power .ensures) (search needs) (search needs) (search needs) (c .zero-under .ensures)
+returns-2 c = key-low _ _ _ _ _ (c .before .before .power .ensures) (search needs) (search needs) (search needs) (c .zero-under .ensures)
 
 pub is-key-spec : {M : Type 1} → statement M
-is-key-spec =
-    tie.close
-    (tie.spec
-    shared-slice-read-marks
-    power-requires
-    returns
-    sub-values
-    part-values-start
-    part-values-end
-    zero-under-requires
-    returns-2)
+is-key-spec = tie.close (tie.spec power-requires returns zero-under-requires returns-2)
