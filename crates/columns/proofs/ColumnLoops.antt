@@ -1,5 +1,5 @@
 -- Laws on columns and queries, over plain lists. Leans on FillLoop and on the definitions of crates/query. Assumes nothing.
-use mathlib.Core.Path.{_≡_, refl, sym, ap, _∙_}
+use mathlib.Core.Path.{_≡_, refl, ap, _∙_}
 use mathlib.Core.Bool.{Bool, true, false, not}
 use mathlib.Core.List.{List, [], _∷_}
 use Prim.Native.Nat.{ℕ, zero, suc, _+_, _-_, _*_, _≤_, _<_}
@@ -9,38 +9,14 @@ use lib.Dec.{eqb, eqb·suc-suc}
 use lib.ListN.{length, take, drop, getD, set, replicate, length-take, length-drop, drop-of-length-le}
 use lib.Seq.{drop-cons, getD-take, take-at}
 use borrow.Author.Tests.{eq-eqb, ne-eqb, lt-leb, not-true, not-false}
-use Rattle.lists.specs.Lists.{padded}
 use Rattle.query.specs.declared.Column.{Column}
 use Rattle.query.specs.declared.Column.the-variants.{Is, Wildcard}
-use Rattle.query.specs.Query.{Query, admits, lies, named}
-use Rattle.query.specs.Encoding.{columnOf, queryOf, wellMarked, isQuery, namesAll, recordOf}
+use Rattle.query.specs.Query.{Query, named}
+use Rattle.query.specs.Encoding.{columnOf, queryOf, wellMarked, isQuery, namesAll}
 use Rattle.query.specs.Shape.{shapeOf}
 use Rattle.query.proofs.NodeLists.{named-most}
-use Rattle.rules.specs.Layout.{refusedColumns}
-use Rattle.columns.specs.declared.Taken.{Taken}
-use Rattle.columns.specs.ColumnContracts.{columnMarked, four, front, takenOf}
+use Rattle.columns.specs.ColumnContracts.{columnMarked, four}
 use Rattle.columns.proofs.FillLoop.{Filled, next-rest, fill-none, fill-more, fill-all}
-
--- ---- Does a record lie in a query
-module _ (z : Column) (cols : List Column) (rec : List ℕ) (i : ℕ) (hc : i < length cols) (hr : i < length rec) (r : Bool) (e : r ≡ admits (getD cols i z) (getD rec i 0)) where
-  pub lies-no : not r ≡ true → lies (take (length rec - i) (drop i cols)) (drop i rec) ≡ false
-  unfolding lies
-  lies-no n =
-      let d : length rec - i ≡ suc (length rec - suc i) = omega arith in
-      rw (d, drop-cons cols i z hc, drop-cons rec i 0 hr, ← e, not-true r n)
-
-  pub lies-on : not r ≡ false
-      → lies (take (length rec - i) (drop i cols)) (drop i rec) ≡ lies (take (length rec - (i + 1)) (drop (i + 1) cols)) (drop (i + 1) rec)
-  unfolding lies
-  lies-on n =
-      let d : length rec - i ≡ suc (length rec - suc i) = omega arith in
-      rw (add-one, d, drop-cons cols i z hc, drop-cons rec i 0 hr, ← e, not-false r n)
-
-pub lies-end : (cols : List Column) (rec : List ℕ) (i : ℕ) → length rec ≤ i → lies (take (length rec - i) (drop i cols)) (drop i rec) ≡ true
-unfolding lies
-lies-end cols rec i h =
-    let d : length rec - i ≡ 0 = omega arith in
-    rw (d, drop-of-length-le rec h)
 
 -- ---- The column at a place of the first k
 pub at-place : (z : Column) (cols : List Column) (k i : ℕ) → i < k → k ≤ length cols → drop i (take k cols) ≡ getD cols i z ∷ drop (i + 1) (take k cols)

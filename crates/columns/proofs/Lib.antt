@@ -4,4 +4,5 @@ pub mod ColumnLoops
 pub mod TakeLoop
 pub mod KeyLoops
 pub mod MarkLaws
+pub mod MaskLaws
 pub mod LabelLaws

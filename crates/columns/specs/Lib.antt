@@ -1,3 +1,4 @@
 pub mod ColumnContracts
 pub mod KeyContracts
 pub mod LabelContracts
+pub mod MaskContracts

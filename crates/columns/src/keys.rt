@@ -24,7 +24,7 @@ fn mark_of(col: Column) -> u32
 }
 
 // The value that a column names; 0 for a wildcard.
-fn value_of(col: Column) -> u32
+pub fn value_of(col: Column) -> u32
     ensures { λ r. ⌜ r ≡ columnValue col ⌝ }
 {
     let Column::Is(v) = col else {

@@ -3,8 +3,7 @@
 use hall::Hall;
 ghost use mathlib.Core.Path.{_≡_};
 ghost use Prim.Native.Nat.{_*_, _≤_};
-ghost use lib.ListN.{length, take};
-ghost use Rattle.query.specs.Query.{admits, lies};
+ghost use lib.ListN.{length};
 ghost use Rattle.query.specs.Shape.{shapeOf, maxColumns};
 ghost use Rattle.query.specs.Encoding.{isQuery, columnOf, queryOf, wellMarked};
 ghost use Rattle.columns.specs.ColumnContracts.{columnMarked, four, takenOf};
@@ -12,34 +11,8 @@ use query::Column;
 
 pub mod keys; // keys.rt: marks, values and keys
 pub mod labels; // labels.rt: the labels of nodes
+pub mod masks; // masks.rt: the record test
 mod sheet; // sheet.rt: the fixed sheet
-
-// Whether a column takes the value x.
-fn admits(col: Column, x: u32) -> bool
-    ensures { λ r. ⌜ r ≡ admits col x ⌝ }
-{
-    let Column::Is(v) = col else {
-        return true;
-    };
-    v == x
-}
-
-// Whether a record lies in a query's subspace: the one test that all callers share. It ends at the first column that fails.
-pub fn lies(cols: [Column; Hall::COLUMN_SLOTS], rec: &[u32]) -> bool
-    requires { ⌜ length (now rec) ≤ maxColumns ⌝ }
-    ensures { λ r. ⌜ r ≡ lies (take (length (now (rec .entry))) cols) (now (rec .entry)) ⌝ }
-{
-    let mut i = 0;
-    while i < rec.len() {
-        let col = cols[i];
-        let x = rec[i];
-        if !admits(col, x) {
-            return false;
-        }
-        i += 1;
-    }
-    true
-}
 
 // Whether a mark and its value are those of a column: no mark above 1, no value under a wildcard.
 fn is_column(mark: u32, v: u32) -> bool

@@ -1,10 +1,10 @@
--- Laws of the scan that counts: where the loop stands, a turn of it, its end. The scans that list and that delete stand so too, and keep
--- more. Leans on the laws of lists and Rows. Assumes nothing.
+-- Laws of a scan of the table that keeps count: where the loop stands, a turn of it, its end. The scan that deletes stands so, and keeps more.
+-- Leans on the laws of lists and Rows. Assumes nothing.
 use mathlib.Core.Path.{_≡_, refl, ap, _∙_}
 use mathlib.Core.Bool.{Bool, true, false}
 use mathlib.Core.List.{[]}
 use Prim.Native.Nat.{ℕ, _+_, _*_, _≤_, _<_}
-use native.Mathlib.Nat.{zero-mul, lt-of-mul-lt-mul-right, le-of-mul-le-mul-right}
+use native.Mathlib.Nat.{zero-mul}
 use native.Mathlib.Omega.{arith}
 use lib.ListN.{length, getD, take, length-append}
 use Rattle.lists.specs.Lists.{keep}
@@ -48,15 +48,3 @@ module _ (p : Record → Bool) (t : Table) (k n i at j : ℕ) (a : Counting p t 
 -- all records passed
 pub count-all : (p : Record → Bool) (t : Table) (k n i at j : ℕ) → Counting p t k n i at j → n ≤ i → length t ≡ n → j ≡ length (keep p t)
 count-all p t k n i at j a h g = a .count ∙ ap length (keep-end p t i (omega arith))
-
--- where a loop stands that keeps the place alone: before some record, or behind the last
-pub record Standing (p : Record → Bool) (t : Table) (k n at j : ℕ) : Type 0 where
-  pub i : ℕ
-  pub stands : Counting p t k n i at j
-
--- a place before the end is that of a record; one that is not is behind them all
-pub more-left : (k n i at : ℕ) → at ≡ 8 + i * k → at < 8 + n * k → i < n
-more-left k n i at e h = let a : i * k < n * k = omega arith in lt-of-mul-lt-mul-right k a
-
-pub none-left : (k n i at : ℕ) → 1 ≤ k → at ≡ 8 + i * k → 8 + n * k ≤ at → n ≤ i
-none-left k n i at g e h = let a : n * k ≤ i * k = omega arith in le-of-mul-le-mul-right a g

@@ -4,10 +4,11 @@ use mathlib.Core.Path.{_≡_, refl, sym, ap, _∙_}
 use mathlib.Core.Bool.{Bool, true, false, not}
 use mathlib.Core.List.{List, [], _∷_, _++_, append-assoc, append-nil}
 use Prim.Native.Nat.{ℕ, _+_, _*_, _-_, _≤_, _<_}
-use native.Mathlib.Nat.{zero-mul, mul-le-mul-right}
+use native.Mathlib.Nat.{add-zero, one-mul, zero-mul, mul-le-mul-right}
 use native.Mathlib.Omega.{arith}
 use lib.ListN.{length, getD, take, drop, set, replicate, length-append, length-take, length-replicate, drop-of-length-le}
 use lib.Seq.{drop-drop}
+use mir.Val.{boolByte}
 use borrow.Rule.Slice.PartMut.{putMid}
 use Rattle.lists.specs.Lists.{written, flat, keep, withEntries}
 use Rattle.laws.proofs.ListLaws.{keep-next, skip-next, keep-end}
@@ -35,6 +36,13 @@ stays q x b e h = rw (← e) h
 pub goes : (q : Query) (x : Record) (b : Bool) → b ≡ lies q x → not b ≡ false → outside q x ≡ false
 unfolding outside
 goes q x b e h = rw (← e) h
+
+-- and as a number
+pub one-more : (b : Bool) (j k to : ℕ) → b ≡ true → (j + boolByte b ≡ j + 1) × (to + boolByte b * k ≡ to + k)
+one-more b j k to e = (rw e, rw (e, one-mul))
+
+pub no-more : (b : Bool) (j k to : ℕ) → b ≡ false → (j + boolByte b ≡ j) × (to + boolByte b * k ≡ to)
+no-more b j k to e = (rw (e, add-zero), rw (e, zero-mul, add-zero))
 
 -- where the loop stands: of the first i records of t those that stay, j of them, lie at the front; from record i on nothing has changed
 pub record Deleting (p : Record → Bool) (t : Table) (k n : ℕ) (s₀ s : List ℕ) (i from j to : ℕ) : Type 0 where

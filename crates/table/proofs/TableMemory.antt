@@ -12,7 +12,7 @@ use Rattle.laws.specs.Splice.{inserted}
 use Rattle.laws.proofs.RowLaws.{slot, Wide, wide-keep}
 use Rattle.laws.proofs.EntryLaws.{length-entries, entry-at, wide-entries, with-insert, with-self, length-with, count-with, entries-with}
 use Rattle.query.specs.Query.{Query, Record, lies}
-use Rattle.query.specs.declared.Column.{Column}
+use Rattle.columns.specs.MaskContracts.{queryUnder}
 use Rattle.query.specs.Shape.{maxColumns, narrow}
 use Rattle.rules.specs.Layout.{maxRecords, tableLeast, recordCountOffset}
 use Rattle.rules.specs.Table.{Table, listOf, Change, effect}
@@ -90,9 +90,9 @@ module _ (k : ℕ) (s m : List ℕ) (i at : ℕ) (f : Fit k s) (h : i < getD s r
       rw (d, w) (length-take-le k (drop at s) (rw length-drop (omega arith)))
 
   -- the record test, where a caller made it on the part
-  pub tested : (cols : List Column) (r : Bool) → r ≡ lies (take (length (take (at + k - at) (drop at m))) cols) (take (at + k - at) (drop at m))
-      → r ≡ lies (take k cols) (getD (recordsIn k s) i [])
-  tested cols r x = x ∙ rw (part-long, part-is)
+  pub tested : (q : List ℕ) (r : Bool) → r ≡ lies (queryUnder (length (take (at + k - at) (drop at m))) q) (take (at + k - at) (drop at m))
+      → r ≡ lies (queryUnder k q) (getD (recordsIn k s) i [])
+  tested q r x = x ∙ rw (part-long, part-is)
 
 -- ---- what is written
 pub with-records : (k : ℕ) (s : List ℕ) → Fit k s → withRecords k s (recordsIn k s) ≡ s

@@ -1,13 +1,15 @@
 -- What the functions over the table memory ask of it, and what they report. What is listed and what a write leaves are the rules'
 -- definitions. Leans on rules and lists. Definitions only. Assumes nothing.
-use mathlib.Core.Bool.{Bool, true, false, cond}
-use mathlib.Core.List.{List}
-use Prim.Native.Nat.{ℕ, _-_, _≤_, suc}
+use mathlib.Core.Path.{_≡_}
+use mathlib.Core.Bool.{Bool, true, false, cond, _||_}
+use mathlib.Core.List.{List, [], _∷_}
+use Prim.Native.Nat.{ℕ, _-_, _*_, _≤_, suc}
 use lib.Dec.{leb}
 use lib.ListN.{length, getD}
-use Rattle.lists.specs.Lists.{before, place}
-use Rattle.query.specs.Query.{Query, Record}
+use Rattle.lists.specs.Lists.{before, place, keep, rows}
+use Rattle.query.specs.Query.{Query, Record, lies}
 use Rattle.query.specs.Shape.{maxColumns}
+use Rattle.columns.specs.MaskContracts.{queryUnder}
 use Rattle.rules.specs.Layout.{maxRecords, maxList, tableLeast, recordCountOffset}
 use Rattle.rules.specs.Table.{Table, delete, has, effect}
 use Rattle.table.specs.declared.Inserted.{Inserted}
@@ -24,6 +26,34 @@ pub record Fit (k : ℕ) (s : List ℕ) : Type 0 where
 -- how many records a list has, or one more than the most that a read lists
 unfoldable pub gathered : List Record → ℕ
 gathered l = cond (leb (length l) maxList) (length l) (suc maxList)
+
+-- the same of a number of records: `gathered` of a list is this of its length
+unfoldable pub upTo : ℕ → ℕ
+upTo n = cond (leb n maxList) n (suc maxList)
+
+-- ---- passes over a stretch of records (src/passes.rt)
+-- whole records of k numbers one after another, no more than a table holds
+pub record Stretch (k : ℕ) (s : List ℕ) : Type 0 where
+  pub columns : (1 ≤ k) × (k ≤ maxColumns)
+  pub n : ℕ
+  pub whole : length s ≡ n * k
+  pub few : n ≤ maxRecords
+
+-- of its first n records those in the subspace of a query that comes as masks and values; `listOf` says it of a table
+abbrev pub fitting : ℕ → List ℕ → ℕ → List ℕ → Table
+fitting k query n s = keep (lies (queryUnder k query)) (rows k n s)
+
+-- a record of them passes the test
+unfoldable pub some : (Record → Bool) → Table → Bool
+some p [] = false
+some p (x ∷ t) = p x || some p t
+
+-- the place `at` of a stretch is that of a record or the end, and no record before it passes the test
+pub record Passed (p : Record → Bool) (k : ℕ) (s : List ℕ) (at : ℕ) : Type 0 where
+  pub i : ℕ
+  pub at-is : at ≡ i * k
+  pub within : at ≤ length s
+  pub none : keep p (rows k i s) ≡ []
 
 -- where a record belongs: it is there, or it goes before the first greater one
 unfoldable pub spotOf : Record → Table → Spot

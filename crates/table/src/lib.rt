@@ -6,16 +6,17 @@ ghost use lib.ListN.{length, take, drop};
 ghost use Rattle.lists.specs.Lists.{written, flat};
 ghost use Rattle.rules.specs.Table.{insert, delete, effect, listOf};
 ghost use Rattle.rules.specs.Memory.{recordsIn, withRecords};
+ghost use Rattle.columns.specs.MaskContracts.{Masked, queryUnder};
 ghost use Rattle.table.specs.TableContracts.{Fit, gathered, spotOf, insertedAs, gone};
 use hall::Hall;
 use query::Column;
 use words::Order;
 ghost use Rattle.rules.specs.Layout.{maxList, listRoom};
 
-// The most records that a table holds, and that a read lists.
-const RECORDS: usize = Hall::RECORDS as usize;
+mod passes; // passes.rt: passes over records
 
-const LIST: usize = Hall::LIST as usize;
+// The most records that a table holds.
+const RECORDS: usize = Hall::RECORDS as usize;
 
 // What an insert did.
 pub enum Inserted {
@@ -41,26 +42,21 @@ pub fn gather(table: &[u32], k: usize, cols: [Column; Hall::COLUMN_SLOTS], out: 
     ensures { λ r. ⌜ r ≡ gathered (listOf (take k cols) (recordsIn k (now (table .entry)))) ⌝ }
     ensures { λ _. ⌜ now (out .exit) ≡ written (now (out .entry)) 0 (flat (take maxList (listOf (take k cols) (recordsIn k (now (table .entry)))))) ⌝ }
 {
+    let query = columns::masks::mask_words(cols, k);
     let n = table[Hall::RECORD_COUNT_OFFSET] as usize;
-    let mut i = 0;
-    let mut at = Hall::HEADER;
-    let mut j = 0;
-    let mut to = 0;
-    while i < n {
-        let e = at + k;
-        let rec = &table[at..e];
-        if columns::lies(cols, rec) {
-            if j == LIST {
-                return LIST + 1;
-            }
-            words::write(out, to, rec);
-            to += k;
-            j += 1;
-        }
-        at = e;
-        i += 1;
+    let end = Hall::HEADER + n * k;
+    let recs = &table[Hall::HEADER..end];
+    // For each width as many records at once as the compiler makes the fastest code of (docs/PERFORMANCE.md).
+    if k == 4 {
+        return passes::list_in(recs, 4, 3, &query, out);
     }
-    j
+    if k == 3 {
+        return passes::list_in(recs, 3, 8, &query, out);
+    }
+    if k == 2 {
+        return passes::list_in(recs, 2, 8, &query, out);
+    }
+    passes::list_in(recs, 1, 16, &query, out)
 }
 
 // How many records lie in the query's subspace, be they more than a read lists. One pass, and nothing is copied.
@@ -68,18 +64,21 @@ pub fn count(table: &[u32], k: usize, cols: [Column; Hall::COLUMN_SLOTS]) -> usi
     requires { ⌜ Fit k (now table) ⌝ }
     ensures { λ r. ⌜ r ≡ length (listOf (take k cols) (recordsIn k (now (table .entry)))) ⌝ }
 {
+    let query = columns::masks::mask_words(cols, k);
     let n = table[Hall::RECORD_COUNT_OFFSET] as usize;
     let end = Hall::HEADER + n * k;
-    let mut at = Hall::HEADER;
-    let mut j = 0;
-    while at < end {
-        let e = at + k;
-        if columns::lies(cols, &table[at..e]) {
-            j += 1;
-        }
-        at = e;
+    let recs = &table[Hall::HEADER..end];
+    // Of four columns the compiler makes faster code for passing blocks than for counting.
+    if k == 4 {
+        return passes::skip_and_count(recs, 4, 3, &query) as usize;
     }
-    j
+    if k == 3 {
+        return passes::count_in(recs, 3, &query) as usize;
+    }
+    if k == 2 {
+        return passes::count_in(recs, 2, &query) as usize;
+    }
+    passes::count_in(recs, 1, &query) as usize
 }
 
 // One scan: whether the record is there, anywhere, and if not the place of the first greater one.
@@ -148,6 +147,25 @@ pub fn delete(table: &mut [u32], k: usize, cols: [Column; Hall::COLUMN_SLOTS]) -
     ensures { λ r. ⌜ r ≡ gone (take k cols) (recordsIn k (now (table .entry))) ⌝ }
     ensures { λ _. ⌜ now (table .exit) ≡ withRecords k (now (table .entry)) (effect (delete (take k cols)) (recordsIn k (now (table .entry)))) ⌝ }
 {
+    let query = columns::masks::mask_words(cols, k);
+    if k == 4 {
+        return delete_in(table, 4, &query);
+    }
+    if k == 3 {
+        return delete_in(table, 3, &query);
+    }
+    if k == 2 {
+        return delete_in(table, 2, &query);
+    }
+    delete_in(table, 1, &query)
+}
+
+// The same of a query that comes as its masks and values.
+fn delete_in(table: &mut [u32], k: usize, query: &[u32]) -> usize
+    requires { ⌜ Fit k (now table) × Masked (now query) ⌝ }
+    ensures { λ r. ⌜ r ≡ gone (queryUnder k (now (query .entry))) (recordsIn k (now (table .entry))) ⌝ }
+    ensures { λ _. ⌜ now (table .exit) ≡ withRecords k (now (table .entry)) (effect (delete (queryUnder k (now (query .entry)))) (recordsIn k (now (table .entry)))) ⌝ }
+{
     let n = table[Hall::RECORD_COUNT_OFFSET] as usize;
     let mut i = 0;
     let mut from = Hall::HEADER;
@@ -155,11 +173,14 @@ pub fn delete(table: &mut [u32], k: usize, cols: [Column; Hall::COLUMN_SLOTS]) -
     let mut to = Hall::HEADER;
     while i < n {
         let e = from + k;
-        if !columns::lies(cols, &table[from..e]) {
+        let stays = !columns::masks::lies(query, &table[from..e]);
+        if stays {
             settle(table, from, to, k);
-            to += k;
-            j += 1;
         }
+        // By arithmetic too, as where records are listed (passes).
+        let more = stays as usize;
+        to += more * k;
+        j += more;
         from = e;
         i += 1;
     }

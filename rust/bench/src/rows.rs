@@ -1,4 +1,5 @@
-//! What is timed: one row for each call and each kind of step, with the hall that it starts from and the reply that it must give.
+//! What is timed: one row for each call and each kind of step, with the hall that it starts from and the reply that it must give, and one for
+//! the table's plain reading.
 //! Rows of single calls have four columns, the most there can be; counts, and whole reads and writes, have one to four. Leans on hall and side.
 
 use crate::hall::{read_labels, write_labels, Hall};
@@ -77,6 +78,7 @@ pub fn calls() -> Vec<Row> {
     begins(&mut rows);
     looks(&mut rows);
     fetches(&mut rows);
+    limit(&mut rows);
     lists(&mut rows);
     long_lists(&mut rows);
     (1..=4).for_each(|k| counts(&mut rows, k));
@@ -167,6 +169,13 @@ fn taking(kind: Kind, k: usize, asked: Asked) -> Hall {
 
 fn listing(k: usize, asked: Asked) -> Hall {
     taking(Kind::Read, k, asked)
+}
+
+/// What 2,048 records of four columns take to be read and no more, to hold the lists against. Both sides run the same loop, so the ratio shows
+/// the noise alone.
+fn limit(rows: &mut Vec<Row>) {
+    let sum = (0..RECORDS).flat_map(|i| record(4, i)).fold(0, u32::wrapping_add);
+    row(rows, "limit", "8,192 numbers read once", full(4), Act::ReadAll, Reply { count: sum, ..ACCEPTED });
 }
 
 fn lists(rows: &mut Vec<Row>) {

@@ -1,6 +1,7 @@
 //! The two sides that are timed, the library and its twin, and what they are made to do. Leans on mondzafeky, the twin and hall.
 
 use crate::hall::Hall;
+use twin::layout::{HEAD, TABLE_LEAST};
 
 /// A query as a begin is given it: a mark and a value for each column.
 #[derive(Clone, Copy, PartialEq, Eq, Debug)]
@@ -43,6 +44,8 @@ pub enum Kind {
 pub enum Act {
     /// no call: what the timing itself costs
     Nothing,
+    /// no call: the table's numbers read once, alike on both sides
+    ReadAll,
     Open(u32),
     Begin(Kind, u32, Asked),
     Step(u32),
@@ -159,6 +162,7 @@ side!(Twin, twin::Memories<'_>);
 pub fn perform<S: Side>(h: &mut Hall, act: &Act) -> Reply {
     match act {
         Act::Nothing => ACCEPTED,
+        Act::ReadAll => read_all(h),
         Act::Open(k) => S::open(h, *k),
         Act::Begin(kind, client, asked) => S::begin(h, *kind, *client, asked.words()),
         Act::Step(client) => S::step(h, *client),
@@ -168,6 +172,14 @@ pub fn perform<S: Side>(h: &mut Hall, act: &Act) -> Reply {
         Act::Renew => S::renew(h),
         Act::Whole(kind, client, asked) => whole::<S>(h, *kind, *client, asked),
     }
+}
+
+/// Adds up the table's numbers, in a loop that the compiler makes vector code of. The sum goes out as the count, so that the reading is not
+/// dropped. Never inlined, so that both sides run the same instructions at the same place.
+#[inline(never)]
+fn read_all(h: &Hall) -> Reply {
+    let sum = h.table[HEAD..TABLE_LEAST].iter().fold(0, |sum: u32, number| sum.wrapping_add(*number));
+    Reply { count: sum, ..ACCEPTED }
 }
 
 /// A read or write from its begin to the step that ends it; the last reply.

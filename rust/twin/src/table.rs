@@ -77,7 +77,8 @@ pub fn count(table: &[u32], query: &Query) -> usize {
 
 fn count_of<const K: usize>(table: &[u32], query: &Query) -> usize {
     let wanted = test::<K>(query);
-    records::<K>(table).iter().filter(|record| lies(record, &wanted)).count()
+    // added up in 32 bits: the compiler makes vector code of four numbers at once, and of two in usize
+    records::<K>(table).iter().map(|record| u32::from(lies(record, &wanted))).sum::<u32>() as usize
 }
 
 /// The record goes in before the first greater one, unless it is anywhere in the table or 2,048 are there.

@@ -1,115 +1,154 @@
--- `table::count` meets its contract. Invariant: how many of the records passed lie in the subspace. Assumes nothing.
-use mathlib.Core.Path.{refl, sym, _∙_}
-use Prim.Native.Nat.{_+_, _-_, _≤_}
+-- `table::count` meets its contract: for each width, what the pass counts. Assumes nothing.
+use mathlib.Core.Path.{_≡_}
 use native.Mathlib.Omega.{arith}
-use lib.ListN.{take}
+use lib.ListN.{length}
 use borrow.Author.Needs.{needs}
-use Rattle.query.specs.Query.{lies}
-use Rattle.rules.specs.Layout.{tableLeast}
-use Rattle.rules.specs.Table.{listOf}
-use Rattle.rules.specs.Memory.{recordsIn}
-use Rattle.table.proofs.TableMemory.{ends, scan-in, length-records, tested}
-use Rattle.table.proofs.Counting.{Standing, more-left, none-left, count-none, count-found, count-other, count-all}
+use Rattle.table.proofs.TableMemory.{ends}
+use Rattle.table.proofs.Widths.{is-masked, records-stretch, counted}
 use Rattle.table.proofs.count.Statement.{statement}
 use Rattle.table.proofs.count.Tie as tie
 
-abbrev Inv-loop : tie.InvT-loop
-Inv-loop table k cols n end at₀ j₀ at j = Standing (lies (take k cols)) (recordsIn k table) k n at j
+-- the call, where its records are lent, and the masks and values
+abbrev start : tie.After-recs → tie.Start
+start c = c .before .before .before .before
 
-abbrev μ-loop : tie.MeasureT-loop
-μ-loop table k cols n end at₀ j₀ at j = end - at
+abbrev words : tie.After-recs → tie.After-mask-words
+words c = c .before .before
 
-shared-slice-read-n : tie.Need-shared-slice-read-n Inv-loop μ-loop
+slots : (c : tie.Start) → length (c .args .cols) ≡ 4
+slots c = search needs
+
+-- what is neither 4 nor 3 nor 2
+one : (c : tie.Else3) → start (c .before .before .before) .args .k ≡ 1
+one c =
+    let f = start (c .before .before .before) .pre .columns in
+    omega (arith, f .0, f .1, c .if3 .left, c .before .if2 .left, c .before .before .if1 .left)
+
+mask-words-requires : tie.Need-mask-words-requires
+mask-words-requires c κs = search needs
+
+shared-slice-read-n : tie.Need-shared-slice-read-n
 shared-slice-read-n c = search needs
 
-cast-n : tie.Need-cast-n Inv-loop μ-loop
+cast-n : tie.Need-cast-n
 cast-n c = search needs
 
-mul-end : tie.Need-mul-end Inv-loop μ-loop
-mul-end c = let f = c .before .before .pre in omega (arith, ends _ _ (f .columns .1) (f .few))
+mul-end : tie.Need-mul-end
+mul-end c = let f = c .before .before .before .pre in omega (arith, ends _ _ (f .columns .1) (f .few))
 
-add-end : tie.Need-add-end Inv-loop μ-loop
-add-end c = let f = c .before .before .pre in omega (arith, ends _ _ (f .columns .1) (f .few))
+add-end : tie.Need-add-end
+add-end c = let f = c .before .before .before .pre in omega (arith, ends _ _ (f .columns .1) (f .few))
 
--- the record that the scan stands at ends inside the memory
-room : (c : tie.In-loop Inv-loop μ-loop) → c .before .loop .at + c .before .before .before .before .args .k ≤ tableLeast
-room c =
-    let s = c .before .loop .inv .stands in
-    scan-in _ _ _ _ (c .before .before .before .before .pre) (more-left _ _ _ _ (s .at-is) (c .loop-test .taken)) (s .at-is)
+sub-recs : tie.Need-sub-recs
+sub-recs c = search needs
 
-loop-holds : tie.Need-loop-holds Inv-loop μ-loop
-loop-holds c = record { i = 0; stands = count-none _ _ _ _ }
+part-recs-start : tie.Need-part-recs-start
+part-recs-start c = search needs
 
-add-e : tie.Need-add-e Inv-loop μ-loop
-add-e c = omega (arith, room c)
+part-recs-end : tie.Need-part-recs-end
+part-recs-end c = let f = c .before .before .before .pre in omega (arith, ends _ _ (f .columns .1) (f .few))
 
-mul-lies : tie.Need-mul-lies Inv-loop μ-loop
-mul-lies c = omega (arith, room c)
+slice-aggregate-skip-and-count : tie.Need-slice-aggregate-skip-and-count
+slice-aggregate-skip-and-count c = search needs
 
-sub-lies : tie.Need-sub-lies Inv-loop μ-loop
-sub-lies c = search needs
+skip-and-count-requires : tie.Need-skip-and-count-requires
+skip-and-count-requires c κs =
+    let t = c .before in
+    let r = t .before in
+    let f = start r .pre in
+    (records-stretch _ _ f 4 (t .if1 .taken), (is-masked _ _ _ (words r .mask-words .ensures) (slots (start r)) (f .columns .1), (omega arith, omega arith)))
 
-part-lies-start : tie.Need-part-lies-start Inv-loop μ-loop
-part-lies-start c = search needs
+cast-result : tie.Need-cast-result
+cast-result c = search needs
 
-part-lies-end : tie.Need-part-lies-end Inv-loop μ-loop
-part-lies-end c = omega (arith, room c)
-
-lies-requires : tie.Need-lies-requires Inv-loop μ-loop
-lies-requires c κs = search needs
-
-add-j : tie.Need-add-j Inv-loop μ-loop
-add-j c = search needs
-
-loop-less : tie.Need-loop-less Inv-loop μ-loop
-loop-less c = search needs
-
-loop-again : tie.Need-loop-again Inv-loop μ-loop
-loop-again c =
-    let l = c .before .before .before .before .loop .inv in
-    let f = c .before .before .before .before .before .before .before .pre in
-    let h = more-left _ _ _ _ (l .stands .at-is) (c .before .before .before .loop-test .taken) in
-    let r = tested _ _ _ _ _ f h (l .stands .at-is) refl _ _ (c .before .lies .ensures) in
-    record { i = l .i + 1; stands = count-found _ _ _ _ _ _ _ (l .stands) h (length-records _ _) _ (sym r ∙ c .if1 .taken) refl }
-
-loop-less-2 : tie.Need-loop-less-2 Inv-loop μ-loop
-loop-less-2 c = search needs
-
-loop-again-2 : tie.Need-loop-again-2 Inv-loop μ-loop
-loop-again-2 c =
-    let l = c .before .before .before .before .loop .inv in
-    let f = c .before .before .before .before .before .before .before .pre in
-    let h = more-left _ _ _ _ (l .stands .at-is) (c .before .before .before .loop-test .taken) in
-    let r = tested _ _ _ _ _ f h (l .stands .at-is) refl _ _ (c .before .lies .ensures) in
-    record { i = l .i + 1; stands = count-other _ _ _ _ _ _ _ (l .stands) h (length-records _ _) _ (sym r ∙ c .if1 .left) refl }
-
-returns : tie.Need-returns Inv-loop μ-loop
-unfolding listOf
+returns : tie.Need-returns
 returns c =
-    let l = c .before .loop .inv in
-    let f = c .before .before .before .before .pre in
-    count-all _ _ _ _ _ _ _ (l .stands) (none-left _ _ _ _ (f .columns .0) (l .stands .at-is) (c .loop-test .left)) (length-records _ _)
+    let t = c .before .before in
+    let r = t .before in
+    counted _ _ _ _ (start r .pre) (words r .mask-words .ensures) (slots (start r)) 4 (t .if1 .taken) _ (c .skip-and-count .ensures)
+
+slice-aggregate-count-in : tie.Need-slice-aggregate-count-in
+slice-aggregate-count-in c = search needs
+
+count-in-requires : tie.Need-count-in-requires
+count-in-requires c κs =
+    let t = c .before in
+    let r = t .before .before in
+    let f = start r .pre in
+    (records-stretch _ _ f 3 (t .if2 .taken), is-masked _ _ _ (words r .mask-words .ensures) (slots (start r)) (f .columns .1))
+
+cast-result-2 : tie.Need-cast-result-2
+cast-result-2 c = search needs
+
+returns-2 : tie.Need-returns-2
+returns-2 c =
+    let t = c .before .before in
+    let r = t .before .before in
+    counted _ _ _ _ (start r .pre) (words r .mask-words .ensures) (slots (start r)) 3 (t .if2 .taken) _ (c .count-in .ensures)
+
+slice-aggregate-count-in-2 : tie.Need-slice-aggregate-count-in-2
+slice-aggregate-count-in-2 c = search needs
+
+count-in-requires-2 : tie.Need-count-in-requires-2
+count-in-requires-2 c κs =
+    let t = c .before in
+    let r = t .before .before .before in
+    let f = start r .pre in
+    (records-stretch _ _ f 2 (t .if3 .taken), is-masked _ _ _ (words r .mask-words .ensures) (slots (start r)) (f .columns .1))
+
+cast-result-3 : tie.Need-cast-result-3
+cast-result-3 c = search needs
+
+returns-3 : tie.Need-returns-3
+returns-3 c =
+    let t = c .before .before in
+    let r = t .before .before .before in
+    counted _ _ _ _ (start r .pre) (words r .mask-words .ensures) (slots (start r)) 2 (t .if3 .taken) _ (c .count-in2 .ensures)
+
+slice-aggregate-count-in-3 : tie.Need-slice-aggregate-count-in-3
+slice-aggregate-count-in-3 c = search needs
+
+count-in-requires-3 : tie.Need-count-in-requires-3
+count-in-requires-3 c κs =
+    let t = c .before in
+    let r = t .before .before .before in
+    let f = start r .pre in
+    (records-stretch _ _ f 1 (one t), is-masked _ _ _ (words r .mask-words .ensures) (slots (start r)) (f .columns .1))
+
+cast-result-4 : tie.Need-cast-result-4
+cast-result-4 c = search needs
+
+returns-4 : tie.Need-returns-4
+returns-4 c =
+    let t = c .before .before in
+    let r = t .before .before .before in
+    counted _ _ _ _ (start r .pre) (words r .mask-words .ensures) (slots (start r)) 1 (one t) _ (c .count-in3 .ensures)
 
 pub count-spec : {M : Type 1} → statement M
 count-spec =
     tie.close
     (tie.spec
-    Inv-loop
-    μ-loop
+    mask-words-requires
     shared-slice-read-n
     cast-n
     mul-end
     add-end
-    loop-holds
-    add-e
-    mul-lies
-    sub-lies
-    part-lies-start
-    part-lies-end
-    lies-requires
-    add-j
-    loop-less
-    loop-again
-    loop-less-2
-    loop-again-2
-    returns)
+    sub-recs
+    part-recs-start
+    part-recs-end
+    slice-aggregate-skip-and-count
+    skip-and-count-requires
+    cast-result
+    returns
+    slice-aggregate-count-in
+    count-in-requires
+    cast-result-2
+    returns-2
+    slice-aggregate-count-in-2
+    count-in-requires-2
+    cast-result-3
+    returns-3
+    slice-aggregate-count-in-3
+    count-in-requires-3
+    cast-result-4
+    returns-4)

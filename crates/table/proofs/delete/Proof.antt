@@ -1,152 +1,138 @@
--- `table::delete` meets its contract. Invariant: of the records passed, those that stay lie at the front; what is to come is as it was.
--- Assumes nothing.
-use mathlib.Core.Logic.{⊎-elim}
-use mathlib.Core.Path.{ap, _∙_}
-use Prim.Native.Nat.{_+_, _-_, _≤_}
+-- `table::delete` meets its contract: for each width, what the pass takes out. Assumes nothing.
+use mathlib.Core.Path.{_≡_}
 use native.Mathlib.Omega.{arith}
-use lib.ListN.{length, take}
+use lib.ListN.{length}
 use borrow.Author.Needs.{needs}
-use Rattle.rules.specs.Layout.{tableLeast}
-use Rattle.rules.specs.Table.{delete, outside}
-use Rattle.rules.specs.Memory.{recordsIn}
-use Rattle.table.proofs.TableMemory.{write-length, scan-in, scan-end, length-records, part-is, part-long, tested}
-use Rattle.table.proofs.Deleting.{Deleting, delete-none, stays, goes, turn-stays, turn-goes, delete-all}
+use Rattle.table.proofs.Widths.{is-masked, fit-is, went-is, deleted-is}
 use Rattle.table.proofs.delete.Statement.{statement}
 use Rattle.table.proofs.delete.Tie as tie
 
-abbrev Inv-loop : tie.InvT-loop
-Inv-loop table₀ k cols n i₀ from₀ j₀ to₀ table i from j to = Deleting (outside (take k cols)) (recordsIn k table₀) k n table₀ table i from j to
+-- the call where the masks and values are made
+abbrev start : tie.After-mask-words → tie.Start
+start c = c .before .before
 
-abbrev μ-loop : tie.MeasureT-loop
-μ-loop table₀ k cols n i₀ from₀ j₀ to₀ table i from j to = n - i
+slots : (c : tie.Start) → length (c .args .cols) ≡ 4
+slots c = search needs
 
-slice-read-n : tie.Need-slice-read-n Inv-loop μ-loop
-slice-read-n c = search needs
+-- what is neither 4 nor 3 nor 2
+one : (c : tie.Else3) → start (c .before .before .before) .args .k ≡ 1
+one c =
+    let f = start (c .before .before .before) .pre .columns in
+    omega (arith, f .0, f .1, c .if3 .left, c .before .if2 .left, c .before .before .if1 .left)
 
-cast-n : tie.Need-cast-n Inv-loop μ-loop
-cast-n c = search needs
+mask-words-requires : tie.Need-mask-words-requires
+mask-words-requires c κs = search needs
 
--- the record that the scan stands at ends inside the memory, and so does the last
-room : (c : tie.In-loop Inv-loop μ-loop) → c .before .loop .from + c .before .before .before .before .args .k ≤ tableLeast
-room c = scan-in _ _ _ _ (c .before .before .before .before .pre) (c .loop-test .taken) (c .before .loop .inv .scan .at-is)
+slice-aggregate-delete-in : tie.Need-slice-aggregate-delete-in
+slice-aggregate-delete-in c = search needs
 
-ended : (c : tie.At-loop Inv-loop μ-loop) → c .loop .from ≤ tableLeast
-ended c = scan-end _ _ _ _ (c .before .before .before .pre) (c .loop .inv .scan .le) (c .loop .inv .scan .at-is)
+delete-in-requires : tie.Need-delete-in-requires
+delete-in-requires c κs =
+    let t = c .before .before in
+    let w = t .before in
+    let f = start w .pre in
+    (fit-is _ _ _ _ f (w .mask-words .ensures) (slots (start w)) 4 (t .if1 .taken), is-masked _ _ _ (w .mask-words .ensures) (slots (start w)) (f .columns .1))
 
-loop-holds : tie.Need-loop-holds Inv-loop μ-loop
-loop-holds c = delete-none _ _ _ _ _
+same-length : tie.Need-same-length
+same-length c = search needs
 
-add-e : tie.Need-add-e Inv-loop μ-loop
-add-e c = omega (arith, room c)
-
-mul-lies : tie.Need-mul-lies Inv-loop μ-loop
-mul-lies c = omega (arith, room c)
-
-sub-lies : tie.Need-sub-lies Inv-loop μ-loop
-sub-lies c = search needs
-
-part-lies-start : tie.Need-part-lies-start Inv-loop μ-loop
-part-lies-start c = search needs
-
-part-lies-end : tie.Need-part-lies-end Inv-loop μ-loop
-part-lies-end c = omega (arith, room (c .before))
-
-lies-requires : tie.Need-lies-requires Inv-loop μ-loop
-lies-requires c κs = search needs
-
-settle-requires : tie.Need-settle-requires Inv-loop μ-loop
-settle-requires c κs = (search needs, omega (arith, room (c .before .before .before .before .before)))
-
-add-to : tie.Need-add-to Inv-loop μ-loop
-add-to c = omega (arith, room (c .before .before .before .before .before .before .before .before))
-
-add-j : tie.Need-add-j Inv-loop μ-loop
-add-j c = search needs
-
-add-i : tie.Need-add-i Inv-loop μ-loop
-add-i c = search needs
-
-loop-less : tie.Need-loop-less Inv-loop μ-loop
-loop-less c = search needs
-
-loop-again : tie.Need-loop-again Inv-loop μ-loop
-loop-again c =
-    let l = c .before .before .before .before .before in
-    let f = c .before .before .before .before .before .before .before .before .pre in
-    let h = c .before .before .before .before .loop-test .taken in
-    let e = l .loop .inv .scan .at-is in
-    let d = l .loop .inv .back in
-    let r = tested _ _ _ _ _ f h e d _ _ (c .before .lies .ensures) in
-    ⊎-elim
-    (λ w. turn-stays _ _ _ _ _ _ _ _ _ _ (l .loop .inv) h (length-records _ _) _ _ _ (part-is _ _ _ _ _ f h e d) (part-long _ _ _ _ _ f h e d)
-    (omega (arith, room (c .before .before .before .before))) (stays _ _ _ r (w .0 .taken)) (w .5 ∙ w .2 .ensures) (w .6) (w .7))
-    (λ w. turn-goes _ _ _ _ _ _ _ _ _ _ (l .loop .inv) h (length-records _ _) _ _ _ (goes _ _ _ r (w .0 .left)) (w .1) (w .2) (w .3))
-    (c .if1 .came)
-
-sub-freed : tie.Need-sub-freed Inv-loop μ-loop
-sub-freed c = search needs
-
-mul-clear : tie.Need-mul-clear Inv-loop μ-loop
-mul-clear c = omega (arith, ended (c .before))
-
-sub-clear : tie.Need-sub-clear Inv-loop μ-loop
-sub-clear c = search needs
-
-part-clear-start : tie.Need-part-clear-start Inv-loop μ-loop
-part-clear-start c = search needs
-
-part-clear-end : tie.Need-part-clear-end Inv-loop μ-loop
-part-clear-end c = omega (arith, ended (c .before))
-
-clear-requires : tie.Need-clear-requires Inv-loop μ-loop
-clear-requires c κs = search needs
-
-cast-table : tie.Need-cast-table Inv-loop μ-loop
-cast-table c = search needs
-
-slice-write-table : tie.Need-slice-write-table Inv-loop μ-loop
-slice-write-table c = search needs
-
-sub-result : tie.Need-sub-result Inv-loop μ-loop
-sub-result c = search needs
-
-returns : tie.Need-returns Inv-loop μ-loop
+returns : tie.Need-returns
 returns c =
-    let l = c .before .before .before .before in
-    delete-all _ _ _ _ _ _ _ _ _ (l .before .before .before .before .pre) (l .before .loop .inv) (l .loop-test .left) (c .before .before .clear .ensures)
+    let d = c .before .before in
+    let t = d .before .before .before in
+    let w = t .before in
+    let f = start w .pre in (
+      went-is _ _ _ _ f (w .mask-words .ensures) (slots (start w)) 4 (t .if1 .taken) _ (d .delete-in .ensures .0),
+      deleted-is _ _ _ _ f (w .mask-words .ensures) (slots (start w)) 4 (t .if1 .taken) _ (d .delete-in .ensures .1),
+    )
 
-same-length : tie.Need-same-length Inv-loop μ-loop
-same-length c = ap length (returns c .1) ∙ write-length _ _ (delete _) (c .before .before .before .before .before .before .before .before .pre) tt
+slice-aggregate-delete-in-2 : tie.Need-slice-aggregate-delete-in-2
+slice-aggregate-delete-in-2 c = search needs
+
+delete-in-requires-2 : tie.Need-delete-in-requires-2
+delete-in-requires-2 c κs =
+    let t = c .before .before in
+    let w = t .before .before in
+    let f = start w .pre in
+    (fit-is _ _ _ _ f (w .mask-words .ensures) (slots (start w)) 3 (t .if2 .taken), is-masked _ _ _ (w .mask-words .ensures) (slots (start w)) (f .columns .1))
+
+same-length-2 : tie.Need-same-length-2
+same-length-2 c = search needs
+
+returns-2 : tie.Need-returns-2
+returns-2 c =
+    let d = c .before .before in
+    let t = d .before .before .before in
+    let w = t .before .before in
+    let f = start w .pre in (
+      went-is _ _ _ _ f (w .mask-words .ensures) (slots (start w)) 3 (t .if2 .taken) _ (d .delete-in2 .ensures .0),
+      deleted-is _ _ _ _ f (w .mask-words .ensures) (slots (start w)) 3 (t .if2 .taken) _ (d .delete-in2 .ensures .1),
+    )
+
+slice-aggregate-delete-in-3 : tie.Need-slice-aggregate-delete-in-3
+slice-aggregate-delete-in-3 c = search needs
+
+delete-in-requires-3 : tie.Need-delete-in-requires-3
+delete-in-requires-3 c κs =
+    let t = c .before .before in
+    let w = t .before .before .before in
+    let f = start w .pre in
+    (fit-is _ _ _ _ f (w .mask-words .ensures) (slots (start w)) 2 (t .if3 .taken), is-masked _ _ _ (w .mask-words .ensures) (slots (start w)) (f .columns .1))
+
+same-length-3 : tie.Need-same-length-3
+same-length-3 c = search needs
+
+returns-3 : tie.Need-returns-3
+returns-3 c =
+    let d = c .before .before in
+    let t = d .before .before .before in
+    let w = t .before .before .before in
+    let f = start w .pre in (
+      went-is _ _ _ _ f (w .mask-words .ensures) (slots (start w)) 2 (t .if3 .taken) _ (d .delete-in3 .ensures .0),
+      deleted-is _ _ _ _ f (w .mask-words .ensures) (slots (start w)) 2 (t .if3 .taken) _ (d .delete-in3 .ensures .1),
+    )
+
+slice-aggregate-delete-in-4 : tie.Need-slice-aggregate-delete-in-4
+slice-aggregate-delete-in-4 c = search needs
+
+delete-in-requires-4 : tie.Need-delete-in-requires-4
+delete-in-requires-4 c κs =
+    let t = c .before .before in
+    let w = t .before .before .before in
+    let f = start w .pre in
+    (fit-is _ _ _ _ f (w .mask-words .ensures) (slots (start w)) 1 (one t), is-masked _ _ _ (w .mask-words .ensures) (slots (start w)) (f .columns .1))
+
+same-length-4 : tie.Need-same-length-4
+same-length-4 c = search needs
+
+returns-4 : tie.Need-returns-4
+returns-4 c =
+    let d = c .before .before in
+    let t = d .before .before .before in
+    let w = t .before .before .before in
+    let f = start w .pre in (
+      went-is _ _ _ _ f (w .mask-words .ensures) (slots (start w)) 1 (one t) _ (d .delete-in4 .ensures .0),
+      deleted-is _ _ _ _ f (w .mask-words .ensures) (slots (start w)) 1 (one t) _ (d .delete-in4 .ensures .1),
+    )
 
 pub delete-spec : {M : Type 1} → statement M
 delete-spec =
     tie.close
     (tie.spec
-    Inv-loop
-    μ-loop
-    slice-read-n
-    cast-n
-    loop-holds
-    add-e
-    mul-lies
-    sub-lies
-    part-lies-start
-    part-lies-end
-    lies-requires
-    settle-requires
-    add-to
-    add-j
-    add-i
-    loop-less
-    loop-again
-    sub-freed
-    mul-clear
-    sub-clear
-    part-clear-start
-    part-clear-end
-    clear-requires
-    cast-table
-    slice-write-table
-    sub-result
+    mask-words-requires
+    slice-aggregate-delete-in
+    delete-in-requires
     same-length
-    returns)
+    returns
+    slice-aggregate-delete-in-2
+    delete-in-requires-2
+    same-length-2
+    returns-2
+    slice-aggregate-delete-in-3
+    delete-in-requires-3
+    same-length-3
+    returns-3
+    slice-aggregate-delete-in-4
+    delete-in-requires-4
+    same-length-4
+    returns-4)

@@ -1,140 +1,170 @@
--- `table::gather` meets its contract. Invariant: of the records passed, those in the subspace are in `out`. Assumes nothing.
-use mathlib.Core.Logic.{⊎-elim}
-use mathlib.Core.Path.{refl, sym, _∙_}
-use Prim.Native.Nat.{_+_, _-_, _≤_}
+-- `table::gather` meets its contract: for each width, what the pass lists. Assumes nothing.
+use mathlib.Core.Path.{_≡_}
 use native.Mathlib.Omega.{arith}
-use lib.ListN.{take}
+use lib.ListN.{length}
 use borrow.Author.Needs.{needs}
-use Rattle.query.specs.Query.{lies}
-use Rattle.rules.specs.Layout.{tableLeast}
-use Rattle.rules.specs.Table.{listOf}
-use Rattle.rules.specs.Memory.{recordsIn}
-use Rattle.table.proofs.TableMemory.{scan-in, length-records, wide-records, part-is, part-long, tested}
-use Rattle.table.proofs.Gathering.{Gathering, gather-none, out-room, turn-found, turn-other, gather-many, gather-all}
+use Rattle.table.proofs.TableMemory.{ends}
+use Rattle.table.proofs.Widths.{is-masked, records-stretch, gathered-is, listed-is}
 use Rattle.table.proofs.gather.Statement.{statement}
 use Rattle.table.proofs.gather.Tie as tie
 
-abbrev Inv-loop : tie.InvT-loop
-Inv-loop table k cols out₀ n i₀ at₀ j₀ to₀ out i at j to = Gathering (lies (take k cols)) (recordsIn k table) k n out₀ out i at j to
+-- the call, where its records are lent, and the masks and values
+abbrev start : tie.After-recs → tie.Start
+start c = c .before .before .before .before .before
 
-abbrev μ-loop : tie.MeasureT-loop
-μ-loop table k cols out₀ n i₀ at₀ j₀ to₀ out i at j to = n - i
+abbrev words : tie.After-recs → tie.After-mask-words
+words c = c .before .before
 
-shared-slice-read-n : tie.Need-shared-slice-read-n Inv-loop μ-loop
+slots : (c : tie.Start) → length (c .args .cols) ≡ 4
+slots c = search needs
+
+-- what is neither 4 nor 3 nor 2
+one : (c : tie.After-query4) → start (c .before .before .before .before) .args .k ≡ 1
+one c =
+    let f = start (c .before .before .before .before) .pre .0 .columns in
+    omega (arith, f .0, f .1, c .before .if3 .left, c .before .before .if2 .left, c .before .before .before .if1 .left)
+
+mask-words-requires : tie.Need-mask-words-requires
+mask-words-requires c κs = search needs
+
+shared-slice-read-n : tie.Need-shared-slice-read-n
 shared-slice-read-n c = search needs
 
-cast-n : tie.Need-cast-n Inv-loop μ-loop
+cast-n : tie.Need-cast-n
 cast-n c = search needs
 
--- the record that the scan stands at ends inside the memory
-room : (c : tie.In-loop Inv-loop μ-loop) → c .before .loop .at + c .before .before .before .before .before .args .k ≤ tableLeast
-room c = scan-in _ _ _ _ (c .before .before .before .before .before .pre .0) (c .loop-test .taken) (c .before .loop .inv .scan .at-is)
+mul-end : tie.Need-mul-end
+mul-end c = let f = c .before .before .before .before .pre .0 in omega (arith, ends _ _ (f .columns .1) (f .few))
 
-loop-holds : tie.Need-loop-holds Inv-loop μ-loop
-loop-holds c = gather-none _ _ _ _ _
+add-end : tie.Need-add-end
+add-end c = let f = c .before .before .before .before .pre .0 in omega (arith, ends _ _ (f .columns .1) (f .few))
 
-add-e : tie.Need-add-e Inv-loop μ-loop
-add-e c = omega (arith, room c)
+sub-recs : tie.Need-sub-recs
+sub-recs c = search needs
 
-mul-rec : tie.Need-mul-rec Inv-loop μ-loop
-mul-rec c = omega (arith, room c)
+part-recs-start : tie.Need-part-recs-start
+part-recs-start c = search needs
 
-sub-rec : tie.Need-sub-rec Inv-loop μ-loop
-sub-rec c = search needs
+part-recs-end : tie.Need-part-recs-end
+part-recs-end c = let f = c .before .before .before .before .pre .0 in omega (arith, ends _ _ (f .columns .1) (f .few))
 
-part-rec-start : tie.Need-part-rec-start Inv-loop μ-loop
-part-rec-start c = search needs
+slice-aggregate-list-in : tie.Need-slice-aggregate-list-in
+slice-aggregate-list-in c = search needs
 
-part-rec-end : tie.Need-part-rec-end Inv-loop μ-loop
-part-rec-end c = omega (arith, room c)
+list-in-requires : tie.Need-list-in-requires
+list-in-requires c κs =
+    let q = c .before in
+    let r = q .before .before in
+    let f = start r .pre in
+    (records-stretch _ _ (f .0) 4 (q .before .if1 .taken), (is-masked _ _ _ (words r .mask-words .ensures) (slots (start r)) (f .0 .columns .1), (omega arith, (omega arith, f .1))))
 
-lies-requires : tie.Need-lies-requires Inv-loop μ-loop
-lies-requires c κs = search needs
-
-add-result : tie.Need-add-result Inv-loop μ-loop
-add-result c = search needs
-
-same-length : tie.Need-same-length Inv-loop μ-loop
+same-length : tie.Need-same-length
 same-length c = search needs
 
-returns : tie.Need-returns Inv-loop μ-loop
-unfolding listOf
+returns : tie.Need-returns
 returns c =
-    let l = c .before .before .before .before .before in
-    let f = c .before .before .before .before .before .before .before .before .before .pre in
-    let h = c .before .before .before .before .loop-test .taken in
-    let e = l .loop .inv .scan .at-is in
-    let r = tested _ _ _ _ _ (f .0) h e refl _ _ (c .before .before .lies .ensures) in
-    gather-many _ _ _ _ _ _ _ _ _ _ (l .loop .inv) h (length-records _ _) (sym r ∙ c .before .if1 .taken) (c .if2 .taken)
+    let l = c .before .before in
+    let q = l .before .before in
+    let r = q .before .before in
+    let f = start r .pre .0 in (
+      gathered-is _ _ _ _ f (words r .mask-words .ensures) (slots (start r)) 4 (q .before .if1 .taken) _ (l .list-in .ensures .0),
+      listed-is _ _ _ _ f (words r .mask-words .ensures) (slots (start r)) 4 (q .before .if1 .taken) _ _ (l .list-in .ensures .1),
+    )
 
-write-requires : tie.Need-write-requires Inv-loop μ-loop
-write-requires c κs =
-    let l = c .before .before .before .before .before .before in
-    let f = c .before .before .before .before .before .before .before .before .before .before .pre in
-    let h = c .before .before .before .before .before .loop-test .taken in
-    let e = l .loop .inv .scan .at-is in
-    out-room _ _ _ _ _ _ _ _ _ _ (l .loop .inv) h (length-records _ _) _ (part-is _ _ _ _ _ (f .0) h e refl) (part-long _ _ _ _ _ (f .0) h e refl) (search needs) (f .1) (c .before .if2 .left)
+slice-aggregate-list-in-2 : tie.Need-slice-aggregate-list-in-2
+slice-aggregate-list-in-2 c = search needs
 
-add-to : tie.Need-add-to Inv-loop μ-loop
-add-to c =
-    let l = c .before .before .before .before .before .before .before .before .before in
-    let f = c .before .before .before .before .before .before .before .before .before .before .before .before .before .pre in
-    let h = c .before .before .before .before .before .before .before .before .loop-test .taken in
-    let e = l .loop .inv .scan .at-is in
-    omega (arith, out-room _ _ _ _ _ _ _ _ _ _ (l .loop .inv) h (length-records _ _) _ (part-is _ _ _ _ _ (f .0) h e refl) (part-long _ _ _ _ _ (f .0) h e refl) (search needs) (f .1) (c .before .before .before .before .if2 .left))
+list-in-requires-2 : tie.Need-list-in-requires-2
+list-in-requires-2 c κs =
+    let q = c .before in
+    let r = q .before .before .before in
+    let f = start r .pre in
+    (records-stretch _ _ (f .0) 3 (q .before .if2 .taken), (is-masked _ _ _ (words r .mask-words .ensures) (slots (start r)) (f .0 .columns .1), (omega arith, (omega arith, f .1))))
 
-add-j : tie.Need-add-j Inv-loop μ-loop
-add-j c = search needs
-
-add-i : tie.Need-add-i Inv-loop μ-loop
-add-i c = search needs
-
-loop-less : tie.Need-loop-less Inv-loop μ-loop
-loop-less c = search needs
-
-loop-again : tie.Need-loop-again Inv-loop μ-loop
-loop-again c =
-    let l = c .before .before .before .before in
-    let f = c .before .before .before .before .before .before .before .before .pre in
-    let h = c .before .before .before .loop-test .taken in
-    let e = l .loop .inv .scan .at-is in
-    let r = tested _ _ _ _ _ (f .0) h e refl _ _ (c .before .lies .ensures) in
-    ⊎-elim
-    (λ w. turn-found _ _ _ _ _ _ _ _ _ _ (l .loop .inv) h (length-records _ _) _ (part-is _ _ _ _ _ (f .0) h e refl) (part-long _ _ _ _ _ (f .0) h e refl) (search needs) (f .1) (w .1 .left)
-    _ _ _ (wide-records _ _ (f .0)) (sym r ∙ w .0 .taken) (w .6 ∙ w .3 .ensures) (w .7) (w .8))
-    (λ w. turn-other _ _ _ _ _ _ _ _ _ _ (l .loop .inv) h (length-records _ _) _ _ _ (sym r ∙ w .0 .left) (w .1) (w .2) (w .3))
-    (c .if1 .came)
-
-same-length-2 : tie.Need-same-length-2 Inv-loop μ-loop
+same-length-2 : tie.Need-same-length-2
 same-length-2 c = search needs
 
-returns-2 : tie.Need-returns-2 Inv-loop μ-loop
-unfolding listOf
-returns-2 c = gather-all _ _ _ _ _ _ _ _ _ _ (c .before .loop .inv) (c .loop-test .left) (length-records _ _)
+returns-2 : tie.Need-returns-2
+returns-2 c =
+    let l = c .before .before in
+    let q = l .before .before in
+    let r = q .before .before .before in
+    let f = start r .pre .0 in (
+      gathered-is _ _ _ _ f (words r .mask-words .ensures) (slots (start r)) 3 (q .before .if2 .taken) _ (l .list-in2 .ensures .0),
+      listed-is _ _ _ _ f (words r .mask-words .ensures) (slots (start r)) 3 (q .before .if2 .taken) _ _ (l .list-in2 .ensures .1),
+    )
+
+slice-aggregate-list-in-3 : tie.Need-slice-aggregate-list-in-3
+slice-aggregate-list-in-3 c = search needs
+
+list-in-requires-3 : tie.Need-list-in-requires-3
+list-in-requires-3 c κs =
+    let q = c .before in
+    let r = q .before .before .before .before in
+    let f = start r .pre in
+    (records-stretch _ _ (f .0) 2 (q .before .if3 .taken), (is-masked _ _ _ (words r .mask-words .ensures) (slots (start r)) (f .0 .columns .1), (omega arith, (omega arith, f .1))))
+
+same-length-3 : tie.Need-same-length-3
+same-length-3 c = search needs
+
+returns-3 : tie.Need-returns-3
+returns-3 c =
+    let l = c .before .before in
+    let q = l .before .before in
+    let r = q .before .before .before .before in
+    let f = start r .pre .0 in (
+      gathered-is _ _ _ _ f (words r .mask-words .ensures) (slots (start r)) 2 (q .before .if3 .taken) _ (l .list-in3 .ensures .0),
+      listed-is _ _ _ _ f (words r .mask-words .ensures) (slots (start r)) 2 (q .before .if3 .taken) _ _ (l .list-in3 .ensures .1),
+    )
+
+slice-aggregate-list-in-4 : tie.Need-slice-aggregate-list-in-4
+slice-aggregate-list-in-4 c = search needs
+
+list-in-requires-4 : tie.Need-list-in-requires-4
+list-in-requires-4 c κs =
+    let q = c .before in
+    let r = q .before .before .before .before in
+    let f = start r .pre in
+    (records-stretch _ _ (f .0) 1 (one q), (is-masked _ _ _ (words r .mask-words .ensures) (slots (start r)) (f .0 .columns .1), (omega arith, (omega arith, f .1))))
+
+same-length-4 : tie.Need-same-length-4
+same-length-4 c = search needs
+
+returns-4 : tie.Need-returns-4
+returns-4 c =
+    let l = c .before .before in
+    let q = l .before .before in
+    let r = q .before .before .before .before in
+    let f = start r .pre .0 in (
+      gathered-is _ _ _ _ f (words r .mask-words .ensures) (slots (start r)) 1 (one q) _ (l .list-in4 .ensures .0),
+      listed-is _ _ _ _ f (words r .mask-words .ensures) (slots (start r)) 1 (one q) _ _ (l .list-in4 .ensures .1),
+    )
 
 pub gather-spec : {M : Type 1} → statement M
 gather-spec =
     tie.close
     (tie.spec
-    Inv-loop
-    μ-loop
+    mask-words-requires
     shared-slice-read-n
     cast-n
-    loop-holds
-    add-e
-    mul-rec
-    sub-rec
-    part-rec-start
-    part-rec-end
-    lies-requires
-    add-result
+    mul-end
+    add-end
+    sub-recs
+    part-recs-start
+    part-recs-end
+    slice-aggregate-list-in
+    list-in-requires
     same-length
     returns
-    write-requires
-    add-to
-    add-j
-    add-i
-    loop-less
-    loop-again
+    slice-aggregate-list-in-2
+    list-in-requires-2
     same-length-2
-    returns-2)
+    returns-2
+    slice-aggregate-list-in-3
+    list-in-requires-3
+    same-length-3
+    returns-3
+    slice-aggregate-list-in-4
+    list-in-requires-4
+    same-length-4
+    returns-4)
