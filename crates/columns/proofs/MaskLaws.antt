@@ -22,6 +22,16 @@ use Rattle.columns.proofs.FillLoop.{Filled, drop-map, fill-more, fill-a
 use Rattle.columns.proofs.ColumnLoops.{at-place, past-all}
 use Rattle.columns.proofs.KeyLoops.{same-test}
 
+-- ---- the mask of a column
+module _ (c : Column) where
+  pub mask-wildcard : c ≡ Wildcard → 0 ≡ maskOf c
+  unfolding maskOf
+  mask-wildcard e = rw e
+
+  pub mask-named : (v : ℕ) → c ≡ Is v → 4294967295 ≡ maskOf c
+  unfolding maskOf
+  mask-named v e = rw e
+
 -- ---- masks and values name their columns
 length-four : (q : Query) → length q ≤ 4 → length (four q) ≡ 4
 unfolding four

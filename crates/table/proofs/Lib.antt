@@ -1,6 +1,7 @@
 pub mod TableLists
 pub mod TableMemory
 pub mod Passing
+pub mod Skipping
 pub mod Counting
 pub mod Listing
 pub mod Widths

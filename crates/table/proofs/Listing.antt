@@ -19,8 +19,9 @@ use Rattle.query.specs.Query.{Record, lies}
 use Rattle.columns.specs.MaskContracts.{queryUnder}
 use Rattle.rules.specs.Layout.{maxList, listRoom}
 use Rattle.rules.specs.Table.{Table}
-use Rattle.table.specs.TableContracts.{Stretch, Passed, upTo}
-use Rattle.table.proofs.Passing.{Passing, pass-on, pass-one, tested, pass-room, pass-end, part-long, record-part, rows-part, to-end, keep-add}
+use Rattle.table.specs.TableContracts.{Stretch, upTo}
+use Rattle.table.proofs.Skipping.{Passed}
+use Rattle.table.proofs.Passing.{Passing, pass-on, pass-one, answer-is, pass-room, pass-end, length-part, record-part, rows-part, to-end, keep-add}
 
 -- numbers written one behind the other
 written-after : (s : List ℕ) (i : ℕ) (u v : List ℕ) (j : ℕ) → j ≡ i + length u → j ≤ length s → written (written s i u) j v ≡ written s i (u ++ v)
@@ -136,7 +137,7 @@ list-end p k s out₀ had out j to at a g h n e = listed-all p k s out₀ had ou
 module _ (l s out₀ : List ℕ) (k had : ℕ) (out : List ℕ) (j to at : ℕ) (t : Stretch k s) (h : at < length s) (r : Bool)
     (a : Passing k s at (Listed (lies (queryUnder k l)) k s out₀ had out j to)) (y : r ≡ lies (queryUnder (length (take (at + k - at) (drop at s))) l) (take (at + k - at) (drop at s))) where
   long-part : length (take (at + k - at) (drop at s)) ≡ k
-  long-part = part-long s at (at + k) (omega arith) (pass-room k s at _ a t h) ∙ (let z : at + k - at ≡ k = omega arith in z)
+  long-part = length-part s at (at + k) (omega arith) (pass-room k s at _ a t h) ∙ (let z : at + k - at ≡ k = omega arith in z)
 
   pub list-found : r ≡ true → (j ≡ maxList → ⊥) → length out₀ ≡ listRoom → (out′ : List ℕ) → out′ ≡ written out to (take (at + k - at) (drop at s))
       → Passing k s (at + k) (Listed (lies (queryUnder k l)) k s out₀ had out′ (j + boolByte r) (to + boolByte r * k))
@@ -153,7 +154,7 @@ module _ (l s out₀ : List ℕ) (k had : ℕ) (out : List ℕ) (j to at : ℕ) 
   list-full e z n q =
       let b : a .i * k < n * k = omega (arith, a .at-is) in
       let c : a .i < n = lt-of-mul-lt-mul-right k b in
-      full _ k s out₀ had out j to (a .i) (a .holds) n (n - (a .i + 1)) (omega arith) (sym (tested l s k at t h r _ a y (a .i) (a .at-is)) ∙ e) z
+      full _ k s out₀ had out j to (a .i) (a .holds) n (n - (a .i + 1)) (omega arith) (sym (answer-is l s k at t h r _ a y (a .i) (a .at-is)) ∙ e) z
 
   pub list-room : (j ≡ maxList → ⊥) → length out₀ ≡ listRoom → to + length (take (at + k - at) (drop at s)) ≤ length out
   list-room m n = let w = long-part in omega (arith, out-room _ k s out₀ had out j to (a .i) (a .holds) m (t .columns .1) n)
@@ -260,7 +261,7 @@ module _ (p : Record → Bool) (k : ℕ) (s out₀ out : List ℕ) (j at : ℕ) 
       (x : (n : ℕ) → length (take (e - at) (drop at s)) ≡ n * k → c ≡ upTo (j + length (keep p (rows k n (take (e - at) (drop at s))))))
       (o : (n : ℕ) → length (take (e - at) (drop at s)) ≡ n * k → out′ ≡ written out (j * k) (flat (take (maxList - j) (keep p (rows k n (take (e - at) (drop at s))))))) where
     part-is : length (take (e - at) (drop at s)) ≡ m * k
-    part-is = part-long s at e (omega arith) h ∙ (let w : e - at ≡ m * k = omega arith in w)
+    part-is = length-part s at e (omega arith) h ∙ (let w : e - at ≡ m * k = omega arith in w)
 
     block-fits : (i : ℕ) → at ≡ i * k → m * k ≤ length (drop (i * k) s)
     block-fits i u = rw length-drop (omega arith)

@@ -15,7 +15,7 @@ use Rattle.laws.proofs.RowLaws.{slot, slot-left, rows-snoc, rows-front, keep-ro
 use Rattle.query.specs.Query.{Record, lies}
 use Rattle.columns.specs.MaskContracts.{queryUnder}
 use Rattle.rules.specs.Table.{Table}
-use Rattle.table.specs.TableContracts.{Stretch, Passed, some}
+use Rattle.table.specs.TableContracts.{Stretch, some}
 
 -- ---- where a loop stands: before record i, or behind the last; P says what holds of the records before it
 pub record Passing (k : ℕ) (s : List ℕ) (at : ℕ) (P : ℕ → Type 0) : Type 0 where
@@ -24,7 +24,7 @@ pub record Passing (k : ℕ) (s : List ℕ) (at : ℕ) (P : ℕ → Type 0) : Ty
   pub within : at ≤ length s
   pub holds : P i
 
-same-count : (n k i : ℕ) → 1 ≤ k → i * k ≡ n * k → i ≡ n
+pub same-count : (n k i : ℕ) → 1 ≤ k → i * k ≡ n * k → i ≡ n
 same-count n k i g e =
     let x : i * k ≤ n * k = omega arith in
     let y : n * k ≤ i * k = omega arith in
@@ -53,8 +53,8 @@ module _ (k : ℕ) (s : List ℕ) (at : ℕ) (P : ℕ → Type 0) (a : Passing k
   pass-few h = let x : a .i * 1 ≤ a .i * k = mul-le-mul-left (a .i) h in omega (arith, a .at-is)
 
 -- ---- a part of a stretch
-pub part-long : (s : List ℕ) (at e : ℕ) → at ≤ e → e ≤ length s → length (take (e - at) (drop at s)) ≡ e - at
-part-long s at e h g = length-take-le (e - at) (drop at s) (rw length-drop (omega arith))
+pub length-part : (s : List ℕ) (at e : ℕ) → at ≤ e → e ≤ length s → length (take (e - at) (drop at s)) ≡ e - at
+length-part s at e h g = length-take-le (e - at) (drop at s) (rw length-drop (omega arith))
 
 -- m records from the place of record i on
 module _ (k : ℕ) (s : List ℕ) (i at : ℕ) (x : at ≡ i * k) where
@@ -75,7 +75,7 @@ stretch-few k s t =
 -- a part of m records is a stretch
 pub stretch-part : (k : ℕ) (s : List ℕ) (at e m : ℕ) → Stretch k s → at ≤ e → e ≤ length s → e ≡ at + m * k → Stretch k (take (e - at) (drop at s))
 stretch-part k s at e m t h g y =
-    let l : length (take (e - at) (drop at s)) ≡ e - at = part-long s at e h g in
+    let l : length (take (e - at) (drop at s)) ≡ e - at = length-part s at e h g in
     let w : m * k ≤ t .n * k = omega (arith, t .whole) in
     record {
       columns = t .columns;
@@ -95,7 +95,7 @@ pub stretch-rest : (k : ℕ) (s : List ℕ) (at : ℕ) (P : ℕ → Type 0) → 
 stretch-rest k s at P t a = stretch-part k s at (length s) (t .n - a .i) t (a .within) (omega arith) (to-end k s at P t a)
 
 -- ---- the records passed, and m more
-rows-add : (k i m : ℕ) (s : List ℕ) → rows k (i + m) s ≡ rows k i s ++ rows k m (drop (i * k) s)
+pub rows-add : (k i m : ℕ) (s : List ℕ) → rows k (i + m) s ≡ rows k i s ++ rows k m (drop (i * k) s)
 unfolding rows
 rows-add k zero m s = rw (zero-add, zero-mul)
 rows-add k (suc i) m s =
@@ -106,13 +106,15 @@ module _ (p : Record → Bool) where
   pub keep-add : (k i m : ℕ) (s : List ℕ) → keep p (rows k (i + m) s) ≡ keep p (rows k i s) ++ keep p (rows k m (drop (i * k) s))
   keep-add k i m s = ap (keep p) (rows-add k i m s) ∙ keep-append p (rows k i s) (rows k m (drop (i * k) s))
 
-  some-snoc : (t : Table) (x : Record) → some p (t ++ (x ∷ [])) ≡ some p t || p x
+  pub some-append : (t u : Table) → some p (t ++ u) ≡ some p t || some p u
   unfolding some
-  some-snoc [] x = or-false (p x)
-  some-snoc (y ∷ t) x = rw (some-snoc t x) (sym (or-assoc (p y) (some p t) (p x)))
+  some-append [] u = refl
+  some-append (y ∷ t) u = rw (some-append t u) (sym (or-assoc (p y) (some p t) (some p u)))
 
   some-row : (k i : ℕ) (s : List ℕ) → some p (rows k (i + 1) s) ≡ some p (rows k i s) || p (take k (drop (i * k) s))
-  some-row k i s = ap (some p) (rows-snoc k i s) ∙ some-snoc (rows k i s) (take k (drop (i * k) s))
+  unfolding some
+  some-row k i s =
+      ap (some p) (rows-snoc k i s) ∙ some-append (rows k i s) (take k (drop (i * k) s) ∷ []) ∙ ap (λ (b : Bool). some p (rows k i s) || b) (or-false (p (take k (drop (i * k) s))))
 
   pub none-kept : (t : Table) → some p t ≡ false → keep p t ≡ []
   unfolding some keep
@@ -146,14 +148,14 @@ module _ (l s : List ℕ) (k at : ℕ) (t : Stretch k s) (h : at < length s) (r 
   p = lies (queryUnder k l)
 
   module _ (P : ℕ → Type 0) (a : Passing k s at P) (x : r ≡ lies (queryUnder (length part) l) part) where
-    pub tested : (i : ℕ) → at ≡ i * k → r ≡ p (take k (drop (i * k) s))
-    tested i e =
+    pub answer-is : (i : ℕ) → at ≡ i * k → r ≡ p (take k (drop (i * k) s))
+    answer-is i e =
         let g : at + k ≤ length s = pass-room k s at P a t h in
-        let w : length part ≡ k = part-long s at (at + k) (omega arith) g ∙ (let z : at + k - at ≡ k = omega arith in z) in
+        let w : length part ≡ k = length-part s at (at + k) (omega arith) g ∙ (let z : at + k - at ≡ k = omega arith in z) in
         x ∙ rw w (ap p (record-part k s i at e))
 
     pub pass-one : (Q : ℕ → Type 0) → ((i : ℕ) → at ≡ i * k → r ≡ p (take k (drop (i * k) s)) → P i → Q (i + 1)) → Passing k s (at + k) Q
-    pass-one Q f = pass-on k s at P a Q 1 (at + k) (omega (arith, one-mul k)) (pass-room k s at P a t h) (λ i e y. f i e (tested i e) y)
+    pass-one Q f = pass-on k s at P a Q 1 (at + k) (omega (arith, one-mul k)) (pass-room k s at P a t h) (λ i e y. f i e (answer-is i e) y)
 
   pub some-turn : (b : Bool) (a : Passing k s at (λ i. b ≡ some p (rows k i s))) → r ≡ lies (queryUnder (length part) l) part
       → Passing k s (at + k) (λ i. b || r ≡ some p (rows k i s))
@@ -162,42 +164,3 @@ module _ (l s : List ℕ) (k at : ℕ) (t : Stretch k s) (h : at < length s) (r 
   pub count-turn : (j : ℕ) → Passing k s at (λ i. (j ≤ i) × (j ≡ length (keep p (rows k i s)))) → r ≡ lies (queryUnder (length part) l) part
       → Passing k s (at + k) (λ i. (j + boolByte r ≤ i) × (j + boolByte r ≡ length (keep p (rows k i s))))
   count-turn j a x = pass-one _ a x _ (λ i _ e y. (omega (arith, bit-most r, y .0), ap (λ (n : ℕ). n + boolByte r) (y .1) ∙ sym (kept-more p k i s r e)))
-
--- ---- blocks of `size` records
-pub block-wide : (size k : ℕ) → (1 ≤ size) × (size ≤ 16) → (1 ≤ k) × (k ≤ 4) → (1 ≤ size * k) × (size * k ≤ 64)
-block-wide size k a b =
-    let x : size * 1 ≤ size * k = mul-le-mul-left size (b .0) in
-    let y : size * k ≤ size * 4 = mul-le-mul-left size (b .1) in
-    (omega arith, omega arith)
-
-module _ (p : Record → Bool) (k : ℕ) (s : List ℕ) (at : ℕ) where
-  -- a block without a record that passes
-  pub skip-turn : Stretch k s → Passing k s at (λ i. keep p (rows k i s) ≡ []) → (m e : ℕ) → e ≡ at + m * k → e ≤ length s → (r : Bool)
-      → ((n : ℕ) → length (take (e - at) (drop at s)) ≡ n * k → r ≡ some p (rows k n (take (e - at) (drop at s)))) → r ≡ false
-      → Passing k s e (λ i. keep p (rows k i s) ≡ [])
-  skip-turn t a m e y h r f z =
-      let l : length (take (e - at) (drop at s)) ≡ m * k = part-long s at e (omega arith) h ∙ (let w : e - at ≡ m * k = omega arith in w) in
-      let g : keep p (rows k m (take (e - at) (drop at s))) ≡ [] = none-kept p _ (sym (f m l) ∙ z) in
-      pass-on k s at _ a _ m e y h (λ i x n. keep-add p k i m s ∙ rw n (ap (keep p) (sym (rows-part k s i at x m e y h)) ∙ g))
-
-  pub skipped : Passing k s at (λ i. keep p (rows k i s) ≡ []) → Passed p k s at
-  skipped a = record { i = a .i; at-is = a .at-is; within = a .within; none = a .holds }
-
-  abbrev passing : Passed p k s at → Passing k s at (λ i. keep p (rows k i s) ≡ [])
-  passing b = record { i = b .i; at-is = b .at-is; within = b .within; holds = b .none }
-
-  pub stretch-behind : Stretch k s → Passed p k s at → Stretch k (take (length s - at) (drop at s))
-  stretch-behind t b = stretch-rest k s at _ t (passing b)
-
-  -- what is kept stands behind the records passed
-  pub kept-behind : Stretch k s → Passed p k s at → (c : ℕ)
-      → ((n : ℕ) → length (take (length s - at) (drop at s)) ≡ n * k → c ≡ length (keep p (rows k n (take (length s - at) (drop at s)))))
-      → (n : ℕ) → length s ≡ n * k → c ≡ length (keep p (rows k n s))
-  kept-behind t b c f n e =
-      let m : ℕ = t .n - b .i in
-      let y : length s ≡ at + m * k = to-end k s at _ t (passing b) in
-      let l : length (take (length s - at) (drop at s)) ≡ m * k = part-long s at (length s) (b .within) (omega arith) ∙ (let w : length s - at ≡ m * k = omega arith in w) in
-      let z : at + m * k ≡ n * k = sym y ∙ e in
-      let v : keep p (rows k (b .i + m) s) ≡ keep p (rows k m (drop (b .i * k) s)) = keep-add p k (b .i) m s ∙ rw (b .none) in
-      let u : b .i + m ≡ n = same-count n k (b .i + m) (t .columns .0) (omega (arith, add-mul (b .i) m k, b .at-is)) in
-      f m l ∙ ap (λ (r : Table). length (keep p r)) (rows-part k s (b .i) at (b .at-is) m (length s) y (omega arith)) ∙ ap length (sym v) ∙ ap (λ (i : ℕ). length (keep p (rows k i s))) u

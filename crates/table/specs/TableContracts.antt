@@ -48,13 +48,6 @@ unfoldable pub some : (Record → Bool) → Table → Bool
 some p [] = false
 some p (x ∷ t) = p x || some p t
 
--- the place `at` of a stretch is that of a record or the end, and no record before it passes the test
-pub record Passed (p : Record → Bool) (k : ℕ) (s : List ℕ) (at : ℕ) : Type 0 where
-  pub i : ℕ
-  pub at-is : at ≡ i * k
-  pub within : at ≤ length s
-  pub none : keep p (rows k i s) ≡ []
-
 -- where a record belongs: it is there, or it goes before the first greater one
 unfoldable pub spotOf : Record → Table → Spot
 spotOf r t = cond (has r t) There (At (place (before r) t))

@@ -4,13 +4,13 @@ use hall::Hall;
 ghost use mathlib.Core.Path.{_≡_};
 ghost use mathlib.Core.Bool.{cond};
 ghost use lib.Dec.{ltb};
-ghost use Prim.Native.Nat.{ℕ, _+_, _-_, _*_, _≤_};
+ghost use Prim.Native.Nat.{ℕ, _+_, _-_, _*_, _/_, _≤_};
 ghost use lib.ListN.{length, take};
-ghost use Rattle.lists.specs.Lists.{written, flat, rows};
+ghost use Rattle.lists.specs.Lists.{written, flat, place, rows};
 ghost use Rattle.query.specs.Query.{lies};
 ghost use Rattle.columns.specs.MaskContracts.{Masked, queryUnder};
 ghost use Rattle.rules.specs.Layout.{maxList, listRoom};
-ghost use Rattle.table.specs.TableContracts.{Stretch, Passed, some, fitting, upTo};
+ghost use Rattle.table.specs.TableContracts.{Stretch, some, fitting, upTo};
 use columns::masks;
 
 const LIST: usize = Hall::LIST as usize;
@@ -50,7 +50,7 @@ pub fn count_in(recs: &[u32], k: usize, query: &[u32]) -> u32
 // Passes blocks of `size` records until one has a record in the query's subspace, or no whole one is left, and says where it stands then.
 fn skip(recs: &[u32], k: usize, size: usize, query: &[u32]) -> usize
     requires { ⌜ Stretch k (now recs) × (Masked (now query) × ((1 ≤ size) × (size ≤ 16))) ⌝ }
-    ensures { λ r. ⌜ Passed (lies (queryUnder k (now (query .entry)))) k (now (recs .entry)) r ⌝ }
+    ensures { λ r. ⌜ ((n : ℕ) → length (now (recs .entry)) ≡ n * k → r ≡ place (lies (queryUnder k (now (query .entry)))) (rows k n (now (recs .entry))) / size * size * k) ⌝ }
 {
     let width = size * k;
     let mut at = 0;

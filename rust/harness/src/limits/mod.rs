@@ -1,13 +1,14 @@
 //! Both sides of every limit of document 01, of S-1 in document 02 and of every least length, as rows: a scene, a call, and what the
 //! documents have for it, with the words that give it. Library and twin are each held to that; neither is judged by the other, though their
 //! memories are compared too.
-//! scene: scenes and calls; memories, clients, arguments, steps, counts, nodes: the rows. Leans on call, hall and side.
+//! scene: scenes and calls; memories, clients, arguments, steps, counts, nodes, passes: the rows. Leans on call, hall and side.
 
 mod arguments;
 mod clients;
 mod counts;
 mod memories;
 mod nodes;
+mod passes;
 mod scene;
 mod steps;
 
@@ -159,6 +160,7 @@ pub fn rows() -> Vec<Row> {
     ];
     for k in 1..=4 {
         parts.iter().flatten().for_each(|part| part(&mut rows, k));
+        passes::places(&mut rows, k);
     }
     let exact: Vec<Row> = rows.iter().filter(|row| row.lent == MORE).map(|row| row.clone().lent(LEAST)).collect();
     rows.extend(exact);

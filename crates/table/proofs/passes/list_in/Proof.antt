@@ -6,7 +6,8 @@ use lib.ListN.{length}
 use borrow.Author.Needs.{needs}
 use Rattle.query.specs.Query.{lies}
 use Rattle.columns.specs.MaskContracts.{queryUnder}
-use Rattle.table.proofs.Passing.{Passing, pass-start, stretch-few, stretch-part, stretch-rest, block-wide}
+use Rattle.table.proofs.Passing.{Passing, pass-start, stretch-few, stretch-part, stretch-rest}
+use Rattle.table.proofs.Skipping.{block-wide, skip-passed}
 use Rattle.table.proofs.Listing.{Listed, listed-none, blocks-skip, block-end, block-less, blocks-on, blocks-full, blocks-all}
 use Rattle.table.proofs.passes.list_in.Statement.{statement}
 use Rattle.table.proofs.passes.list_in.Tie as tie
@@ -33,7 +34,9 @@ wide c = block-wide _ _ (c .pre .1 .1 .0, c .pre .1 .1 .1 .0) (c .pre .0 .column
 -- behind the blocks that have none, and where the next ends
 passed : (c : tie.After-skip Inv-loop μ-loop) → let a = start (at-loop c) .args in let l = at-loop c .loop in
     Passing (a .k) (a .recs .now) (l .from + c .skip .result) (Listed (lies (queryUnder (a .k) (a .query .now))) (a .k) (a .recs .now) (a .out .now) 0 (l .out) (l .j) (l .j * a .k))
-passed c = blocks-skip _ _ _ _ _ _ _ (at-loop c .loop .inv) _ (c .skip .ensures)
+passed c =
+    let l = at-loop c in
+    blocks-skip _ _ _ _ _ _ _ (l .loop .inv) _ (skip-passed _ _ _ _ (stretch-rest _ _ _ _ (start l .pre .0) (l .loop .inv)) _ (c .skip .ensures))
 
 ended : (c : tie.After-least Inv-loop μ-loop) → let a = start (at-loop (c .before)) .args in let at = at-loop (c .before) .loop .from + c .before .skip .result in
     (m : ℕ) × (c .least .result ≡ at + m * a .k) × (at ≤ c .least .result) × (c .least .result ≤ length (a .recs .now))
@@ -61,7 +64,7 @@ skip-requires c κs =
     (stretch-rest _ _ _ _ (f .0) (l .loop .inv), (f .1 .0, (f .1 .1 .0, f .1 .1 .1 .0)))
 
 add-at : tie.Need-add-at Inv-loop μ-loop
-add-at c = search needs
+add-at c = omega (arith, passed c .within, stretch-few _ _ (start (at-loop c) .pre .0))
 
 mul-least : tie.Need-mul-least Inv-loop μ-loop
 mul-least c = omega (arith, wide (start (at-loop c)) .1)
@@ -73,7 +76,7 @@ least-requires : tie.Need-least-requires Inv-loop μ-loop
 least-requires c κs = search needs
 
 mul-list-block : tie.Need-mul-list-block Inv-loop μ-loop
-mul-list-block c = search needs
+mul-list-block c = omega (arith, passed (c .before) .within, stretch-few _ _ (start (at-loop (c .before)) .pre .0))
 
 sub-list-block : tie.Need-sub-list-block Inv-loop μ-loop
 sub-list-block c = ended c .2

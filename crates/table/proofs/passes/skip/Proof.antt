@@ -1,19 +1,18 @@
 -- `table::passes::skip` meets its contract. Invariant: no record passed lies in the subspace. Assumes nothing.
-use mathlib.Core.Path.{_≡_, refl}
-use mathlib.Core.List.{[]}
+use mathlib.Core.Path.{refl}
 use Prim.Native.Nat.{_-_, _*_, _≤_}
 use native.Mathlib.Omega.{arith}
 use lib.ListN.{length}
 use borrow.Author.Needs.{needs}
-use Rattle.lists.specs.Lists.{rows, keep}
 use Rattle.query.specs.Query.{lies}
 use Rattle.columns.specs.MaskContracts.{queryUnder}
-use Rattle.table.proofs.Passing.{Passing, pass-start, stretch-few, stretch-part, block-wide, skip-turn, skipped}
+use Rattle.table.proofs.Passing.{Passing, stretch-few, stretch-part}
+use Rattle.table.proofs.Skipping.{block-wide, Blocks, blocks-none, skip-turn, skip-found, skip-end}
 use Rattle.table.proofs.passes.skip.Statement.{statement}
 use Rattle.table.proofs.passes.skip.Tie as tie
 
 abbrev Inv-loop : tie.InvT-loop
-Inv-loop recs k size query width at₀ at = Passing k recs at (λ i. keep (lies (queryUnder k query)) (rows k i recs) ≡ [])
+Inv-loop recs k size query width at₀ at = Passing k recs at (Blocks (lies (queryUnder k query)) k recs size)
 
 abbrev μ-loop : tie.MeasureT-loop
 μ-loop recs k size query width at₀ at = length recs - at
@@ -32,8 +31,7 @@ mul-width : tie.Need-mul-width Inv-loop μ-loop
 mul-width c = omega (arith, wide (c .before .before) .1)
 
 loop-holds : tie.Need-loop-holds Inv-loop μ-loop
-unfolding keep rows
-loop-holds c = pass-start _ _ _ refl
+loop-holds c = blocks-none _ _ _ _
 
 add-loop : tie.Need-add-loop Inv-loop μ-loop
 add-loop c = omega (arith, few c, wide (start c) .1)
@@ -59,7 +57,9 @@ some-in-requires c κs =
     (stretch-part _ _ _ _ _ (start l .pre .0) (search needs) (c .before .loop-test .taken) refl, start l .pre .1 .0)
 
 returns : tie.Need-returns Inv-loop μ-loop
-returns c = skipped _ _ _ _ (c .before .before .before .before .loop .inv)
+returns c =
+    let l = c .before .before .before .before in
+    skip-found _ _ _ _ _ (l .loop .inv) _ refl (c .before .before .before .loop-test .taken) _ (c .before .some-in .ensures) (c .if1 .taken) (start l .pre .0 .columns .0)
 
 loop-less : tie.Need-loop-less Inv-loop μ-loop
 loop-less c = omega (arith, wide (start (c .before .before .before .before)) .0, c .before .before .before .loop-test .taken)
@@ -67,10 +67,10 @@ loop-less c = omega (arith, wide (start (c .before .before .before .before)) .0,
 loop-again : tie.Need-loop-again Inv-loop μ-loop
 loop-again c =
     let l = c .before .before .before .before in
-    skip-turn _ _ _ _ (start l .pre .0) (l .loop .inv) _ _ refl (c .before .before .before .loop-test .taken) _ (c .before .some-in .ensures) (c .if1 .left)
+    skip-turn _ _ _ _ _ (l .loop .inv) _ refl (c .before .before .before .loop-test .taken) _ (c .before .some-in .ensures) (c .if1 .left)
 
 returns-2 : tie.Need-returns-2 Inv-loop μ-loop
-returns-2 c = skipped _ _ _ _ (c .before .loop .inv)
+returns-2 c = skip-end _ _ _ _ _ (c .before .loop .inv) (c .loop-test .left) (start (c .before) .pre .0 .columns .0)
 
 pub skip-spec : {M : Type 1} → statement M
 skip-spec =
