@@ -58,22 +58,23 @@ static mondzafeky_reply reply_of(uint32_t number, uint32_t ending)
 
 static void check_words(void)
 {
-    static const char *const words[14] = {
-        "accepted", "short", "columns", "unsound", "no desk", "taken", "idle",
-        "committed", "no entry", "marked", "worn", "occupied", "long", "full"};
+    static const char *const words[15] = {
+        "accepted", "short", "columns", "unsound", "no desk", "taken", "idle", "committed",
+        "no entry", "marked", "worn", "occupied", "long", "full", "reversed"};
     uint32_t number, other, ending;
-    for (number = 0; number <= 13; number++) {
+    for (number = 0; number <= 14; number++) {
         const char *sentence = mondzafeky_sentence(number);
         const size_t length = strlen(sentence);
         CHECK(strcmp(mondzafeky_name(number), words[number]) == 0);
         /* one sentence: one full stop, at its end */
         CHECK(length > 20 && strchr(sentence, '.') == sentence + length - 1);
-        CHECK(strcmp(sentence, mondzafeky_sentence(14)) != 0);
+        CHECK(strcmp(sentence, mondzafeky_sentence(15)) != 0);
         for (other = 0; other < number; other++) {
             CHECK(strcmp(sentence, mondzafeky_sentence(other)) != 0);
         }
-        CHECK(mondzafeky_refused(reply_of(number, NOTHING)) == (number >= 1 && number <= 11));
         CHECK(mondzafeky_ended(reply_of(number, NOTHING)) == (number == 12 || number == 13));
+        CHECK(mondzafeky_refused(reply_of(number, NOTHING))
+              == (number != 0 && !mondzafeky_ended(reply_of(number, NOTHING))));
     }
     for (ending = MONDZAFEKY_FROM_FILE; ending <= MONDZAFEKY_UNCHANGED; ending++) {
         CHECK(mondzafeky_ended(reply_of(ACCEPTED, ending)));
@@ -81,9 +82,10 @@ static void check_words(void)
     }
     CHECK(strstr(mondzafeky_sentence(MONDZAFEKY_WORN), "floor") != NULL);
     CHECK(strstr(mondzafeky_sentence(MONDZAFEKY_WORN), "4,294,967,103") != NULL);
-    CHECK(strcmp(mondzafeky_name(14), "unknown") == 0);
+    CHECK(!mondzafeky_refused(reply_of(15, NOTHING)));
+    CHECK(strcmp(mondzafeky_name(15), "unknown") == 0);
     CHECK(strcmp(mondzafeky_name(UINT32_MAX), "unknown") == 0);
-    CHECK(strcmp(mondzafeky_sentence(UINT32_MAX), mondzafeky_sentence(14)) == 0);
+    CHECK(strcmp(mondzafeky_sentence(UINT32_MAX), mondzafeky_sentence(15)) == 0);
     CHECK(strcmp(MONDZAFEKY_VERSION, "0.1.0") == 0);
 }
 
@@ -108,6 +110,11 @@ static void check_unopened(mondzafeky_hall *hall)
     /* no columns are as many as an unopened hall has */
     REPLIES(mondzafeky_hall_begin_read(hall, 0, query, 0), MONDZAFEKY_UNSOUND, 0, NOTHING);
     REPLIES(mondzafeky_hall_begin_count(hall, 0, query, 0), MONDZAFEKY_UNSOUND, 0, NOTHING);
+    /* but no column is below their number; 2 goes before 14 */
+    REPLIES(mondzafeky_hall_begin_read_within(hall, 0, query, 0, 0, 4, 9), MONDZAFEKY_COLUMNS, 0,
+            NOTHING);
+    REPLIES(mondzafeky_hall_begin_count_within(hall, 0, query, 0, 0, 9, 4), MONDZAFEKY_COLUMNS, 0,
+            NOTHING);
     REPLIES(mondzafeky_hall_step(hall, 0), MONDZAFEKY_UNSOUND, 0, NOTHING);
     REPLIES(mondzafeky_run(hall, 0), MONDZAFEKY_UNSOUND, 0, NOTHING);
     REPLIES(mondzafeky_hall_abandon(hall, 0), MONDZAFEKY_UNSOUND, 0, NOTHING);
@@ -146,6 +153,35 @@ static void agree(
     AGREE(mondzafeky_hall_step(hall, client), \
           mondzafeky_step(MEMORIES(&low), low.tray, MONDZAFEKY_TRAY_LEAST, client))
 
+/* Ranges, in the hall of check_handed_on: the three numbers could not be exchanged unseen. */
+static void check_ranges_handed_on(mondzafeky_hall *hall)
+{
+    const mondzafeky_column query[3] = {mondzafeky_is(3), mondzafeky_star(), mondzafeky_is(9)};
+    const uint32_t numbers[6] = {1, 3, 0, 0, 1, 9};
+    AGREE(mondzafeky_hall_begin_read_within(hall, 8, query, 3, 1, 4, 9),
+          mondzafeky_begin_read_within(MEMORIES(&low), 8, numbers, 6, 1, 4, 9));
+    AGREE(mondzafeky_hall_begin_count_within(hall, 9, query, 3, 1, 4, 9),
+          mondzafeky_begin_count_within(MEMORIES(&low), 9, numbers, 6, 1, 4, 9));
+    /* docs/LAYOUT.md: marks of columns 0 and 2, 64 for a range in column 1, 16 for a count */
+    CHECK(hall->clients[8 + 8 * 157 + 5] == 69 && hall->clients[8 + 9 * 157 + 5] == 85);
+    CHECK(hall->clients[8 + 8 * 157 + 10] == 4 && hall->clients[8 + 8 * 157 + 11] == 9);
+    CHECK(hall->clients[8 + 9 * 157 + 10] == 4 && hall->clients[8 + 9 * 157 + 11] == 9);
+    REPLIES(mondzafeky_run(hall, 8), ACCEPTED, 1, MONDZAFEKY_FROM_TABLE);
+    REPLIES(mondzafeky_run(hall, 9), ACCEPTED, 1, MONDZAFEKY_FROM_TABLE);
+    REPLIES(mondzafeky_run(&low, 8), ACCEPTED, 1, MONDZAFEKY_FROM_TABLE);
+    REPLIES(mondzafeky_run(&low, 9), ACCEPTED, 1, MONDZAFEKY_FROM_TABLE);
+    CHECK(same(hall, &low));
+}
+
+/* Abandoning, putting out and renewing in that hall, a delete being under way at desk 2. */
+static void check_upkeep_handed_on(mondzafeky_hall *hall)
+{
+    AGREE(mondzafeky_hall_abandon(hall, 2), mondzafeky_abandon(MEMORIES(&low), 2));
+    AGREE(mondzafeky_hall_evict_answer(hall, 0), mondzafeky_evict_answer(MEMORIES(&low), 0));
+    AGREE(mondzafeky_hall_evict_node(hall, 1), mondzafeky_evict_node(MEMORIES(&low), 1));
+    AGREE(mondzafeky_hall_renew(hall), mondzafeky_renew(MEMORIES(&low)));
+}
+
 static void check_handed_on(mondzafeky_hall *hall)
 {
     /* three columns, two of them named: mark and value could not be exchanged unseen */
@@ -172,6 +208,7 @@ static void check_handed_on(mondzafeky_hall *hall)
         AGREE_STEP(4);
         AGREE_STEP(6);
     }
+    check_ranges_handed_on(hall);
     AGREE(mondzafeky_hall_begin_read(hall, 0, query, 3),
           mondzafeky_begin_read(MEMORIES(&low), 0, query_numbers, 6));
     for (i = 0; i < 8; i++) {
@@ -180,10 +217,7 @@ static void check_handed_on(mondzafeky_hall *hall)
     AGREE(mondzafeky_hall_begin_delete(hall, 2, query, 3),
           mondzafeky_begin_delete(MEMORIES(&low), 2, query_numbers, 6));
     AGREE_STEP(2);
-    AGREE(mondzafeky_hall_abandon(hall, 2), mondzafeky_abandon(MEMORIES(&low), 2));
-    AGREE(mondzafeky_hall_evict_answer(hall, 0), mondzafeky_evict_answer(MEMORIES(&low), 0));
-    AGREE(mondzafeky_hall_evict_node(hall, 1), mondzafeky_evict_node(MEMORIES(&low), 1));
-    AGREE(mondzafeky_hall_renew(hall), mondzafeky_renew(MEMORIES(&low)));
+    check_upkeep_handed_on(hall);
     CHECK(mondzafeky_records(hall) == 1);
 }
 
@@ -262,6 +296,91 @@ static void check_ends(mondzafeky_hall *hall)
     REPLIES(write_of(hall, 0, 1, 7, 0), ACCEPTED, 0, MONDZAFEKY_UNCHANGED);
 }
 
+/* Desk 10 reads what has this value in the first column, and lowest to highest in the second. */
+static mondzafeky_reply read_within(
+    mondzafeky_hall *hall, uint32_t first, uint32_t lowest, uint32_t highest)
+{
+    const mondzafeky_column query[2] = {mondzafeky_is(first), mondzafeky_star()};
+    REPLIES(mondzafeky_hall_begin_read_within(hall, 10, query, 2, 1, lowest, highest), ACCEPTED, 0,
+            NOTHING);
+    CHECK(mondzafeky_work(hall, 10) == 1 && !mondzafeky_counts(hall, 10));
+    return mondzafeky_run(hall, 10);
+}
+
+/* Desk 10 counts the same, and leaves the tray as it was. */
+static mondzafeky_reply count_within(
+    mondzafeky_hall *hall, uint32_t first, uint32_t lowest, uint32_t highest)
+{
+    const mondzafeky_column query[2] = {mondzafeky_is(first), mondzafeky_star()};
+    static uint32_t tray[MONDZAFEKY_TRAY_LEAST];
+    mondzafeky_reply reply;
+    memcpy(tray, hall->tray, sizeof tray);
+    REPLIES(mondzafeky_hall_begin_count_within(hall, 10, query, 2, 1, lowest, highest), ACCEPTED,
+            0, NOTHING);
+    CHECK(mondzafeky_work(hall, 10) == 1 && mondzafeky_counts(hall, 10));
+    reply = mondzafeky_run(hall, 10);
+    CHECK(memcmp(hall->tray, tray, sizeof tray) == 0);
+    return reply;
+}
+
+/*
+ * Ranges in the hall that check_ends leaves: the records are (3, 41), (7, 0 to 31) and (8, 33 to
+ * 2,047).
+ */
+static void check_ranges(mondzafeky_hall *hall)
+{
+    REPLIES(mondzafeky_hall_renew(hall), ACCEPTED, 0, NOTHING);
+    REPLIES(read_within(hall, 7, 4, 9), ACCEPTED, 6, MONDZAFEKY_FROM_TABLE);
+    CHECK(mondzafeky_record(hall, 0)[1] == 4 && mondzafeky_record(hall, 5)[1] == 9);
+    REPLIES(read_within(hall, 7, 4, 9), ACCEPTED, 6, MONDZAFEKY_FROM_FILE);
+    REPLIES(count_within(hall, 7, 4, 9), ACCEPTED, 6, MONDZAFEKY_FROM_TABLE);
+    REPLIES(count_within(hall, 7, 4, 9), ACCEPTED, 6, MONDZAFEKY_FROM_FILE);
+    /* another range, in the other column too, is another question */
+    REPLIES(read_within(hall, 7, 4, 8), ACCEPTED, 5, MONDZAFEKY_FROM_TABLE);
+    REPLIES(read_within(hall, 7, 5, 9), ACCEPTED, 5, MONDZAFEKY_FROM_TABLE);
+    REPLIES(read_within(hall, 8, 4, 9), ACCEPTED, 0, MONDZAFEKY_FROM_TABLE);
+    /* on both sides of 32 records, and up to the largest value */
+    REPLIES(read_within(hall, 8, 33, 64), ACCEPTED, 32, MONDZAFEKY_FROM_TABLE);
+    REPLIES(read_within(hall, 8, 33, 65), MONDZAFEKY_LONG, 0, NOTHING);
+    REPLIES(count_within(hall, 8, 33, 65), ACCEPTED, 33, MONDZAFEKY_FROM_TABLE);
+    REPLIES(count_within(hall, 8, 2047, UINT32_MAX), ACCEPTED, 1, MONDZAFEKY_FROM_TABLE);
+    REPLIES(count_within(hall, 8, 2048, UINT32_MAX), ACCEPTED, 0, MONDZAFEKY_FROM_TABLE);
+    /* a write outside the range that meets the query spoils what is filed, and no more */
+    REPLIES(write_of(hall, 0, 0, 7, 20), ACCEPTED, 0, MONDZAFEKY_CHANGED);
+    REPLIES(read_within(hall, 7, 4, 9), ACCEPTED, 6, MONDZAFEKY_FROM_TABLE);
+    REPLIES(write_of(hall, 0, 1, 7, 20), ACCEPTED, 0, MONDZAFEKY_CHANGED);
+    REPLIES(write_of(hall, 0, 0, 8, 34), ACCEPTED, 0, MONDZAFEKY_CHANGED);
+    REPLIES(count_within(hall, 8, 33, 65), ACCEPTED, 32, MONDZAFEKY_FROM_TABLE);
+    REPLIES(write_of(hall, 0, 1, 8, 34), ACCEPTED, 0, MONDZAFEKY_CHANGED);
+}
+
+/*
+ * The same hall: a range that holds every value is not the plain read, and one with equal ends is
+ * not the named value; neither serves the other.
+ */
+static void check_ranges_beside_plain(mondzafeky_hall *hall)
+{
+    const mondzafeky_column all[2] = {mondzafeky_star(), mondzafeky_star()};
+    const mondzafeky_column five[2] = {mondzafeky_is(7), mondzafeky_is(5)};
+    REPLIES(mondzafeky_hall_renew(hall), ACCEPTED, 0, NOTHING);
+    REPLIES(read_of(hall, 1, 7), ACCEPTED, 32, MONDZAFEKY_FROM_TABLE);
+    REPLIES(read_within(hall, 7, 0, UINT32_MAX), ACCEPTED, 32, MONDZAFEKY_FROM_TABLE);
+    REPLIES(mondzafeky_hall_begin_read(hall, 1, five, 2), ACCEPTED, 0, NOTHING);
+    REPLIES(mondzafeky_run(hall, 1), ACCEPTED, 1, MONDZAFEKY_FROM_TABLE);
+    REPLIES(read_within(hall, 7, 5, 5), ACCEPTED, 1, MONDZAFEKY_FROM_TABLE);
+    CHECK(mondzafeky_record(hall, 0)[0] == 7 && mondzafeky_record(hall, 0)[1] == 5);
+    CHECK(mondzafeky_answers(hall) == 4);
+    REPLIES(read_of(hall, 1, 7), ACCEPTED, 32, MONDZAFEKY_FROM_FILE);
+    REPLIES(read_within(hall, 7, 5, 5), ACCEPTED, 1, MONDZAFEKY_FROM_FILE);
+    /* benches 3 to 7, no column named: one look, the fetch, the table, the filing */
+    REPLIES(mondzafeky_hall_begin_count_within(hall, 1, all, 2, 0, 3, 7), ACCEPTED, 0, NOTHING);
+    steps(hall, 1, 3);
+    REPLIES(mondzafeky_hall_step(hall, 1), ACCEPTED, 33, MONDZAFEKY_FROM_TABLE);
+    REPLIES(mondzafeky_hall_begin_read_within(hall, 1, all, 2, 0, 3, 6), ACCEPTED, 0, NOTHING);
+    REPLIES(mondzafeky_run(hall, 1), ACCEPTED, 1, MONDZAFEKY_FROM_TABLE);
+    CHECK(mondzafeky_record(hall, 0)[0] == 3 && mondzafeky_record(hall, 0)[1] == 41);
+}
+
 /* A whole count at desk 9, which makes so many steps and leaves the tray as it was. */
 static mondzafeky_reply count_of(
     mondzafeky_hall *hall, const mondzafeky_column *query, int made)
@@ -326,6 +445,43 @@ static void check_count_refusals(mondzafeky_hall *hall)
     REPLIES(mondzafeky_hall_abandon(hall, 2), ACCEPTED, 0, NOTHING);
 }
 
+/* Fails unless both begins with this range reply with this number. */
+#define WITHIN_REFUSED(client, query, column, lowest, highest, number) \
+    do { \
+        REPLIES(mondzafeky_hall_begin_read_within( \
+                    hall, client, query, 2, column, lowest, highest), number, 0, NOTHING); \
+        REPLIES(mondzafeky_hall_begin_count_within( \
+                    hall, client, query, 2, column, lowest, highest), number, 0, NOTHING); \
+    } while (0)
+
+/* Those of ranges, at the hall of check_refusals, in which desk 0 is busy. */
+static void check_range_refusals(mondzafeky_hall *hall)
+{
+    static const uint32_t numbers[4] = {1, 1, 0, 0};
+    const mondzafeky_column query[2] = {mondzafeky_is(1), mondzafeky_star()};
+    const mondzafeky_column wrong[2] = {mondzafeky_is(1), {0, 1}};
+    REPLIES(mondzafeky_begin_read_within(hall->table, MONDZAFEKY_TABLE_LEAST, hall->nodes,
+                                         MONDZAFEKY_NODES_LEAST - 1, hall->answers,
+                                         MONDZAFEKY_ANSWERS_LEAST, hall->clients,
+                                         MONDZAFEKY_CLIENTS_LEAST, 2, numbers, 4, 1, 9, 4),
+            MONDZAFEKY_SHORT, 0, NOTHING);
+    REPLIES(mondzafeky_hall_begin_count_within(hall, 2, query, 1, 0, 4, 9), MONDZAFEKY_COLUMNS, 0,
+            NOTHING);
+    /* a column that is named too, one past the last, a star with a value; reversed or not */
+    WITHIN_REFUSED(2, query, 0, 4, 9, MONDZAFEKY_COLUMNS);
+    WITHIN_REFUSED(2, query, 0, 9, 4, MONDZAFEKY_COLUMNS);
+    WITHIN_REFUSED(2, query, 2, 4, 9, MONDZAFEKY_COLUMNS);
+    WITHIN_REFUSED(2, query, UINT32_MAX, 9, 4, MONDZAFEKY_COLUMNS);
+    WITHIN_REFUSED(2, wrong, 1, 9, 4, MONDZAFEKY_COLUMNS);
+    /* 14 goes before 4 and 5 */
+    WITHIN_REFUSED(2, query, 1, 9, 8, MONDZAFEKY_REVERSED);
+    WITHIN_REFUSED(2, query, 1, UINT32_MAX, 0, MONDZAFEKY_REVERSED);
+    WITHIN_REFUSED(12, query, 1, 9, 4, MONDZAFEKY_REVERSED);
+    WITHIN_REFUSED(0, query, 1, 9, 4, MONDZAFEKY_REVERSED);
+    WITHIN_REFUSED(12, query, 1, 9, 9, MONDZAFEKY_NO_CLIENT);
+    WITHIN_REFUSED(0, query, 1, 4, 9, MONDZAFEKY_TAKEN);
+}
+
 /* 3 and 10, at the hall of check_refusals; desk 1 has been at the table, desk 0 has not. */
 static void check_unsound_and_worn(mondzafeky_hall *hall)
 {
@@ -369,6 +525,7 @@ static void check_refusals(mondzafeky_hall *hall)
     REPLIES(begin_read(hall, 12, 1), MONDZAFEKY_NO_CLIENT, 0, NOTHING);
     REPLIES(begin_read(hall, 0, 1), MONDZAFEKY_TAKEN, 0, NOTHING);
     check_count_refusals(hall);
+    check_range_refusals(hall);
     REPLIES(mondzafeky_hall_step(hall, 2), MONDZAFEKY_IDLE, 0, NOTHING);
     REPLIES(mondzafeky_hall_abandon(hall, 2), MONDZAFEKY_IDLE, 0, NOTHING);
     REPLIES(mondzafeky_hall_abandon(hall, 1), MONDZAFEKY_COMMITTED, 0, NOTHING);
@@ -471,6 +628,8 @@ static void check_hall(mondzafeky_hall *hall)
     check_unopened(hall);
     check_handed_on(hall);
     check_ends(hall);
+    check_ranges(hall);
+    check_ranges_beside_plain(hall);
     check_counts(hall);
     check_refusals(hall);
     check_inside(hall);

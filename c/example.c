@@ -2,7 +2,7 @@
  * Three desks at one table, as a model for a program in C. An answer is filed and given again; a
  * record is corrected, by a delete and an insert, step by step while other desks read; a refusal is
  * met and named; a read of too many records and an insert into a full table come to their ends; a
- * count tells how many there are.
+ * range asks for some of them; a count tells how many there are.
  * Leans on mondzafeky.h alone. The Rust example three_desks tells the same and prints the same.
  */
 #include "mondzafeky.h"
@@ -81,6 +81,15 @@ static void begin_read(uint32_t desk, uint32_t bench)
     must(mondzafeky_hall_begin_read(&hall, desk, query, K));
 }
 
+/* The settings of a bench from a lowest to a highest, both included; they are in column 1. */
+static mondzafeky_reply begin_read_within(
+    uint32_t desk, uint32_t bench, uint32_t lowest, uint32_t highest)
+{
+    const mondzafeky_column query[K] = {mondzafeky_is(bench), mondzafeky_star()};
+    printf("desk %u begins to read (%u, %u to %u)\n", desk, bench, lowest, highest);
+    return mondzafeky_hall_begin_read_within(&hall, desk, query, K, 1, lowest, highest);
+}
+
 /* How many records there are, of any bench and setting. */
 static void begin_count_all(uint32_t desk)
 {
@@ -123,10 +132,11 @@ static void fill(uint32_t bench, uint32_t count)
     printf("the table holds %u records\n", mondzafeky_records(&hall));
 }
 
-/* 12, a count, 13. */
+/* 12, a range, a count, 13. */
 static void ends(void)
 {
     const mondzafeky_column all[K] = {mondzafeky_star(), mondzafeky_star()};
+    mondzafeky_reply reversed;
     printf("-- a read of more than 32 records ends with 12: read in parts\n");
     fill(7, MONDZAFEKY_LIST);
     printf("desk 1 begins to read (*, *)\n");
@@ -134,6 +144,12 @@ static void ends(void)
     run(1);
     begin_read(1, 7);
     run(1);
+    printf("-- a range asks for settings 4 to 9 alone; one from 9 to 4 is refused\n");
+    must(begin_read_within(1, 7, 4, 9));
+    run(1);
+    reversed = begin_read_within(1, 7, 9, 4);
+    printf("  desk 1: ");
+    tell(reversed, 0);
     printf("-- a count tells how many there are, past 32 too; it is filed as a list is\n");
     begin_count_all(1);
     steps("1111");

@@ -24,20 +24,21 @@
  *     query[1] = mondzafeky_star();                      anything in the second
  *     reply = mondzafeky_hall_begin_read(&hall, 0, query, 2);
  *     if (!mondzafeky_refused(reply)) reply = mondzafeky_run(&hall, 0);
- * The inline functions over a hall hand their arguments on to the ten calls of the archive, whose
- * work is proved; they themselves are not proved. The ten calls stand before them, and take each
- * memory for itself.
+ * The inline functions over a hall hand their arguments on to the twelve calls of the archive,
+ * whose work is proved; they themselves are not proved. The twelve calls stand before them, and
+ * take each memory for itself.
  *
  * WHAT YOU OWE at a call over a hall, and this is all:
  *   - the pointer is to a hall, and all of its numbers have been set before (to anything: a static
  *     one is 0, a heap one is set by calloc, one on the stack by "= {0}", in C++ by "= {}");
  *   - a query is not NULL, has as many columns as you say, and does not lie in the hall;
  *   - no other thread uses the hall during the call: one lock around each call.
- * Desks, places, queries and the hall's contents may be anything: what does not fit is refused by a
- * number. Every call returns, allocates nothing and keeps no pointer. A call that is refused (1 to
- * 11) leaves every number of the hall as it was. A hall that was never opened (all 0) gives 2 at a
- * begin (3 if its query has no column) and 3 at every other call but opening. The answers are
- * promised for a hall that has been opened and that nothing but these calls has written into since.
+ * Desks, places, queries, ranges and the hall's contents may be anything: what does not fit is
+ * refused by a number. Every call returns, allocates nothing and keeps no pointer. A call that is
+ * refused (1 to 11, and 14) leaves every number of the hall as it was. A hall that was never opened
+ * (all 0) gives 2 at a begin (3 if its query has no column, and no range is given) and 3 at every
+ * other call but opening. The answers are promised for a hall that has been opened and that nothing
+ * but these calls has written into since.
  */
 #ifndef MONDZAFEKY_H
 #define MONDZAFEKY_H
@@ -69,13 +70,14 @@ typedef struct {
 } mondzafeky_reply;
 
 /*
- * Numbers. 1 to 11 are refusals: no memory is altered. 12 and 13 are ends: the read or the insert
- * is over and its desk idle. The smallest that applies is given. mondzafeky_sentence says what each
- * means and what to do.
+ * Numbers. 1 to 11, and 14, are refusals: no memory is altered. 12 and 13 are ends: the read or the
+ * insert is over and its desk idle. The first that applies is given, in the order 1, 2, 14, 3, 4
+ * and so on. mondzafeky_sentence says what each means and what to do.
  */
 #define MONDZAFEKY_ACCEPTED 0u
 #define MONDZAFEKY_SHORT 1u     /* a lent memory is below its least length */
-#define MONDZAFEKY_COLUMNS 2u   /* k not 1 to 4; not a query of k columns; an insert with a star */
+#define MONDZAFEKY_COLUMNS 2u   /* k not 1 to 4; not a query of k columns; an insert with a star; a
+                                   range's column that is named too or not below k */
 #define MONDZAFEKY_UNSOUND 3u   /* k, a number of entries, a filed list's length or a filed count
                                    in memory is out of range, or what stands at the desk or at its
                                    node is, or no unmarked node can make room */
@@ -92,6 +94,7 @@ typedef struct {
                                    untouched; a count never ends so */
 #define MONDZAFEKY_FULL 13u     /* the insert has ended: the table held 2,048 records and not
                                    this one */
+#define MONDZAFEKY_REVERSED 14u /* a range's lowest value is above its highest */
 
 /* Endings: what has ended with this call. */
 #define MONDZAFEKY_NOTHING 0u    /* nothing, or the number says what (12 and 13) */
@@ -101,7 +104,7 @@ typedef struct {
 #define MONDZAFEKY_UNCHANGED 4u  /* a write, and the table is as it was */
 
 /*
- * The ten calls of the archive, each memory for itself. A program with one mondzafeky_hall needs
+ * The twelve calls of the archive, each memory for itself. A program with one mondzafeky_hall needs
  * none of them: the functions over a hall stand after them.
  *
  * What a caller owes here, and this is all:
@@ -129,7 +132,7 @@ mondzafeky_reply mondzafeky_open(
     uint32_t k);
 
 /*
- * The four begins start a read or a write at an idle desk; they write that desk's part of the
+ * The six begins start a read or a write at an idle desk; they write that desk's part of the
  * clients memory. client: the desk, 0 to 11. A query has for each column two numbers, its mark and
  * its value: mark 1 names the value, mark 0 is a star, which any value fits, and its value is 0. So
  * query_len is 2 * k. With k 2, "3 in the first column, anything in the second" is {1, 3, 0, 0}.
@@ -150,6 +153,26 @@ mondzafeky_reply mondzafeky_begin_count(
     uint32_t *table, size_t table_len, uint32_t *nodes, size_t nodes_len,
     uint32_t *answers, size_t answers_len, uint32_t *clients, size_t clients_len,
     uint32_t client, const uint32_t *query, size_t query_len);
+
+/*
+ * begin_read_within: a read with a range, "classes 4 to 9": of the records that fit the query it
+ * wants those whose value in one column is lowest to highest, both included. column: that column,
+ * by its number from 0; in the query it is a star. It makes the steps of a read of that query. The
+ * range is a part of what is asked: only an answer for the same column and ends is given from file.
+ * Refusals: 1 to 5, and 14 for a lowest above the highest, which goes before 3, 4 and 5.
+ */
+mondzafeky_reply mondzafeky_begin_read_within(
+    uint32_t *table, size_t table_len, uint32_t *nodes, size_t nodes_len,
+    uint32_t *answers, size_t answers_len, uint32_t *clients, size_t clients_len,
+    uint32_t client, const uint32_t *query, size_t query_len,
+    uint32_t column, uint32_t lowest, uint32_t highest);
+
+/* begin_count_within: a count with a range, how many these are. Refusals: 1 to 5, 14. */
+mondzafeky_reply mondzafeky_begin_count_within(
+    uint32_t *table, size_t table_len, uint32_t *nodes, size_t nodes_len,
+    uint32_t *answers, size_t answers_len, uint32_t *clients, size_t clients_len,
+    uint32_t client, const uint32_t *query, size_t query_len,
+    uint32_t column, uint32_t lowest, uint32_t highest);
 
 /*
  * begin_insert: an insert of one record; every column names its value. It takes at most 33 steps.
@@ -265,7 +288,7 @@ static inline mondzafeky_column mondzafeky_star(void)
     return column;
 }
 
-/* A hall's four memories, in the order in which each of the ten calls takes them. */
+/* A hall's four memories, in the order in which each of the twelve calls takes them. */
 #define MONDZAFEKY_MEMORIES_(hall) \
     (hall)->table, MONDZAFEKY_TABLE_LEAST, (hall)->nodes, MONDZAFEKY_NODES_LEAST, \
     (hall)->answers, MONDZAFEKY_ANSWERS_LEAST, (hall)->clients, MONDZAFEKY_CLIENTS_LEAST
@@ -298,6 +321,34 @@ static inline mondzafeky_reply mondzafeky_hall_begin_count(
     mondzafeky_hall *hall, uint32_t client, const mondzafeky_column *query, size_t columns)
 {
     return mondzafeky_begin_count(MONDZAFEKY_MEMORIES_(hall), client, (const uint32_t *)query, 2u * columns);
+}
+
+/*
+ * Begins a read with a range at a desk: of the records that fit the query those whose value in one
+ * column is lowest to highest, both included. column: its number from 0; in the query it is a star.
+ * Classes 4 to 9 of bench 3, k 2:
+ *     query[0] = mondzafeky_is(3);
+ *     query[1] = mondzafeky_star();
+ *     reply = mondzafeky_hall_begin_read_within(&hall, 0, query, 2, 1, 4, 9);
+ * Refusals: 2 to 5; 14 if lowest is above highest.
+ */
+static inline mondzafeky_reply mondzafeky_hall_begin_read_within(
+    mondzafeky_hall *hall, uint32_t client, const mondzafeky_column *query, size_t columns,
+    uint32_t column, uint32_t lowest, uint32_t highest)
+{
+    return mondzafeky_begin_read_within(MONDZAFEKY_MEMORIES_(hall), client,
+                                        (const uint32_t *)query, 2u * columns,
+                                        column, lowest, highest);
+}
+
+/* Begins a count with a range: how many these are, past 32 too. Refusals: 2 to 5, 14. */
+static inline mondzafeky_reply mondzafeky_hall_begin_count_within(
+    mondzafeky_hall *hall, uint32_t client, const mondzafeky_column *query, size_t columns,
+    uint32_t column, uint32_t lowest, uint32_t highest)
+{
+    return mondzafeky_begin_count_within(MONDZAFEKY_MEMORIES_(hall), client,
+                                         (const uint32_t *)query, 2u * columns,
+                                         column, lowest, highest);
 }
 
 /* Begins an insert of one record; no column is a star. At most 33 steps. Refusals: 2 to 5, 10. */
@@ -365,10 +416,11 @@ static inline int mondzafeky_ended(mondzafeky_reply reply)
         || reply.number == MONDZAFEKY_FULL;
 }
 
-/* Whether the call was refused, 1 to 11: then nothing was altered. */
+/* Whether the call was refused, 1 to 11 or 14: then nothing was altered. */
 static inline int mondzafeky_refused(mondzafeky_reply reply)
 {
-    return reply.number >= MONDZAFEKY_SHORT && reply.number <= MONDZAFEKY_OCCUPIED;
+    return (reply.number >= MONDZAFEKY_SHORT && reply.number <= MONDZAFEKY_OCCUPIED)
+        || reply.number == MONDZAFEKY_REVERSED;
 }
 
 /*
@@ -403,6 +455,7 @@ static inline const char *mondzafeky_name(uint32_t number)
     case MONDZAFEKY_OCCUPIED: return "occupied";
     case MONDZAFEKY_LONG: return "long";
     case MONDZAFEKY_FULL: return "full";
+    case MONDZAFEKY_REVERSED: return "reversed";
     default: return "unknown";
     }
 }
@@ -417,8 +470,9 @@ static inline const char *mondzafeky_sentence(uint32_t number)
         return "A lent memory is below its least length; lend a longer one.";
     case MONDZAFEKY_COLUMNS:
         return "At opening k is not 1 to 4; at a begin the query has not as many columns as the "
-               "hall, or a mark above 1, or a star with a value, or it is an insert with a star; "
-               "open the hall with 1 to 4 columns, or correct the query.";
+               "hall, or a mark above 1, or a star with a value, or it is an insert with a star, "
+               "or the range's column is named too or not below k; open the hall with 1 to 4 "
+               "columns, or correct the query or the column.";
     case MONDZAFEKY_UNSOUND:
         return "k, a number of entries, a filed list's length or a filed count in memory is out of "
                "range, or what stands at the desk or at its node is, or no unmarked node can make "
@@ -445,10 +499,13 @@ static inline const char *mondzafeky_sentence(uint32_t number)
         return "A desk is busy; renew when all desks are idle.";
     case MONDZAFEKY_LONG:
         return "The read has ended without an answer, for over 32 records match; read them in "
-               "parts, naming a value in more columns.";
+               "parts, naming a value in more columns or by narrower ranges.";
     case MONDZAFEKY_FULL:
         return "The insert has ended without inserting, for the table held 2,048 records and not "
                "this one; delete some, and insert again.";
+    case MONDZAFEKY_REVERSED:
+        return "The lowest value of the range is above its highest; give the lower one first, and "
+               "begin again.";
     default:
         return "No call returns this number.";
     }

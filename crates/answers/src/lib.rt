@@ -17,7 +17,7 @@ ghost use Rattle.answers.specs.AnswerContracts.{Fit, Gave};
 // The most answers that are kept.
 const ANSWERS: usize = Hall::ANSWERS as usize;
 
-// Whether the entry e answers x's query, with what x wants: the key's first number tells a count from a list.
+// Whether the entry e answers x's query, with what x wants and its range: the key has all three.
 fn has_key(e: &[u32], x: &[u32]) -> bool
     requires { ⌜ (keyWidth ≤ length (now e)) × (keyWidth ≤ length (now x)) ⌝ }
     ensures { λ r. ⌜ r ≡ hasKeyOf (now (x .entry)) (now (e .entry)) ⌝ }
@@ -53,7 +53,7 @@ fn may_serve(e: &[u32], x: &[u32], n: usize) -> bool
 }
 
 // The place of the first entry that may be answered with, or the count where none may. With n = 0 no revision is compared: it is the search
-// by the key alone, for the answer to the same query.
+// by the key alone, for the answer to the same query, wanting and range.
 pub fn fetch(answers: &[u32], entry: &[u32], n: usize) -> usize
     requires { ⌜ Fit (now answers) × ((length (now entry) ≡ entryWidth narrow) × (n ≤ lookRoom)) ⌝ }
     ensures { λ r. ⌜ r ≡ fetchPlace narrow n (now (entry .entry)) (answersIn narrow (now (answers .entry))) ⌝ }

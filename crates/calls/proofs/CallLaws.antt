@@ -9,6 +9,7 @@ use lib.Dec.{eqb}
 use borrow.Author.Tests.{eqb-true, eqb-false, eq-eqb, ne-eqb}
 use Rattle.lists.specs.Lists.{without}
 use Rattle.laws.proofs.TestLaws.{byTest}
+use Rattle.query.specs.declared.Range.{Range}
 use Rattle.query.specs.Shape.{Shape, narrow}
 use Rattle.rules.specs.declared.Outcome.{Outcome}
 use Rattle.rules.specs.declared.Outcome.the-variants.{Refused, Accepted}
@@ -43,26 +44,26 @@ module _ (m : Mem) (code n : ℕ) (e : n ≡ code) (x : Result) where
   done h = let z : eqb code 0 ≡ true = eq-eqb _ _ (sym e ∙ h) in rw z
 
 -- ---- Begins, by the number of their kind
-kind-is : (sh : Shape) (x : ℕ) (counts : Bool) (a : List ℕ) → reads ≤ x → x ≤ deletes → kindOf (workOf sh (requestOf x counts a)) ≡ x
+kind-is : (sh : Shape) (x : ℕ) (counts : Bool) (g : Range) (a : List ℕ) → reads ≤ x → x ≤ deletes → kindOf (workOf sh (requestOf x counts g a)) ≡ x
 unfolding kindOf changeKind workOf
-kind-is sh x counts a h g = byTest (eqb x reads)
+kind-is sh x counts g a h o = byTest (eqb x reads)
     (λ e. rw e (sym (eqb-true x reads e)))
     (λ e. byTest (eqb x inserts) (λ i. rw (e, i) (sym (eqb-true x inserts i)))
     (λ i. let y = eqb-false x reads e in let z = eqb-false x inserts i in rw (e, i) (omega arith)))
 
-module _ (m : Mem) (d x : ℕ) (counts : Bool) (a : List ℕ) {r : Begun} (f : BeginFound r m d (requestOf x counts a)) where
-  pub begin-refused : (r .code ≡ 0 → ⊥) → result (Refused (r .code)) m ≡ beginResult m d (requestOf x counts a)
+module _ (m : Mem) (d x : ℕ) (counts : Bool) (g : Range) (a : List ℕ) {r : Begun} (f : BeginFound r m d (requestOf x counts g a)) where
+  pub begin-refused : (r .code ≡ 0 → ⊥) → result (Refused (r .code)) m ≡ beginResult m d (requestOf x counts g a)
   unfolding beginResult
-  begin-refused h = refused m (beginCode m d (requestOf x counts a)) (r .code) (f .code) _ h
+  begin-refused h = refused m (beginCode m d (requestOf x counts g a)) (r .code) (f .code) _ h
 
   pub begin-done : (s : List ℕ) → reads ≤ x → x ≤ deletes → r .code ≡ 0 → s ≡ withClient narrow (m .clients) d (begunWith x (r .key))
-      → result Accepted (withClients m s) ≡ beginResult m d (requestOf x counts a)
+      → result Accepted (withClients m s) ≡ beginResult m d (requestOf x counts g a)
   unfolding beginResult nowAt
-  begin-done s l o z g =
-      let w : Work = workOf (shape m) (requestOf x counts a) in
+  begin-done s l o z e =
+      let w : Work = workOf (shape m) (requestOf x counts g a) in
       let y : begunWith x (r .key) ≡ begun narrow w =
-      ap (λ (i : ℕ). begunWith i (r .key)) (sym (kind-is (shape m) x counts a l o)) ∙ ap (begunWith (kindOf w)) (f .key (sym (f .code) ∙ z)) ∙ begun-with w in
-      rw (g, y) (done m (beginCode m d (requestOf x counts a)) (r .code) (f .code) _ z)
+      ap (λ (i : ℕ). begunWith i (r .key)) (sym (kind-is (shape m) x counts g a l o)) ∙ ap (begunWith (kindOf w)) (f .key (sym (f .code) ∙ z)) ∙ begun-with w in
+      rw (e, y) (done m (beginCode m d (requestOf x counts g a)) (r .code) (f .code) _ z)
 
 -- ---- A step and an abandoning
 pub step-refused : (m : Mem) (tray : List ℕ) (d n : ℕ) → n ≡ stepCode m tray d → (n ≡ 0 → ⊥) → resultWith (Refused n) m tray ≡ stepResult m tray d

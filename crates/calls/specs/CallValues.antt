@@ -3,18 +3,21 @@
 use mathlib.Core.Bool.{true, false}
 use mathlib.Core.List.{List}
 use Prim.Native.Nat.{ℕ}
+use Rattle.query.specs.declared.Range.the-variants.{None, Between}
 use Rattle.rules.specs.Work.{readOf, insertOf, deleteOf}
 use Rattle.rules.specs.Memory.{Mem}
 use Rattle.rules.specs.Outcome.{StepResult, resultWith}
 use Rattle.rules.specs.History as history
 use Rattle.rules.specs.History.{callResult}
 use Rattle.calls.specs.declared.Call.{Call}
-use Rattle.calls.specs.declared.Call.the-variants.{BeginRead, BeginCount, BeginInsert, BeginDelete, Step, Abandon, EvictAnswer, EvictNode, Renew}
+use Rattle.calls.specs.declared.Call.the-variants.{BeginRead, BeginCount, BeginReadWithin, BeginCountWithin, BeginInsert, BeginDelete, Step, Abandon, EvictAnswer, EvictNode, Renew}
 
 -- the rules' call: a begin takes the query that is lent beside the value, a step the tray
 unfoldable pub callOf : Call → List ℕ → List ℕ → history.Call
-callOf (BeginRead d) query tray = history.begin d (readOf false query)
-callOf (BeginCount d) query tray = history.begin d (readOf true query)
+callOf (BeginRead d) query tray = history.begin d (readOf false None query)
+callOf (BeginCount d) query tray = history.begin d (readOf true None query)
+callOf (BeginReadWithin d column lowest highest) query tray = history.begin d (readOf false (Between column lowest highest) query)
+callOf (BeginCountWithin d column lowest highest) query tray = history.begin d (readOf true (Between column lowest highest) query)
 callOf (BeginInsert d) query tray = history.begin d (insertOf query)
 callOf (BeginDelete d) query tray = history.begin d (deleteOf query)
 callOf (Step d) query tray = history.step d tray
@@ -27,6 +30,8 @@ callOf Renew query tray = history.renew
 unfoldable pub trayAfter : Call → List ℕ → List ℕ → List ℕ
 trayAfter (BeginRead d) tray t = tray
 trayAfter (BeginCount d) tray t = tray
+trayAfter (BeginReadWithin d column lowest highest) tray t = tray
+trayAfter (BeginCountWithin d column lowest highest) tray t = tray
 trayAfter (BeginInsert d) tray t = tray
 trayAfter (BeginDelete d) tray t = tray
 trayAfter (Step d) tray t = t

@@ -1,5 +1,5 @@
-// The ten public calls, in one place: the opening (opening.rt), the begins (begins.rt), the step and the abandoning (desks.rt), the evictions
-// and the renewal (upkeep.rt). None asks anything of its caller. A history is an opening and a list of the other nine: here such a call is a
+// The twelve public calls, in one place: the opening (opening.rt), the begins (begins.rt), the step and the abandoning (desks.rt), the evictions
+// and the renewal (upkeep.rt). None asks anything of its caller. A history is an opening and a list of the other eleven: here such a call is a
 // value of its own, and one function runs it. The rules stand in rules (Calls, History), what a value stands for in specs/CallValues.antt.
 use rules::Outcome;
 ghost use mathlib.Core.Path.{_≡_};
@@ -7,21 +7,49 @@ ghost use Rattle.rules.specs.Memory.{mem};
 ghost use Rattle.rules.specs.Outcome.{resultWith};
 ghost use Rattle.calls.specs.CallValues.{ran};
 
-pub mod begins; // begins.rt: the begins of a read, a count, an insert and a delete
+pub mod begins; // begins.rt: the begins of a read, a count, both with a range, an insert and a delete
 pub mod desks; // desks.rt: a step, an abandoning
 pub mod opening; // opening.rt: the opening
 pub mod upkeep; // upkeep.rt: both evictions, the renewal
 
-// A call of a history: its kind, and the client or the place that it names. The query of a begin and the tray of a step are lent beside it.
+// A call of a history: its kind, the client or the place that it names, and a range. The query of a begin and the tray of a step are lent beside it.
 pub enum Call {
-    BeginRead { client: u32 },
-    BeginCount { client: u32 },
-    BeginInsert { client: u32 },
-    BeginDelete { client: u32 },
-    Step { client: u32 },
-    Abandon { client: u32 },
-    EvictAnswer { place: u32 },
-    EvictNode { place: u32 },
+    BeginRead {
+        client: u32,
+    },
+    BeginCount {
+        client: u32,
+    },
+    BeginReadWithin {
+        client: u32,
+        column: u32,
+        lowest: u32,
+        highest: u32,
+    },
+    BeginCountWithin {
+        client: u32,
+        column: u32,
+        lowest: u32,
+        highest: u32,
+    },
+    BeginInsert {
+        client: u32,
+    },
+    BeginDelete {
+        client: u32,
+    },
+    Step {
+        client: u32,
+    },
+    Abandon {
+        client: u32,
+    },
+    EvictAnswer {
+        place: u32,
+    },
+    EvictNode {
+        place: u32,
+    },
     Renew,
 }
 
@@ -44,6 +72,38 @@ pub fn run(
         Call::BeginCount { client } => {
             begins::begin_count(table, nodes, answers, clients, client, query)
         }
+        Call::BeginReadWithin {
+            client,
+            column,
+            lowest,
+            highest,
+        } => begins::begin_read_within(
+            table,
+            nodes,
+            answers,
+            clients,
+            client,
+            query,
+            column,
+            lowest,
+            highest,
+        ),
+        Call::BeginCountWithin {
+            client,
+            column,
+            lowest,
+            highest,
+        } => begins::begin_count_within(
+            table,
+            nodes,
+            answers,
+            clients,
+            client,
+            query,
+            column,
+            lowest,
+            highest,
+        ),
         Call::BeginInsert { client } => {
             begins::begin_insert(table, nodes, answers, clients, client, query)
         }

@@ -1,7 +1,8 @@
 // The parts that are played, as text. Of document 01 the cases of "On each side of a line", the numbers of "What the controller turns down"
-// (number 3 in three parts), the faults of "Faults a bench would show"; of document 02 the counts of S-1. Leans on nothing.
+// (number 3 in three parts), the faults of "Faults a bench would show"; of document 02 the counts of S-1 and the ranges of S-3. Leans on nothing.
 // A part is its name and then rows: what is done or looked at, = and what is expected. The first letter of a word counts.
-//   open K; read, Count (the begin of a count), insert, delete, step, abandon at a DESK; evict a NODE, Evict an answer; new, the renewal;
+//   open K; read, Count (the begin of a count), within, Within (a read and a count with a range, which stands in the tray's last three numbers:
+//   column, lowest, highest), insert, delete, step, abandon at a DESK; evict a NODE, Evict an answer; new, the renewal;
 //   fill, an insert of each value below the query. Open is lent a table, Step a tray one number below the least length. +N makes N steps;
 //   all calls before the last give 0
 //   label of a NODE; Table, Nodes, Answers, Desks, tray: the number at a PLACE of a memory (docs/LAYOUT.md); put sets it by hand
@@ -9,7 +10,7 @@
 //   end
 // In a query * is a star, ? is any; ! is 5 under the mark 2, ~ a star with the value 5. 65535 is every place, and the largest desk.
 
-pub const PARTS: u32 = 42;
+pub const PARTS: u32 = 48;
 
 fn byte(text: &[u8], i: usize) -> u8 {
     if i < text.len() {
@@ -378,6 +379,72 @@ fn counts_from_8(part: u32, i: usize) -> u8 {
             put Table 0 = 2049; Count 12 (5) = 3; put Table 0 = 0; put Desks 8 = 4; Count 0 (5) = 3; put Desks 8 = 0; Count 12 (5) = 4; \
             Count 65535 (5) = 4; Count 11 (5) = 0; Count 11 (5) = 5; read 11 (5) = 5; insert 11 (5) = 5; new = 11; abandon 11 = 0; \
             abandon 11 = 6; put Nodes 0 = 4294967104; insert 0 (5) = 10; Count 0 (5) +5 = got 0; Answers 16 = 4294967104",
+            i,
+        ),
+        _ => ranges_from_1(part, i),
+    }
+}
+
+fn ranges_from_1(part: u32, i: usize) -> u8 {
+    match part {
+        // Both ends exactly met, and just missed: of the records 0 to 9 those from 4 to 9, 5 to 8, 10 to 12; a list and a count. One look,
+        // as of the star. The key has the column plus 1 above bit 4, and both ends.
+        43 => byte(
+            b"S-3 ends, expected: open 1 = 0; fill (10) +5 = changed; put tray 125 = 0; put tray 126 = 4; put tray 127 = 9; \
+            within 0 (*) +4 = got 6; tray 0 = 4; tray 5 = 9; Answers 8 = 32; Answers 13 = 4; Answers 14 = 9; within 0 (*) +2 = kept 6; \
+            put tray 126 = 5; put tray 127 = 8; within 0 (*) +4 = got 4; tray 0 = 5; tray 3 = 8; Within 0 (*) +4 = got 4; Answers 0 = 3; \
+            Answers 312 = 48; Within 0 (*) +2 = kept 4; put tray 126 = 10; put tray 127 = 12; within 0 (*) +4 = got 0; \
+            insert 1 (10) +5 = changed; within 0 (*) +4 = got 1; tray 0 = 10",
+            i,
+        ),
+        // A range with equal ends and the named value, one over all numbers and the plain read: each has its own answer on file.
+        44 => byte(
+            b"S-3 side by side, expected: open 1 = 0; fill (3) +5 = changed; put tray 125 = 0; put tray 126 = 1; put tray 127 = 1; \
+            within 0 (*) +4 = got 1; tray 0 = 1; read 0 (1) +5 = got 1; Answers 0 = 2; put tray 126 = 0; put tray 127 = 4294967295; \
+            within 0 (*) +4 = got 3; read 0 (*) +4 = got 3; Answers 0 = 4; within 0 (*) +2 = kept 3; read 0 (*) +2 = kept 3; \
+            read 0 (1) +3 = kept 1; put tray 126 = 1; put tray 127 = 1; within 0 (*) +2 = kept 1; Within 0 (*) +4 = got 1; Answers 0 = 5",
+            i,
+        ),
+        // 2 for a ranged column that is named, or not below k; then 14, before 3, 4 and 5; nothing is altered.
+        45 => byte(
+            b"S-3 refusals, expected: open 1 = 0; put tray 125 = 0; put tray 126 = 9; put tray 127 = 4; within 12 (*) = 14; \
+            Within 12 (*) = 14; within 12 (5) = 2; within 0 (*,*) = 2; put tray 125 = 1; within 12 (*) = 2; put tray 125 = 4294967295; \
+            Within 0 (*) = 2; put tray 125 = 0; put Table 0 = 2049; within 12 (*) = 14; put tray 126 = 4; within 12 (*) = 3; \
+            put Table 0 = 0; within 12 (*) = 4; within 11 (*) = 0; within 11 (*) = 5; put tray 127 = 3; within 11 (*) = 14; \
+            Desks 1735 = 1; abandon 11 = 0; Desks 1735 = 0; within 11 (*) = 14; Desks 1735 = 0; new = 0",
+            i,
+        ),
+        _ => ranges_from_4(part, i),
+    }
+}
+
+fn ranges_from_4(part: u32, i: usize) -> u8 {
+    match part {
+        // A held range that a begin would refuse: its column not below k, or named; its ends reversed. Ends without a range. At another
+        // desk none is looked at.
+        46 => byte(
+            b"S-3 held, expected: open 2 = 0; put tray 125 = 1; put tray 126 = 4; put tray 127 = 9; within 0 (3,*) +1 = 0; Desks 13 = 65; \
+            Desks 18 = 4; Desks 19 = 9; put Desks 13 = 97; step 0 +1 = 3; put Desks 13 = 33; step 0 +1 = 3; put Desks 13 = 65; \
+            put Desks 18 = 10; step 0 +1 = 3; abandon 0 = 3; read 0 (3,*) = 3; read 1 (3,*) = 0; put Desks 18 = 9; step 0 +1 = 0; \
+            put Desks 13 = 1; step 0 +1 = 3; put Desks 13 = 65; step 0 +3 = got 0; Answers 8 = 65",
+            i,
+        ),
+        // Any range at a writer's desk. A filed range is not tested: one that makes no sense serves no read.
+        47 => byte(
+            b"S-3 writers, filed, expected: open 1 = 0; delete 0 (*) = 0; put Desks 13 = 32; put Desks 19 = 9; step 0 +1 = 3; abandon 0 = 3; \
+            put Desks 13 = 0; step 0 +1 = 3; put Desks 19 = 0; step 0 +5 = unchanged; insert 0 (5) = 0; put Desks 13 = 33; step 0 +1 = 3; \
+            put Desks 13 = 1; step 0 +5 = changed; put tray 125 = 0; put tray 126 = 4; put tray 127 = 9; within 0 (*) +4 = got 1; \
+            put Answers 8 = 4294967264; step 0 +1 = 6; within 0 (*) +4 = got 1; Answers 0 = 2; put Answers 8 = 32; put Answers 13 = 10; \
+            within 0 (*) +2 = kept 1; Evict 0 = 0; Answers 0 = 1; Answers 13 = 4",
+            i,
+        ),
+        // A write meets the query with the column starred, so one outside the range too sends the next read to the table. 32 within are
+        // listed, 33 give 12, and a count counts them.
+        48 => byte(
+            b"S-3 meeting, long, expected: open 1 = 0; fill (40) +5 = changed; put tray 125 = 0; put tray 126 = 0; put tray 127 = 31; \
+            within 0 (*) +4 = got 32; tray 31 = 31; within 0 (*) +2 = kept 32; insert 1 (90) +5 = changed; within 0 (*) +4 = got 32; \
+            put tray 127 = 32; within 0 (*) +3 = 12; Within 0 (*) +4 = got 33; put tray 126 = 33; put tray 127 = 4294967295; \
+            Within 0 (*) +4 = got 8; insert 1 (91) +2 = 0; within 0 (*) +3 = got 8; Answers 0 = 3",
             i,
         ),
         _ => 0,

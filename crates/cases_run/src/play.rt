@@ -118,7 +118,10 @@ fn step_of(row: u64, i: u32) -> u32 {
     }
 }
 
-fn call_of(row: u64, step: u32) -> Call {
+// Where a range stands in the tray: its column, its lowest and its highest value.
+const RANGE: u32 = 125;
+
+fn call_of(tray: &[u32], row: u64, step: u32) -> Call {
     let act = row::act(row);
     let at = row::at(row);
     if step != 0 {
@@ -127,6 +130,18 @@ fn call_of(row: u64, step: u32) -> Call {
     match act {
         b'r' => Call::BeginRead { client: at },
         b'C' => Call::BeginCount { client: at },
+        b'w' => Call::BeginReadWithin {
+            client: at,
+            column: number_at(tray, RANGE),
+            lowest: number_at(tray, RANGE + 1),
+            highest: number_at(tray, RANGE + 2),
+        },
+        b'W' => Call::BeginCountWithin {
+            client: at,
+            column: number_at(tray, RANGE),
+            lowest: number_at(tray, RANGE + 1),
+            highest: number_at(tray, RANGE + 2),
+        },
         b'i' | b'f' => Call::BeginInsert { client: at },
         b'd' => Call::BeginDelete { client: at },
         b'a' => Call::Abandon { client: at },
@@ -202,7 +217,7 @@ fn run(
         return open(table, nodes, answers, clients, row);
     }
     let n = lent(tray.len(), row::act(row) == b'S');
-    let call = call_of(row, step_of(row, i));
+    let call = call_of(tray, row, step_of(row, i));
     let words = words_of(row, i);
     let m = query::numbers(row::query(row));
     calls::run(

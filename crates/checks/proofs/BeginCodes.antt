@@ -2,30 +2,36 @@
 -- columns. Assumes nothing.
 use mathlib.Core.Path.{_≡_, refl, sym, ap, _∙_}
 use mathlib.Core.Bool.{Bool, true, false, cond, not, _&&_}
-use mathlib.Core.List.{List}
-use Prim.Native.Nat.{ℕ, _*_, _≤_, _<_}
+use mathlib.Core.List.{List, [], _∷_}
+use Prim.Native.Nat.{ℕ, zero, suc, _+_, _*_, _≤_, _<_}
 use native.Mathlib.Omega.{arith}
-use lib.Dec.{eqb}
+use lib.Dec.{eqb, ltb}
 use lib.ListN.{length, getD, take}
-use borrow.Author.Tests.{eqb-true, eq-eqb, ne-eqb, not-true, not-false}
+use borrow.Author.Tests.{eqb-true, eq-eqb, ne-eqb, ltb-true, lt-ltb, le-ltb, not-true, not-false}
 use Rattle.laws.proofs.ListLaws.{and-left}
 use Rattle.laws.proofs.TestLaws.{byTest}
 use Rattle.query.specs.declared.Column.{Column}
+use Rattle.query.specs.declared.Column.the-variants.{Is, Wildcard}
+use Rattle.query.specs.declared.Range.{Range}
+use Rattle.query.specs.declared.Range.the-variants.{None, Between}
+use Rattle.query.specs.Range.{isNamed, isRange, isReversed}
 use Rattle.query.specs.Query.{Query, naming}
-use Rattle.query.specs.Encoding.{queryOf, isQuery, namesAll, recordOf, keyWords}
+use Rattle.query.specs.Encoding.{columnOf, queryOf, isQuery, namesAll, recordOf, keyWords, wantedKey}
 use Rattle.query.specs.Shape.{Shape, shapeOf, maxColumns, narrow}
 use Rattle.query.proofs.EncodingLaws.{is-query-length}
 use Rattle.columns.specs.declared.Taken.{Taken}
 use Rattle.columns.specs.ColumnContracts.{four, takenOf}
+use Rattle.columns.specs.KeyContracts.{IsNear}
 use Rattle.columns.proofs.ColumnLoops.{four-back}
 use Rattle.columns.proofs.TakeLoop.{taken-key}
-use Rattle.rules.specs.Layout.{columnsOffset, reads, inserts, refusedShort, refusedColumns, refusedTaken, refusedIdle, refusedWorn}
+use Rattle.rules.specs.Layout.{columnsOffset, reads, inserts, refusedShort, refusedColumns, refusedReversed, refusedTaken, refusedIdle, refusedWorn}
 use Rattle.rules.specs.Table.{target}
-use Rattle.rules.specs.Work.{keyOf, askKey, Request, readOf, insertOf, deleteOf, isWrite, askOf, workOf, faultOf}
+use Rattle.rules.specs.Work.{askFault, keyOf, askKey, Request, readOf, insertOf, deleteOf, isWrite, askOf, workOf, faultOf}
 use Rattle.rules.specs.Nodes.{isWorn}
 use Rattle.rules.specs.Client.{isIdle, isBad}
 use Rattle.rules.specs.Memory.{Mem, storeIn}
 use Rattle.rules.specs.Refusals.{shape, client, isShort, isUnsound, noClient, atClient, beginCode}
+use Rattle.rules.proofs.WorkLaws.{fault-none}
 use Rattle.rules.proofs.PassedChecks.{insert-good, begin-passed}
 use Rattle.checks.specs.declared.Begun.{Begun}
 use Rattle.checks.specs.CheckContracts.{requestOf, Asked, deskCode, BeginFound}
@@ -37,6 +43,11 @@ keyless-as n e f h = record { code = e ∙ f; key = λ z l. absurd (h z l) }
 
 pub too-many : {r : Begun} {k : ℕ} {x : Request} (n : ℕ) → r .code ≡ n → n ≡ faultOf (shapeOf k) x → maxColumns < k → Asked r (shapeOf k) x
 too-many n e f h = keyless-as n e f (λ z l. omega arith)
+
+-- few columns arrive in few numbers
+pub asked-short : (k : ℕ) (a : List ℕ) → isQuery (shapeOf k) a ≡ true → k ≤ maxColumns → length a ≤ 2 * maxColumns
+unfolding isQuery
+asked-short k a q l = let e = eqb-true (length a) (2 * k) (and-left _ _ q) in omega arith
 
 -- an insert, which is a query of the hall
 module _ (k : ℕ) (a : List ℕ) (q : isQuery (shapeOf k) a ≡ true) (t : Taken) (e : t ≡ takenOf (queryOf a)) where
@@ -54,55 +65,120 @@ pub insert-asked : (k : ℕ) (a : List ℕ) (q : isQuery (shapeOf k) a ≡ true)
     → {r : Begun} → r .code ≡ t .code → k ≤ maxColumns → r .key ≡ keyWords (naming (take k (t .values))) → Asked r (shapeOf k) (insertOf a)
 insert-asked k a q t e c l f = record { code = c ∙ insert-code k a q t e; key = λ z m. insert-key k a q t e _ l f z }
 
+-- a read, which is a query of the hall
+-- a column names a value where its mark as it arrives is not 0
+named-at : (a : List ℕ) (c : ℕ) → 2 * c + 1 < length a → isNamed (getD (queryOf a) c Wildcard) ≡ not (eqb (getD a (2 * c) 0) 0)
+unfolding queryOf columnOf isNamed
+named-at [] c h = absurd (omega arith)
+named-at (m ∷ []) c h = absurd (omega arith)
+named-at (m ∷ v ∷ a) zero h = go (eqb m 0)
+  where
+    go : (b : Bool) → isNamed (cond b Wildcard (Is v)) ≡ not b
+    go true = refl
+    go false = refl
+named-at (m ∷ v ∷ a) (suc c) h =
+    let e : 2 * suc c ≡ suc (suc (2 * c)) = omega arith in
+    rw e (named-at a c (omega arith))
+
+module _ (k : ℕ) (a : List ℕ) (q : isQuery (shapeOf k) a ≡ true) (b : Bool) (g : Range) where
+  pub read-fault : faultOf (shapeOf k) (readOf b g a) ≡ askFault (askOf (shapeOf k) b g a)
+  unfolding faultOf
+  read-fault = rw q
+
+  -- what its range is turned down with, test by test
+  pub range-none : g ≡ None → 0 ≡ askFault (askOf (shapeOf k) b g a)
+  unfolding askFault askOf isRange isReversed
+  range-none e = rw e
+
+  module _ (c l h : ℕ) (e : g ≡ Between c l h) where
+    pub range-past : k ≤ c → refusedColumns ≡ askFault (askOf (shapeOf k) b g a)
+    unfolding askFault askOf isRange
+    range-past m = rw (e, le-ltb c k m)
+
+    module _ (m : c < k) where
+      pub mark-in : 2 * c < length a
+      unfolding isQuery
+      mark-in = let z = eqb-true (length a) (2 * k) (and-left _ _ q) in omega arith
+
+      -- n: the column's mark as it arrives
+      module _ (n : ℕ) (f : n ≡ getD a (2 * c) 0) where
+        mark-is : isNamed (getD (queryOf a) c Wildcard) ≡ not (eqb n 0)
+        unfolding isQuery
+        mark-is = named-at a c (let z = eqb-true (length a) (2 * k) (and-left _ _ q) in omega arith) ∙ rw f
+
+        pub range-named : (n ≡ 0 → ⊥) → refusedColumns ≡ askFault (askOf (shapeOf k) b g a)
+        unfolding askFault askOf isRange
+        range-named z = rw (e, lt-ltb c k m, mark-is, ne-eqb n 0 z)
+
+        pub range-reversed : n ≡ 0 → h < l → refusedReversed ≡ askFault (askOf (shapeOf k) b g a)
+        unfolding askFault askOf isRange isReversed
+        range-reversed z y = rw (e, lt-ltb c k m, mark-is, eq-eqb n 0 z, lt-ltb h l y)
+
+        pub range-ordered : n ≡ 0 → l ≤ h → 0 ≡ askFault (askOf (shapeOf k) b g a)
+        unfolding askFault askOf isRange isReversed
+        range-ordered z y = rw (e, lt-ltb c k m, mark-is, eq-eqb n 0 z, le-ltb h l y)
+
+  -- n: what its range is turned down with
+  module _ (n : ℕ) (e : n ≡ askFault (askOf (shapeOf k) b g a)) where
+    pub read-refused : {r : Begun} → (n ≡ 0 → ⊥) → r .code ≡ n → Asked r (shapeOf k) (readOf b g a)
+    read-refused h c = keyless-as n c (e ∙ sym read-fault) (λ z l. h (e ∙ sym read-fault ∙ z))
+
+    module _ (h : n ≡ 0) where
+      pub read-many : {r : Begun} → r .code ≡ 0 → maxColumns < k → Asked r (shapeOf k) (readOf b g a)
+      read-many c l = too-many 0 c (sym h ∙ e ∙ sym read-fault) l
+
+      pub range-near : k ≤ maxColumns → IsNear g
+      unfolding askOf isRange
+      range-near l c x y f =
+          let z = fault-none (askOf (shapeOf k) b g a) (sym e ∙ h) .0 in
+          let w : c < k = ltb-true c k (and-left (ltb c k) _ (rw f at z)) in
+          omega arith
+
+      pub read-asked : (cols : List Column) → cols ≡ four (queryOf a) → {r : Begun} → r .code ≡ n → r .key ≡ wantedKey b g (keyWords (take k cols)) → Asked r (shapeOf k) (readOf b g a)
+      unfolding keyOf workOf askOf askKey
+      read-asked cols d c f =
+          let w : take k cols ≡ queryOf a = ap (take k) d ∙ four-back k (queryOf a) (is-query-length (shapeOf k) a q) in
+          record { code = c ∙ e ∙ sym read-fault; key = λ z l. f ∙ ap (λ (p : Query). wantedKey b g (keyWords p)) w }
+
 -- by the number of its kind
-of-insert : (x : ℕ) (b : Bool) (a : List ℕ) → x ≡ inserts → requestOf x b a ≡ insertOf a
-of-insert x b a e = rw (ne-eqb x reads (λ z. omega arith), eq-eqb x inserts e)
+of-insert : (x : ℕ) (b : Bool) (g : Range) (a : List ℕ) → x ≡ inserts → requestOf x b g a ≡ insertOf a
+of-insert x b g a e = rw (ne-eqb x reads (λ z. omega arith), eq-eqb x inserts e)
 
-pub asked-insert : {r : Begun} {k : ℕ} (x : ℕ) (b : Bool) (a : List ℕ) → x ≡ inserts → Asked r (shapeOf k) (insertOf a) → Asked r (shapeOf k) (requestOf x b a)
-asked-insert x b a e h = rw (of-insert x b a e) h
+pub asked-insert : {r : Begun} {k : ℕ} (x : ℕ) (b : Bool) (g : Range) (a : List ℕ) → x ≡ inserts → Asked r (shapeOf k) (insertOf a) → Asked r (shapeOf k) (requestOf x b g a)
+asked-insert x b g a e h = rw (of-insert x b g a e) h
 
--- k: the hall's columns, x: the kind, b: whether a read wants a count
-module _ (k x : ℕ) (b : Bool) (a : List ℕ) where
-  pub fault-query : (r : Bool) → r ≡ isQuery (shapeOf k) a → not r ≡ true → refusedColumns ≡ faultOf (shapeOf k) (requestOf x b a)
+pub asked-read : {r : Begun} {k : ℕ} (x : ℕ) (b : Bool) (g : Range) (a : List ℕ) → x ≡ reads → Asked r (shapeOf k) (readOf b g a) → Asked r (shapeOf k) (requestOf x b g a)
+asked-read x b g a e h = rw (eq-eqb x reads e) h
+
+-- k: the hall's columns, x: the kind, b: whether a read wants a count, g: its range
+module _ (k x : ℕ) (b : Bool) (g : Range) (a : List ℕ) where
+  pub fault-query : (r : Bool) → r ≡ isQuery (shapeOf k) a → not r ≡ true → refusedColumns ≡ faultOf (shapeOf k) (requestOf x b g a)
   unfolding faultOf
   fault-query r e h =
       let f : isQuery (shapeOf k) a ≡ false = sym e ∙ not-true r h in
       byTest (eqb x reads) (λ y. rw (y, f)) (λ y. byTest (eqb x inserts) (λ z. rw (y, z, f)) (λ z. rw (y, z, f)))
 
-  module _ (q : isQuery (shapeOf k) a ≡ true) (n : x ≡ inserts → ⊥) where
-    pub fault-plain : 0 ≡ faultOf (shapeOf k) (requestOf x b a)
+  -- a delete
+  module _ (q : isQuery (shapeOf k) a ≡ true) (y : x ≡ reads → ⊥) (n : x ≡ inserts → ⊥) where
+    pub fault-delete : 0 ≡ faultOf (shapeOf k) (requestOf x b g a)
     unfolding faultOf
-    fault-plain = byTest (eqb x reads) (λ y. rw (y, q)) (λ y. rw (y, ne-eqb x inserts n, q))
+    fault-delete = rw (ne-eqb x reads y, ne-eqb x inserts n, q)
 
-    -- any but an insert: its columns are its query's
-    module _ (cols : List Column) (e : cols ≡ four (queryOf a)) where
-      columns-are : take k cols ≡ queryOf a
-      columns-are = ap (take k) e ∙ four-back k (queryOf a) (is-query-length (shapeOf k) a q)
-
-      pub read-asked : {r : Begun} → r .code ≡ 0 → x ≡ reads → r .key ≡ askKey (record { shape = shapeOf k; query = take k cols; counts = b }) → Asked r (shapeOf k) (requestOf x b a)
-      unfolding keyOf workOf askOf
-      read-asked c y f =
-          let w : keyOf (workOf (shapeOf k) (requestOf x b a)) ≡ askKey (askOf (shapeOf k) b a) = rw (eq-eqb x reads y) in
-          record { code = c ∙ fault-plain; key = λ z l. f ∙ ap (λ (p : Query). askKey (record { shape = shapeOf k; query = p; counts = b })) columns-are ∙ sym w }
-
-      pub delete-asked : {r : Begun} → r .code ≡ 0 → (x ≡ reads → ⊥) → r .key ≡ keyWords (take k cols) → Asked r (shapeOf k) (requestOf x b a)
-      unfolding keyOf workOf target
-      delete-asked c y f =
-          let w : keyOf (workOf (shapeOf k) (requestOf x b a)) ≡ keyWords (queryOf a) = rw (ne-eqb x reads y, ne-eqb x inserts n) in
-          record { code = c ∙ fault-plain; key = λ z l. f ∙ ap keyWords columns-are ∙ sym w }
+    pub delete-asked : (cols : List Column) → cols ≡ four (queryOf a) → {r : Begun} → r .code ≡ 0 → r .key ≡ keyWords (take k cols) → Asked r (shapeOf k) (requestOf x b g a)
+    unfolding keyOf workOf target
+    delete-asked cols e c f =
+        let w : keyOf (workOf (shapeOf k) (requestOf x b g a)) ≡ keyWords (queryOf a) = rw (ne-eqb x reads y, ne-eqb x inserts n) in
+        let d : take k cols ≡ queryOf a = ap (take k) e ∙ four-back k (queryOf a) (is-query-length (shapeOf k) a q) in
+        record { code = c ∙ fault-delete; key = λ z l. f ∙ ap keyWords d ∙ sym w }
 
   pub is-query : (r : Bool) → r ≡ isQuery (shapeOf k) a → not r ≡ false → isQuery (shapeOf k) a ≡ true
   is-query r e h = sym e ∙ not-false r h
 
-  pub asked-short : isQuery (shapeOf k) a ≡ true → k ≤ maxColumns → length a ≤ 2 * maxColumns
-  unfolding isQuery
-  asked-short q l = let e = eqb-true (length a) (2 * k) (and-left _ _ q) in omega arith
-
-  pub reads-only : x ≡ reads → isWrite (requestOf x b a) ≡ false
+  pub reads-only : x ≡ reads → isWrite (requestOf x b g a) ≡ false
   unfolding isWrite
   reads-only h = rw (eq-eqb x reads h)
 
-  pub writes-only : (x ≡ reads → ⊥) → isWrite (requestOf x b a) ≡ true
+  pub writes-only : (x ≡ reads → ⊥) → isWrite (requestOf x b g a) ≡ true
   unfolding isWrite
   writes-only h = byTest (eqb x inserts) (λ i. rw (ne-eqb x reads h, i)) (λ i. rw (ne-eqb x reads h, i))
 

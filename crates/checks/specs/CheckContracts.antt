@@ -6,6 +6,7 @@ use mathlib.Core.List.{List, []}
 use Prim.Native.Nat.{ℕ, _^_, _≤_}
 use lib.Dec.{eqb, ltb, leb}
 use lib.ListN.{getD}
+use Rattle.query.specs.declared.Range.{Range}
 use Rattle.query.specs.Shape.{Shape, narrow, maxColumns}
 use Rattle.rules.specs.Layout.{answerCountOffset, nodeCountOffset, reads, inserts, refusedShort, refusedUnsound, refusedNoClient, refusedTaken, refusedIdle}
 use Rattle.rules.specs.Layout.{refusedNoEntry, refusedPending, refusedWorn}
@@ -41,9 +42,9 @@ unfoldable pub committed : Held → Bool
 committed h = not (eqb (h .kind) reads) && ltb (2 ^ h .columns) (h .steps)
 
 -- ---- Begins
--- what begins, by the number of its kind, of a read whether it wants a count, and the numbers that arrive
-abbrev pub requestOf : ℕ → Bool → List ℕ → Request
-requestOf kind counts a = cond (eqb kind reads) (readOf counts a) (cond (eqb kind inserts) (insertOf a) (deleteOf a))
+-- what begins, by the number of its kind, of a read whether it wants a count and its range, and the numbers that arrive
+abbrev pub requestOf : ℕ → Bool → Range → List ℕ → Request
+requestOf kind counts range a = cond (eqb kind reads) (readOf counts range a) (cond (eqb kind inserts) (insertOf a) (deleteOf a))
 
 -- r has what x is turned down with for itself, or 0 and the key of its work, in a hall of no more columns than there may be
 pub record Asked (r : Begun) (sh : Shape) (x : Request) : Type 0 where

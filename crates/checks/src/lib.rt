@@ -1,8 +1,9 @@
-// The refusals as numbers: for each call the smallest number that applies, or 0. Each reads the four lent memories, in any contents and of any
+// The refusals as numbers: for each call the first number that applies (1, 2, 14, 3, 4 and so on), or 0. Each reads the four lent memories, in any contents and of any
 // lengths, and tests in the order of the rules. What a check has read and a call goes on with, it hands on: a client (`Checked`), the key of
 // what begins (`Begun`). The rules stand in rules (Refusals), what is handed on in specs/CheckContracts.antt.
 use clients::Held;
 use hall::Hall;
+use query::Range;
 ghost use mathlib.Core.Path.{_≡_};
 ghost use mathlib.Core.Bool.{Bool, true, false};
 ghost use mathlib.Core.List.{List};
@@ -10,7 +11,8 @@ ghost use Prim.Native.Nat.{ℕ, _≤_};
 ghost use lib.ListN.{length};
 ghost use Rattle.query.specs.Shape.{shapeOf, maxColumns, narrow};
 ghost use Rattle.query.specs.Encoding.{isQuery};
-ghost use Rattle.rules.specs.Work.{insertOf};
+ghost use Rattle.query.specs.declared.Range.{Range};
+ghost use Rattle.rules.specs.Work.{askFault, readOf, insertOf, askOf};
 ghost use Rattle.rules.specs.Memory.{mem};
 ghost use Rattle.rules.specs.Refusals.{shape, isShort, isUnsound, atClient, stepCode, abandonCode, renewCode};
 ghost use Rattle.clients.specs.ClientContracts.{Fit, IsHeld};
@@ -139,13 +141,58 @@ fn insert_asked(k: u32, asked: &[u32]) -> Begun
     Begun { code, key }
 }
 
-// What arrives is turned down for itself where it is no query of k columns, or an insert with a wildcard; else it has a key. k may be any number:
-// that it is out of range is tested later. Whether a count is wanted is asked of a read alone.
-fn request_of(k: u32, kind: u32, counts: bool, asked: &[u32]) -> Begun
-    ensures { λ r. ⌜ Asked r (shapeOf k) (requestOf kind counts (now (asked .entry))) ⌝ }
+// The number that a range beside a query of k columns is turned down with, or 0: its column is past the last, or named too; its ends are reversed.
+fn range_code(k: u32, asked: &[u32], range: Range) -> u32
+    requires { ⌜ isQuery (shapeOf k) (now asked) ≡ true ⌝ }
+    ensures { λ r. ⌜ ((counts : Bool) → r ≡ askFault (askOf (shapeOf k) counts range (now (asked .entry)))) ⌝ }
+{
+    let Range::Between {
+        column,
+        lowest,
+        highest,
+    } = range
+    else {
+        return 0;
+    };
+    if k <= column {
+        return Hall::REFUSED_COLUMNS;
+    }
+    if asked[2 * (column as usize)] != 0 {
+        return Hall::REFUSED_COLUMNS;
+    }
+    if highest < lowest {
+        return Hall::REFUSED_REVERSED;
+    }
+    0
+}
+
+// A read: its range is one that may stand beside its query, and it has a key.
+fn read_asked(k: u32, counts: bool, range: Range, asked: &[u32]) -> Begun
+    requires { ⌜ isQuery (shapeOf k) (now asked) ≡ true ⌝ }
+    ensures { λ r. ⌜ Asked r (shapeOf k) (readOf counts range (now (asked .entry))) ⌝ }
+{
+    let code = range_code(k, asked, range);
+    if code != 0 {
+        return keyless(code);
+    }
+    if Hall::COLUMNS < k {
+        return keyless(0);
+    }
+    let cols = columns::columns_of(asked);
+    let key = columns::keys::ask_key(cols, k as usize, counts, range);
+    Begun { code, key }
+}
+
+// What arrives is turned down for itself where it is no query of k columns, a read for its range, an insert for a wildcard; else it has a key. k
+// may be any number: that it is out of range is tested later. Whether a count is wanted, and the range, are asked of a read alone.
+fn request_of(k: u32, kind: u32, counts: bool, range: Range, asked: &[u32]) -> Begun
+    ensures { λ r. ⌜ Asked r (shapeOf k) (requestOf kind counts range (now (asked .entry))) ⌝ }
 {
     if !columns::is_query(asked, k) {
         return keyless(Hall::REFUSED_COLUMNS);
+    }
+    if kind == Hall::READS {
+        return read_asked(k, counts, range, asked);
     }
     if kind == Hall::INSERTS {
         return insert_asked(k, asked);
@@ -154,11 +201,7 @@ fn request_of(k: u32, kind: u32, counts: bool, asked: &[u32]) -> Begun
         return keyless(0);
     }
     let cols = columns::columns_of(asked);
-    if kind != Hall::READS {
-        let key = columns::keys::key_words(cols, k as usize);
-        return Begun { code: 0, key };
-    }
-    let key = columns::keys::ask_key(cols, k as usize, counts);
+    let key = columns::keys::key_words(cols, k as usize);
     Begun { code: 0, key }
 }
 
@@ -172,7 +215,7 @@ fn desk_code(
     d: u32,
 ) -> u32
     requires { ⌜ isShort narrow (shape (mem (now table) (now nodes) (now answers) (now clients))) (mem (now table) (now nodes) (now answers) (now clients)) ≡ false ⌝ }
-    ensures { λ r. ⌜ ((counts : Bool) (a : List ℕ) → r ≡ deskCode (mem (now (table .entry)) (now (nodes .entry)) (now (answers .entry)) (now (clients .entry))) d (requestOf kind counts a)) ⌝ }
+    ensures { λ r. ⌜ ((counts : Bool) (range : Range) (a : List ℕ) → r ≡ deskCode (mem (now (table .entry)) (now (nodes .entry)) (now (answers .entry)) (now (clients .entry))) d (requestOf kind counts range a)) ⌝ }
 {
     let found = at_client(table, nodes, answers, clients, d);
     if found.code == 0 {
@@ -181,7 +224,7 @@ fn desk_code(
     if found.code != Hall::REFUSED_IDLE {
         return found.code;
     }
-    if kind == Hall::READS {
+    if kind == Hall::READS { // it raises no counter
         return 0;
     }
     if nodes::is_worn(nodes) {
@@ -190,7 +233,7 @@ fn desk_code(
     0
 }
 
-// The checks of a begin. Kinds: 1 read, 2 insert, 3 delete; of a read, whether it wants a count.
+// The checks of a begin. Kinds: 1 read, 2 insert, 3 delete; of a read, whether it wants a count, and its range.
 pub fn begin_check(
     table: &[u32],
     nodes: &[u32],
@@ -198,15 +241,16 @@ pub fn begin_check(
     clients: &[u32],
     kind: u32,
     counts: bool,
+    range: Range,
     d: u32,
     asked: &[u32],
 ) -> Begun
-    ensures { λ r. ⌜ BeginFound r (mem (now (table .entry)) (now (nodes .entry)) (now (answers .entry)) (now (clients .entry))) d (requestOf kind counts (now (asked .entry))) ⌝ }
+    ensures { λ r. ⌜ BeginFound r (mem (now (table .entry)) (now (nodes .entry)) (now (answers .entry)) (now (clients .entry))) d (requestOf kind counts range (now (asked .entry))) ⌝ }
 {
     if Hall::is_short(table, nodes, answers, clients) {
         return keyless(Hall::REFUSED_SHORT);
     }
-    let request = request_of(clients[Hall::COLUMNS_OFFSET], kind, counts, asked);
+    let request = request_of(clients[Hall::COLUMNS_OFFSET], kind, counts, range, asked);
     if request.code != 0 {
         return request;
     }

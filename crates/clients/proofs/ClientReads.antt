@@ -6,20 +6,25 @@ use Prim.Native.Nat.{ℕ, suc, _+_, _-_, _/_, _%_, _≤_, _<_}
 use native.Mathlib.Numerals.{add-one}
 use native.Mathlib.Omega.{arith}
 use lib.Dec.{eqb, ltb}
-use lib.ListN.{length-drop, length-set, length, getD, take, drop, replicate}
-use lib.Seq.{take-all, take-take, getD-take, getD-drop, drop-cons, drop-drop}
-use Rattle.lists.specs.Lists.{same, allBelow}
+use lib.ListN.{length-drop, length-set, length, getD, take, drop, set, replicate}
+use lib.Seq.{take-all, take-take, take-set-le, getD-take, getD-drop, drop-cons, drop-drop}
+use Rattle.lists.specs.Lists.{same, padded, allBelow}
 use Rattle.laws.proofs.ListLaws.{below-next, below-not}
-use Rattle.laws.proofs.TestLaws.{byTest}
 use Rattle.laws.proofs.WrittenLaws.{drop-take}
 use Rattle.rules.specs.Answers.{keyIn, lengthIn, isCount, mostIn, isLong}
-use Rattle.rules.specs.Client.{Client, entryOf, isIdle, idle}
+use Rattle.rules.specs.Client.{Client, entryOf, isIdle, idle, rangeAt}
 use Rattle.rules.specs.Memory.{Mem, clientIn}
 use Rattle.rules.specs.Refusals.{client, allIdle}
-use Rattle.query.specs.Encoding.{keyWidth, countBit, countsIn, bareKey}
+use Rattle.query.specs.declared.Range.{Range}
+use Rattle.query.specs.declared.Range.the-variants.{None, Between}
+use Rattle.query.specs.Range.{isRanged}
+use Rattle.query.specs.Encoding.{keyWidth, countBit, countsIn, rangeUnit, lowestOffset, highestOffset, rangeOf, rangeIn, unranged, bareKey}
 use Rattle.query.specs.Shape.{maxColumns, narrow}
 use Rattle.rules.specs.Layout.{maxRecords, maxClients, maxList, entryWidth, entryOffset, clientWidth, clientOffset, heldValuesOffset, heldLengthOffset}
-use Rattle.clients.specs.ClientContracts.{Fit, idleAt}
+use Rattle.columns.specs.KeyContracts.{queryWidth}
+use Rattle.columns.proofs.KeyLoops.{bare-first}
+use Rattle.rules.proofs.ClientLaws.{key-wide}
+use Rattle.clients.specs.ClientContracts.{Fit, plainKey, idleAt}
 use Rattle.clients.proofs.ClientMemory.{length-client, part-at}
 
 -- ---- idleness
@@ -54,47 +59,86 @@ unfolding allIdle idleAt client
 all-idle m = refl
 
 -- ---- the query
--- a key's first number tells the marks and what is wanted; the rest of it is the rest of the key without the bit
-pub bare-first : (m : ℕ) (key : List ℕ) → m ≡ getD key 0 0 → getD (bareKey (m ∷ [])) 0 0 ≡ getD (bareKey key) 0 0
-unfolding bareKey countsIn
-bare-first m [] e = rw e
-bare-first m (x ∷ key) e = rw e (byTest (eqb (x / countBit % 2) 1) (λ h. rw h) (λ h. rw h))
+-- a key of seven numbers, without what is wanted and without its range: its marks, and behind them its query's numbers, 0 for the ends
+bare-seven : (n a b c d l h : ℕ) (g : Range) → rangeIn (n ∷ a ∷ b ∷ c ∷ d ∷ l ∷ h ∷ []) ≡ g
+    → bareKey (n ∷ a ∷ b ∷ c ∷ d ∷ l ∷ h ∷ []) ≡ plainKey (n % countBit) g (n ∷ a ∷ b ∷ c ∷ d ∷ l ∷ h ∷ [])
+unfolding bareKey unranged plainKey queryWidth isRanged padded
+bare-seven n a b c d l h None e = rw e
+bare-seven n a b c d l h (Between i x y) e = rw e
 
-pub bare-rest : (key : List ℕ) → drop 1 (bareKey key) ≡ drop 1 key
+pub bare-plain : (key : List ℕ) → length key ≡ keyWidth → bareKey key ≡ plainKey (getD (bareKey key) 0 0) (rangeIn key) key
+bare-plain (n ∷ a ∷ b ∷ c ∷ d ∷ l ∷ h ∷ []) e =
+    bare-seven n a b c d l h (rangeIn (n ∷ a ∷ b ∷ c ∷ d ∷ l ∷ h ∷ [])) refl
+    ∙ ap (λ (m : ℕ). plainKey m (rangeIn (n ∷ a ∷ b ∷ c ∷ d ∷ l ∷ h ∷ [])) (n ∷ a ∷ b ∷ c ∷ d ∷ l ∷ h ∷ [])) (bare-first n (a ∷ b ∷ c ∷ d ∷ l ∷ h ∷ []))
+bare-plain [] e = absurd (omega arith)
+bare-plain (n ∷ []) e = absurd (omega arith)
+bare-plain (n ∷ a ∷ []) e = absurd (omega arith)
+bare-plain (n ∷ a ∷ b ∷ []) e = absurd (omega arith)
+bare-plain (n ∷ a ∷ b ∷ c ∷ []) e = absurd (omega arith)
+bare-plain (n ∷ a ∷ b ∷ c ∷ d ∷ []) e = absurd (omega arith)
+bare-plain (n ∷ a ∷ b ∷ c ∷ d ∷ l ∷ []) e = absurd (omega arith)
+bare-plain (n ∷ a ∷ b ∷ c ∷ d ∷ l ∷ h ∷ x ∷ r) e = absurd (omega arith)
+
+-- its first four values are the key's, and it is as long
+values-unranged : (g : Range) (l : List ℕ) → take maxColumns (drop 1 (unranged g l)) ≡ take maxColumns (drop 1 l)
+unfolding unranged
+values-unranged None l = refl
+values-unranged (Between i x y) [] = refl
+values-unranged (Between i x y) (m ∷ vs) = take-set-le maxColumns (set vs 4 0) 5 0 (omega arith) ∙ take-set-le maxColumns vs 4 0 (omega arith)
+
+pub bare-values : (key : List ℕ) → take maxColumns (drop 1 (bareKey key)) ≡ take maxColumns (drop 1 key)
 unfolding bareKey
-bare-rest [] = byTest (countsIn []) (λ h. rw h) (λ h. rw h)
-bare-rest (x ∷ key) = byTest (countsIn (x ∷ key)) (λ h. rw h) (λ h. rw h)
+bare-values [] = values-unranged (rangeIn []) []
+bare-values (x ∷ key) = values-unranged (rangeIn (x ∷ key)) ((x % countBit) ∷ key)
 
 pub length-bare : (key : List ℕ) → length (bareKey key) ≡ length key
-unfolding bareKey
-length-bare key = byTest (countsIn key) (λ h. rw (h, length-set)) (λ h. rw h)
+unfolding bareKey unranged
+length-bare key = go (rangeIn key) (set key 0 (getD key 0 0 % countBit)) ∙ length-set key 0 (getD key 0 0 % countBit)
+  where
+    go : (g : Range) (l : List ℕ) → length (unranged g l) ≡ length l
+    go None l = refl
+    go (Between i x y) l = length-set (set l lowestOffset 0) highestOffset 0 ∙ length-set l lowestOffset 0
 
--- so a key without the bit is its marks and the rest
-pub bare-parts : (key : List ℕ) → 0 < length key → getD (bareKey key) 0 0 ∷ drop 1 key ≡ bareKey key
-bare-parts key h = ap (λ (l : List ℕ). getD (bareKey key) 0 0 ∷ l) (sym (bare-rest key)) ∙ sym (drop-cons (bareKey key) 0 0 (let l = length-bare key in omega arith))
-
--- the key's first number, its marks and what it says, and its first four values, from the client's numbers
+-- the key's first number, its marks and what it says, its range, and its first four values, from the client's numbers
 pub first-read : (c : Client) → getD c entryOffset 0 ≡ getD (keyIn (entryOf c)) 0 0
 unfolding keyIn entryOf
 first-read c = sym (getD-take keyWidth (drop entryOffset c) 0 0 (omega arith) ∙ getD-drop entryOffset c 0 0)
 
-module _ (c : Client) (m : ℕ) (e : m ≡ getD c entryOffset 0) where
+end-read : (c : Client) (j : ℕ) → j < keyWidth → getD c (entryOffset + j) 0 ≡ getD (keyIn (entryOf c)) j 0
+unfolding keyIn entryOf
+end-read c j h = sym (getD-take keyWidth (drop entryOffset c) j 0 h ∙ getD-drop entryOffset c j 0)
+
+bare-same : (m : ℕ) (key : List ℕ) → length key ≡ keyWidth → m ≡ getD key 0 0 → m % countBit ≡ getD (bareKey key) 0 0
+bare-same m [] l e = absurd (omega arith)
+bare-same m (x ∷ key) l e = rw e (bare-first x key)
+
+module _ (c : Client) (w : length c ≡ clientWidth narrow) (m : ℕ) (e : m ≡ getD c entryOffset 0) where
   pub marks-read : (n : ℕ) → ((vs : List ℕ) → n ≡ getD (bareKey (m ∷ vs)) 0 0) → n ≡ getD (bareKey (keyIn (entryOf c))) 0 0
-  marks-read n f = f [] ∙ bare-first m (keyIn (entryOf c)) (e ∙ first-read c)
+  marks-read n f = f [] ∙ sym (bare-first m []) ∙ bare-same m (keyIn (entryOf c)) (key-wide c w) (e ∙ first-read c)
 
   pub counts-read : (r : Bool) → ((vs : List ℕ) → r ≡ countsIn (m ∷ vs)) → r ≡ isCount (entryOf c)
   unfolding isCount countsIn
   counts-read r f = f [] ∙ ap (λ (x : ℕ). eqb (x / countBit % 2) 1) (e ∙ first-read c)
 
+  pub range-read : (l h : ℕ) (g : Range) → l ≡ getD c (entryOffset + lowestOffset) 0 → h ≡ getD c (entryOffset + highestOffset) 0 → g ≡ rangeOf (m / rangeUnit) l h
+      → g ≡ rangeAt c
+  unfolding rangeAt rangeIn
+  range-read l h g x y f =
+      f ∙ ap (λ (z : ℕ). rangeOf (z / rangeUnit) l h) (e ∙ first-read c)
+      ∙ ap (λ (z : ℕ). rangeOf (getD (keyIn (entryOf c)) 0 0 / rangeUnit) z h) (x ∙ end-read c lowestOffset (omega arith))
+      ∙ ap (λ (z : ℕ). rangeOf (getD (keyIn (entryOf c)) 0 0 / rangeUnit) (getD (keyIn (entryOf c)) lowestOffset 0) z) (y ∙ end-read c highestOffset (omega arith))
+
 key-rest : (c : Client) → drop 1 (keyIn (entryOf c)) ≡ take (keyWidth - 1) (drop heldValuesOffset c)
 unfolding keyIn entryOf
 key-rest c = drop-take 1 keyWidth (drop entryOffset c) ∙ ap (take (keyWidth - 1)) (drop-drop 1 entryOffset c)
 
--- the part that holds all of the key but its first number
-pub rest-read : (s : List ℕ) (d : ℕ) → take (clientOffset narrow d + heldValuesOffset + keyWidth - 1 - (clientOffset narrow d + heldValuesOffset)) (drop (clientOffset narrow d + heldValuesOffset) s) ≡ drop 1 (keyIn (entryOf (clientIn narrow s d)))
-rest-read s d =
-    let n : clientOffset narrow d + heldValuesOffset + keyWidth - 1 - (clientOffset narrow d + heldValuesOffset) ≡ keyWidth - 1 = omega arith in
-    rw n (sym (part-at s d heldValuesOffset (keyWidth - 1) (omega arith)) ∙ sym (key-rest (clientIn narrow s d)))
+-- the part that holds so many of the key's numbers behind its first
+pub rest-read : (s : List ℕ) (d n : ℕ) → n ≤ keyWidth - 1
+    → take (clientOffset narrow d + heldValuesOffset + n - (clientOffset narrow d + heldValuesOffset)) (drop (clientOffset narrow d + heldValuesOffset) s)
+    ≡ take n (drop 1 (keyIn (entryOf (clientIn narrow s d))))
+rest-read s d n h =
+    let m : clientOffset narrow d + heldValuesOffset + n - (clientOffset narrow d + heldValuesOffset) ≡ n = omega arith in
+    rw m (sym (part-at s d heldValuesOffset n (omega arith)) ∙ sym (ap (take n) (key-rest (clientIn narrow s d)) ∙ take-take n (keyWidth - 1) (drop heldValuesOffset (clientIn narrow s d)) h))
 
 values-in : (c : Client) → take maxColumns (drop heldValuesOffset c) ≡ take maxColumns (drop 1 (keyIn (entryOf c)))
 values-in c = sym (ap (take maxColumns) (key-rest c) ∙ take-take maxColumns (keyWidth - 1) (drop heldValuesOffset c) (omega arith))

@@ -1,31 +1,36 @@
 -- Laws of the check for senseless contents: its ways out, by what was read of the client. Leans on rules and on the laws of HeldLaws and of
 -- columns. Assumes nothing.
 use mathlib.Core.Path.{_≡_, refl, sym, ap, _∙_}
-use mathlib.Core.Bool.{Bool, true, false, not, _&&_, _||_}
-use mathlib.Core.List.{List, [], _∷_}
+use mathlib.Core.Bool.{Bool, true, false, cond, not, _&&_, _||_}
+use mathlib.Core.List.{List, []}
 use Prim.Native.Nat.{ℕ, _+_, _^_, _≤_, _<_}
 use native.Mathlib.Nat.{pow-le-pow-right}
 use native.Mathlib.Omega.{arith}
 use lib.Dec.{eqb, leb}
-use lib.ListN.{getD, drop}
+use lib.ListN.{length, getD}
 use borrow.Author.Tests.{eq-eqb, ne-eqb, lt-ltb, le-ltb, le-leb, lt-leb, not-false}
 use Rattle.laws.proofs.ListLaws.{ne-same}
+use Rattle.laws.proofs.TestLaws.{byTest, or-false}
 use Rattle.query.specs.Query.{Query, readCount, writeCount}
-use Rattle.query.specs.Encoding.{columnsIn, namesAll, isKey, bareKey}
+use Rattle.query.specs.declared.Range.{Range}
+use Rattle.query.specs.declared.Range.the-variants.{None}
+use Rattle.query.specs.Range.{isRanged, isRange, isReversed}
+use Rattle.query.specs.Encoding.{columnsIn, queryIn, namesAll, isKey, rangeIn, bareKey}
 use Rattle.query.specs.Shape.{Shape, shapeOf, maxColumns, narrow}
 use Rattle.query.proofs.NodeLists.{read-count-most}
 use Rattle.query.proofs.EncodingLaws.{columns-length}
-use Rattle.rules.specs.Layout.{lookRoom, reads, inserts, deletes}
+use Rattle.rules.specs.Layout.{lookRoom, clientWidth, reads, inserts, deletes}
 use Rattle.rules.specs.Answers.{keyIn, isCount, isLong}
-use Rattle.rules.specs.Work.{stepsInAll}
-use Rattle.rules.specs.Client.{Client, kind, steps, entryOf, idle, isIdle, queryAt, workAt, isBad}
+use Rattle.rules.specs.Work.{Ask, askFault, askIn, workIn, workFault, stepsInAll}
+use Rattle.rules.specs.Client.{Client, kind, steps, entryOf, idle, isIdle, queryAt, rangeAt, workAt, isBad}
 use Rattle.rules.specs.Memory.{shapeIn, clientIn}
-use Rattle.rules.proofs.ClientLaws.{key-tests, steps-at}
+use Rattle.rules.proofs.WorkLaws.{no-range, work-fault}
+use Rattle.rules.proofs.ClientLaws.{key-wide, key-tests, steps-at}
 use Rattle.clients.specs.declared.Held.{Held}
-use Rattle.clients.specs.ClientContracts.{Fit, IsHeld, stepsOfKind}
-use Rattle.clients.proofs.HeldLaws.{held-query, key-wide}
+use Rattle.clients.specs.ClientContracts.{Fit, IsHeld, plainKey, stepsOfKind}
+use Rattle.clients.proofs.HeldLaws.{held-query}
 use Rattle.clients.proofs.ClientMemory.{length-client}
-use Rattle.clients.proofs.ClientReads.{bare-parts}
+use Rattle.clients.proofs.ClientReads.{bare-plain}
 
 -- ---- counts of nodes and of steps
 pub power-small : (n p : ℕ) → p ≡ 2 ^ n → n ≤ maxColumns → p ≤ lookRoom
@@ -57,13 +62,31 @@ module _ (x k m : ℕ) where
       → (vs : List ℕ) → not r ≡ (eqb x inserts && not (namesAll (columnsIn k m vs)))
   insert-names r e h vs = rw (eq-eqb x inserts h) (ap not (e vs))
 
--- a writer that says "count"
-module _ (x : ℕ) (b : Bool) where
-  pub wanting-read : x ≡ reads → false ≡ (not (eqb x reads) && b)
+-- a writer that says "count", or has a range
+module _ (x : ℕ) (b r : Bool) where
+  pub wanting-read : x ≡ reads → false ≡ (not (eqb x reads) && (b || r))
   wanting-read h = rw (eq-eqb x reads h)
 
-  pub wanting-write : (x ≡ reads → ⊥) → b ≡ (not (eqb x reads) && b)
-  wanting-write h = rw (ne-eqb x reads h)
+  module _ (h : x ≡ reads → ⊥) where
+    pub wanting-count : b ≡ true → true ≡ (not (eqb x reads) && (b || r))
+    wanting-count e = rw (ne-eqb x reads h, e)
+
+    pub wanting-range : b ≡ false → r ≡ (not (eqb x reads) && (b || r))
+    wanting-range e = rw (ne-eqb x reads h, e)
+
+-- a range that a begin would refuse
+fault-is : (x : Ask) → not (eqb (askFault x) 0) ≡ not (isRange (x .shape) (x .query) (x .range)) || isReversed (x .range)
+unfolding askFault
+fault-is x = go (isRange (x .shape) (x .query) (x .range)) (isReversed (x .range))
+  where
+    go : (a b : Bool) → not (eqb (cond a (cond b 14 0) 2) 0) ≡ not a || b
+    go true true = refl
+    go true false = refl
+    go false b = refl
+
+none-good : (sh : Shape) (q : Query) (g : Range) → g ≡ None → not (isRange sh q g) || isReversed g ≡ false
+unfolding isRange isReversed
+none-good sh q g e = rw e
 
 -- ---- the ways out
 -- a client with a kind is not idle
@@ -78,8 +101,9 @@ kind-busy c h = ne-same c (idle narrow) (λ e. h (ap (λ (l : List ℕ). getD l 
 unfoldable isBadBusy : Shape → Client → Bool
 isBadBusy sh c =
     (not (isKey sh (bareKey (keyIn (entryOf c))))
-    || ((not (eqb (kind c) reads) && isCount (entryOf c)) || (eqb (kind c) inserts && not (namesAll (queryAt sh c)))))
-    || (leb (stepsOfKind (kind c) (queryAt sh c)) (steps c) || isLong (entryOf c))
+    || ((not (eqb (kind c) reads) && (isCount (entryOf c) || isRanged (rangeAt c))) || (eqb (kind c) inserts && not (namesAll (queryAt sh c)))))
+    || (not (eqb (workFault (workAt sh c)) 0)
+    || (leb (stepsOfKind (kind c) (queryAt sh c)) (steps c) || isLong (entryOf c)))
 
 module _ (sh : Shape) (c : Client) where
   pub bad-none : (r : Bool) → r ≡ isIdle narrow c → kind c ≡ 0 → not r ≡ isBad narrow sh c
@@ -91,9 +115,9 @@ module _ (sh : Shape) (c : Client) where
   pub none-idle : false ≡ isBad narrow sh c → kind c ≡ 0 → true ≡ isIdle narrow c
   none-idle g h = sym (not-false (isIdle narrow c) (bad-none (isIdle narrow c) refl h ∙ sym g))
 
-  bad-busy : sh .columns ≤ maxColumns → (kind c ≡ 0 → ⊥) → kind c ≤ deletes → isBadBusy sh c ≡ isBad narrow sh c
-  unfolding isBad isBadBusy isCount
-  bad-busy f h g = rw (kind-busy c h, ne-eqb (kind c) 0 h, le-ltb deletes (kind c) g, key-tests sh c f, steps-of-kind sh c)
+  bad-busy : length c ≡ clientWidth narrow → sh .columns ≤ maxColumns → (kind c ≡ 0 → ⊥) → kind c ≤ deletes → isBadBusy sh c ≡ isBad narrow sh c
+  unfolding isBad isBadBusy
+  bad-busy w f h g = rw (kind-busy c h, ne-eqb (kind c) 0 h, le-ltb deletes (kind c) g, key-tests sh c w f, steps-of-kind sh c)
 
   -- x: the kind that was read
   module _ (x : ℕ) (is : x ≡ kind c) (some : x ≡ 0 → ⊥) where
@@ -103,18 +127,18 @@ module _ (sh : Shape) (c : Client) where
         let h : kind c ≡ 0 → ⊥ = λ z. some (is ∙ z) in
         rw (kind-busy c h, ne-eqb (kind c) 0 h, lt-ltb deletes (kind c) (omega arith))
 
-    module _ (few : sh .columns ≤ maxColumns) (most : x ≤ deletes) where
+    module _ (wide : length c ≡ clientWidth narrow) (few : sh .columns ≤ maxColumns) (most : x ≤ deletes) where
       whole : isBadBusy sh c ≡ isBad narrow sh c
-      whole = bad-busy few (λ z. some (is ∙ z)) (omega arith)
+      whole = bad-busy wide few (λ z. some (is ∙ z)) (omega arith)
 
-      -- a: the key's test, w: that of what is wanted, b: the insert's, n: its steps in all, i: those that it has made
+      -- a: the key's test, w: that of what is wanted, b: the insert's, f: the range's, n: its steps in all, i: those that it has made
       module _ (a : Bool) (p : a ≡ not (isKey sh (bareKey (keyIn (entryOf c))))) where
         pub bad-key : a ≡ true → true ≡ isBad narrow sh c
         unfolding isBadBusy
         bad-key h = rw (← p, h) at whole
 
-        module _ (h : a ≡ false) (w : Bool) (v : w ≡ (not (eqb x reads) && isCount (entryOf c))) where
-          wanting-is : w ≡ (not (eqb (kind c) reads) && isCount (entryOf c))
+        module _ (h : a ≡ false) (w : Bool) (v : w ≡ (not (eqb x reads) && (isCount (entryOf c) || isRanged (rangeAt c)))) where
+          wanting-is : w ≡ (not (eqb (kind c) reads) && (isCount (entryOf c) || isRanged (rangeAt c)))
           wanting-is = v ∙ rw is
 
           pub bad-wanting : w ≡ true → true ≡ isBad narrow sh c
@@ -129,32 +153,59 @@ module _ (sh : Shape) (c : Client) where
             unfolding isBadBusy
             bad-insert g = rw (← p, h, ← wanting-is, u, ← insert-is, g) at whole
 
-            module _ (g : b ≡ false) (n i : ℕ) (t : n ≡ stepsOfKind x (queryAt sh c)) (s : i ≡ steps c) where
-              steps-is : stepsOfKind (kind c) (queryAt sh c) ≡ n
-              steps-is = sym (t ∙ rw is)
-
-              pub bad-step : n ≤ i → true ≡ isBad narrow sh c
+            module _ (g : b ≡ false) (f : Bool) (y : f ≡ not (eqb (workFault (workAt sh c)) 0)) where
+              pub bad-range : f ≡ true → true ≡ isBad narrow sh c
               unfolding isBadBusy
-              bad-step l = rw (← p, h, ← wanting-is, u, ← insert-is, g, steps-is, ← s, le-leb n i l) at whole
+              bad-range k = rw (← p, h, ← wanting-is, u, ← insert-is, g, ← y, k) at whole
 
-              pub bad-length : i < n → (z : Bool) → z ≡ isLong (entryOf c) → z ≡ isBad narrow sh c
-              unfolding isBadBusy
-              bad-length l z m = m ∙ (rw (← p, h, ← wanting-is, u, ← insert-is, g, steps-is, ← s, lt-leb n i l) at whole)
+              module _ (k : f ≡ false) (n i : ℕ) (t : n ≡ stepsOfKind x (queryAt sh c)) (s : i ≡ steps c) where
+                steps-is : stepsOfKind (kind c) (queryAt sh c) ≡ n
+                steps-is = sym (t ∙ rw is)
+
+                pub bad-step : n ≤ i → true ≡ isBad narrow sh c
+                unfolding isBadBusy
+                bad-step l = rw (← p, h, ← wanting-is, u, ← insert-is, g, ← y, k, steps-is, ← s, le-leb n i l) at whole
+
+                pub bad-length : i < n → (z : Bool) → z ≡ isLong (entryOf c) → z ≡ isBad narrow sh c
+                unfolding isBadBusy
+                bad-length l z m = m ∙ (rw (← p, h, ← wanting-is, u, ← insert-is, g, ← y, k, steps-is, ← s, lt-leb n i l) at whole)
 
 -- ---- the code's tests, which go by what was read, in these terms
 module _ {h : Held} {s : List ℕ} {d : ℕ} (i : IsHeld h s d) where
   pub few-held : h .columns ≤ maxColumns → shapeIn s .columns ≤ maxColumns
   few-held l = let e = i .columns in omega arith
 
-  pub key-held : {a : Bool} → Fit s d → a ≡ not (isKey (shapeOf (h .columns)) (h .marks ∷ drop 1 (keyIn (entryOf (clientIn narrow s d)))))
-      → a ≡ not (isKey (shapeIn s) (bareKey (keyIn (entryOf (clientIn narrow s d)))))
-  key-held f e =
-      let key : List ℕ = keyIn (entryOf (clientIn narrow s d)) in
-      let w = key-wide (clientIn narrow s d) (length-client s d f) in
-      e ∙ rw (i .columns, i .marks, bare-parts key (omega arith))
+  -- g: the range that was read
+  module _ {g : Range} (e : g ≡ rangeAt (clientIn narrow s d)) where
+    pub key-held : {a : Bool} → Fit s d → a ≡ not (isKey (shapeOf (h .columns)) (plainKey (h .marks) g (keyIn (entryOf (clientIn narrow s d)))))
+        → a ≡ not (isKey (shapeIn s) (bareKey (keyIn (entryOf (clientIn narrow s d)))))
+    unfolding rangeAt
+    key-held f y =
+        let key : List ℕ = keyIn (entryOf (clientIn narrow s d)) in
+        let w = key-wide (clientIn narrow s d) (length-client s d f) in
+        y ∙ rw (i .columns, i .marks, e) (ap (λ (l : List ℕ). not (isKey (shapeIn s) l)) (sym (bare-plain key w)))
 
-  pub wanting-held : {w : Bool} → w ≡ (not (eqb (h .kind) reads) && h .counts) → w ≡ (not (eqb (h .kind) reads) && isCount (entryOf (clientIn narrow s d)))
-  wanting-held e = e ∙ ap (λ (b : Bool). not (eqb (h .kind) reads) && b) (i .counts)
+    pub wanting-held : {w : Bool} → w ≡ (not (eqb (h .kind) reads) && (h .counts || isRanged g))
+        → w ≡ (not (eqb (h .kind) reads) && (isCount (entryOf (clientIn narrow s d)) || isRanged (rangeAt (clientIn narrow s d))))
+    wanting-held y = y ∙ rw (i .counts, e)
+
+    -- where no writer has one
+    pub range-held : {f w : Bool} → h .columns ≤ maxColumns → w ≡ (not (eqb (h .kind) reads) && (h .counts || isRanged g)) → w ≡ false
+        → ((vs : List ℕ) → f ≡ (not (isRange (shapeOf (h .columns)) (columnsIn (h .columns) (h .marks) vs) g) || isReversed g))
+        → f ≡ not (eqb (workFault (workAt (shapeIn s) (clientIn narrow s d))) 0)
+    unfolding workAt queryAt rangeAt askIn
+    range-held {f} l v u y =
+        let c = clientIn narrow s d in
+        let key : List ℕ = keyIn (entryOf c) in
+        let t : f ≡ not (isRange (shapeIn s) (queryIn (shapeIn s) (bareKey key)) (rangeIn key)) || isReversed (rangeIn key) =
+        y (h .values) ∙ rw (held-query i l, e, i .columns) in
+        let k : workFault (workIn (shapeIn s) (kind c) key) ≡ cond (eqb (kind c) reads) (askFault (askIn (shapeIn s) key)) 0 = work-fault (shapeIn s) (kind c) key in
+        rw k
+        (byTest (eqb (kind c) reads)
+        (λ r. rw r (t ∙ sym (fault-is (askIn (shapeIn s) key))))
+        (λ r. let z : h .counts || isRanged g ≡ false = (rw (i .kind, r) at (sym v ∙ u)) in
+        let n : rangeIn key ≡ None = sym e ∙ no-range g (or-false (h .counts) _ z .1) in
+        rw r (t ∙ none-good (shapeIn s) (queryIn (shapeIn s) (bareKey key)) (rangeIn key) n)))
 
   pub insert-held : {b : Bool} → h .columns ≤ maxColumns → ((vs : List ℕ) → b ≡ (eqb (h .kind) inserts && not (namesAll (columnsIn (h .columns) (h .marks) vs))))
       → b ≡ (eqb (h .kind) inserts && not (namesAll (queryAt (shapeIn s) (clientIn narrow s d))))

@@ -6,17 +6,17 @@ use mathlib.Core.List.{List, [], _∷_}
 use Prim.Native.Nat.{ℕ, zero, suc, _+_, _/_, _%_, _^_, _≤_, _<_}
 use native.Mathlib.Omega.{arith}
 use lib.Dec.{eqb}
-use lib.ListN.{length, getD, take, drop, length-drop}
-use lib.Seq.{length-take-le}
+use lib.ListN.{length, getD, take, drop}
 use borrow.Author.Tests.{ltb-true}
 use Rattle.laws.proofs.ListLaws.{and-left}
 use Rattle.query.specs.Query.{Query, readNode, writeNode, readCount, writeCount}
 use Rattle.query.specs.Encoding.{columnOf, columnsIn, queryIn, isKey, bareKey, keyWidth, labelWords}
 use Rattle.query.specs.Shape.{Shape, shapeOf, maxColumns, narrow}
 use Rattle.query.proofs.NodeLists.{read-count-most, write-count-most}
-use Rattle.query.proofs.EncodingLaws.{query-in-length, bare-plain}
+use Rattle.query.proofs.EncodingLaws.{query-in-length}
+use Rattle.query.proofs.KeyLaws.{plain-bare}
 use Rattle.columns.proofs.KeyLoops.{key-whole}
-use Rattle.rules.specs.Layout.{lookRoom, reads, clientWidth}
+use Rattle.rules.specs.Layout.{lookRoom, reads}
 use Rattle.rules.specs.Answers.{keyIn}
 use Rattle.rules.specs.Table.{target}
 use Rattle.rules.specs.Work.{Ask, readLabels, Write, writeLabels, writeIn, Work, asking, writing, keyOf, stepsInAll}
@@ -24,11 +24,11 @@ use Rattle.rules.specs.Client.{Client, kind, steps, entryOf, queryAt, writeAt, 
 use Rattle.rules.specs.Memory.{shapeIn, clientIn}
 use Rattle.rules.specs.Sound.{Busy}
 use Rattle.rules.proofs.WorkLaws.{target-length}
-use Rattle.rules.proofs.ClientLaws.{busy-key, writes-at, asked-counts, steps-at, look-count-of, read-label-of, announcement-count-of, write-label-of}
+use Rattle.rules.proofs.ClientLaws.{key-wide, busy-key, writes-at, asked-counts, steps-at, look-count-of, read-label-of, announcement-count-of, write-label-of}
 use Rattle.clients.specs.declared.Held.{Held}
 use Rattle.clients.specs.ClientContracts.{Fit, IsHeld, heldQuery, At}
 use Rattle.clients.proofs.ClientMemory.{length-client}
-use Rattle.clients.proofs.ClientReads.{bare-rest, length-bare}
+use Rattle.clients.proofs.ClientReads.{bare-values, length-bare}
 
 -- ---- The query
 -- as many values as there are columns are enough
@@ -45,13 +45,9 @@ unfolding queryAt queryIn
 held-query {h} {s} {d} i l =
     let key : List ℕ = keyIn (entryOf (clientIn narrow s d)) in
     let e = i .columns in
-    rw (i .columns, i .marks, i .values, bare-rest key) (columns-take (shapeIn s .columns) (getD (bareKey key) 0 0) maxColumns (drop 1 key) (omega arith))
+    rw (i .columns, i .marks, i .values, ← bare-values key) (columns-take (shapeIn s .columns) (getD (bareKey key) 0 0) maxColumns (drop 1 (bareKey key)) (omega arith))
 
 -- ---- A key of the hall
-pub key-wide : (c : Client) → length c ≡ clientWidth narrow → length (keyIn (entryOf c)) ≡ keyWidth
-unfolding keyIn entryOf
-key-wide c w = length-take-le keyWidth (drop 5 c) (rw length-drop (omega arith))
-
 pub key-marks : (k : ℕ) (key : List ℕ) → k ≤ maxColumns → length key ≡ keyWidth → isKey (shapeOf k) key ≡ true → getD key 0 0 < 2 ^ k
 key-marks k key l w e = ltb-true (getD key 0 0) (2 ^ k) (and-left _ _ (sym (key-whole k key l w) ∙ e))
 
@@ -114,7 +110,7 @@ module _ {h : Held} {s : List ℕ} {d : ℕ} {w : Write} (a : At h s d (writing 
   writer-bare =
       let c : Client = clientIn narrow s d in
       let l : length (target (w .change)) ≡ shapeIn s .columns = rw (← writes-at (a .busy)) (target-length (shapeIn s) (kind c) (keyIn (entryOf c))) in
-      ap bareKey (a .busy .key) ∙ bare-plain (target (w .change)) (let z = a .busy .most in omega arith) ∙ sym (a .busy .key)
+      ap bareKey (a .busy .key) ∙ plain-bare (target (w .change)) (let z = a .busy .most in omega arith) ∙ sym (a .busy .key)
 
   pub writer-announcements : (p : ℕ) → p ≡ 2 ^ h .columns → p ≡ length (writeLabels w)
   unfolding queryAt writeCount

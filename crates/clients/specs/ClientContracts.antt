@@ -3,12 +3,14 @@
 use mathlib.Core.Path.{_≡_}
 use mathlib.Core.Bool.{Bool, cond}
 use mathlib.Core.List.{List, _∷_}
-use Prim.Native.Nat.{ℕ, _+_, _≤_, _<_}
+use Prim.Native.Nat.{ℕ, _+_, _-_, _≤_, _<_}
 use lib.Dec.{eqb}
 use lib.ListN.{length, getD, take, drop, set}
 use Rattle.lists.specs.Lists.{padded, written}
 use Rattle.query.specs.Query.{Query, readCount, writeCount}
-use Rattle.query.specs.Encoding.{columnsIn, bareKey}
+use Rattle.query.specs.declared.Range.{Range}
+use Rattle.query.specs.Encoding.{keyWidth, columnsIn, bareKey}
+use Rattle.columns.specs.KeyContracts.{queryWidth}
 use Rattle.query.specs.Shape.{Shape, narrow, maxColumns}
 use Rattle.rules.specs.Layout.{maxClients, listWidth, clientWidth, clientsEnd, heldLengthOffset, heldListOffset, reads}
 use Rattle.rules.specs.Work.{Ask, Write, Work, asking, writing}
@@ -32,6 +34,10 @@ pub record IsHeld (h : Held) (s : List ℕ) (d : ℕ) : Type 0 where
   pub marks : h .marks ≡ getD (bareKey (keyIn (entryOf (clientIn narrow s d)))) 0 0
   pub counts : h .counts ≡ isCount (entryOf (clientIn narrow s d))
   pub values : h .values ≡ take maxColumns (drop 1 (keyIn (entryOf (clientIn narrow s d))))
+
+-- a key with these marks in place of its first number, and 0 in place of its ends where it has a range
+unfoldable pub plainKey : ℕ → Range → List ℕ → List ℕ
+plainKey marks range key = marks ∷ padded (keyWidth - 1) (take (queryWidth range) (drop 1 key))
 
 -- the query that its marks and values say
 abbrev pub heldQuery : Held → Query

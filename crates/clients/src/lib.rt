@@ -1,26 +1,29 @@
 // One client's numbers in the desks memory (docs/LAYOUT.md): read, changed, and checked for senseless contents.
 // The rules stand in rules, what a function takes for granted in specs/ClientContracts.antt.
 use hall::Hall;
+use query::Range;
 ghost use mathlib.Core.Path.{_≡_};
-ghost use mathlib.Core.Bool.{not, _&&_};
-ghost use mathlib.Core.List.{List, _∷_};
+ghost use mathlib.Core.Bool.{not, _&&_, _||_};
+ghost use mathlib.Core.List.{List};
 ghost use Prim.Native.Nat.{ℕ, _+_, _*_, _^_, _<_, _≤_};
 ghost use lib.Dec.{eqb};
-ghost use lib.ListN.{length, getD, drop, set};
+ghost use lib.ListN.{length, getD, set};
 ghost use Rattle.lists.specs.Lists.{allBelow};
 ghost use Rattle.query.specs.Encoding.{columnsIn, isKey, keyWidth, namesAll};
+ghost use Rattle.query.specs.Range.{isRanged};
 ghost use Rattle.query.specs.Shape.{Shape, shapeOf, maxColumns, narrow};
 ghost use Rattle.rules.specs.Answers.{keyIn, isCount, isLong};
-ghost use Rattle.rules.specs.Client.{steps, sawPending, didChange, foundFull, entryOf, idle, isIdle, isBad, stepped, flag, noted, wrote};
+ghost use Rattle.rules.specs.Client.{steps, sawPending, didChange, foundFull, entryOf, idle, isIdle, rangeAt, isBad, stepped, flag, noted, wrote};
 ghost use Rattle.rules.specs.Layout.{maxRecords, maxClients, maxWord, lookRoom, listRoom, clientWidth, clientOffset, clientsEnd, heldListOffset, reads, inserts};
 ghost use Rattle.rules.specs.Memory.{shapeIn, clientIn, withClient};
-ghost use Rattle.clients.specs.ClientContracts.{Fit, IsHeld, idleAt, begunWith, stepsOfKind, valueSet};
+ghost use Rattle.clients.specs.ClientContracts.{Fit, IsHeld, plainKey, idleAt, begunWith, stepsOfKind, valueSet};
 
 // How many clients there are.
 const CLIENTS: usize = Hall::CLIENTS as usize;
 
 // What a call reads of its client, once: the hall's columns, the client's kind, how many steps it has made, its query as marks and values, and
-// whether it wants a count. Whoever is called next gets it by value.
+// whether it wants a count. Whoever is called next gets it by value. A range is read by itself where it is tested and where records are taken:
+// most reads have none, and every step would carry it.
 pub struct Held {
     pub columns: usize,
     pub kind: u32,
@@ -119,7 +122,18 @@ pub fn read(clients: &[u32], d: usize) -> Held
     }
 }
 
-// A client's own entry: its query's key with what it wants, the list's length or the count, the revisions noted, the list.
+// The range of client d.
+pub fn range(clients: &[u32], d: usize) -> Range
+    requires { ⌜ Fit (now clients) d ⌝ }
+    ensures { λ r. ⌜ r ≡ rangeAt (clientIn narrow (now (clients .entry)) d) ⌝ }
+{
+    let first = word(clients, d, Hall::ENTRY_OFFSET);
+    let lowest = word(clients, d, Hall::ENTRY_OFFSET + Hall::LOWEST_OFFSET);
+    let highest = word(clients, d, Hall::ENTRY_OFFSET + Hall::HIGHEST_OFFSET);
+    columns::keys::range_of(first, lowest, highest)
+}
+
+// A client's own entry: its query's key with what it wants and its range, the list's length or the count, the revisions noted, the list.
 pub fn entry<'a>(clients: &'a [u32], d: usize) -> &'a [u32]
     requires { ⌜ Fit (now clients) d ⌝ }
     ensures { λ r. ⌜ now r ≡ entryOf (clientIn narrow (now (clients .entry)) d) ⌝ }
@@ -233,24 +247,27 @@ fn steps_in_all(kind: u32, k: usize, marks: u32) -> usize
     count + 1 + count
 }
 
-// Whether a client's key, with these marks in place of its first number, is that of no query of k columns.
-fn bad_key(clients: &[u32], d: usize, k: usize, marks: u32) -> bool
+// Whether a client's key, with these marks in place of its first number and without its range, is that of no query of k columns.
+fn bad_key(clients: &[u32], d: usize, k: usize, marks: u32, range: Range) -> bool
     requires { ⌜ Fit (now clients) d × (k ≤ maxColumns) ⌝ }
-    ensures { λ r. ⌜ r ≡ not (isKey (shapeOf k) (marks ∷ drop 1 (keyIn (entryOf (clientIn narrow (now (clients .entry)) d))))) ⌝ }
+    ensures { λ r. ⌜ r ≡ not (isKey (shapeOf k) (plainKey marks range (keyIn (entryOf (clientIn narrow (now (clients .entry)) d))))) ⌝ }
 {
     let at = Hall::HEADER + d * Hall::CLIENT_WIDTH + Hall::HELD_VALUES_OFFSET;
-    let end = at + Hall::KEY_WIDTH - 1;
+    let end = at + columns::keys::query_width(range);
     !columns::keys::is_key(k, marks, &clients[at..end])
 }
 
-// Whether a client that says "count" is a writer: only a read may want one.
-fn bad_wanting(kind: u32, counts: bool) -> bool
-    ensures { λ r. ⌜ r ≡ (not (eqb kind reads) && counts) ⌝ }
+// Whether a client that says "count" or has a range is a writer: only a read may want one or have one.
+fn bad_wanting(kind: u32, counts: bool, range: Range) -> bool
+    ensures { λ r. ⌜ r ≡ (not (eqb kind reads) && (counts || isRanged range)) ⌝ }
 {
-    if kind != Hall::READS {
-        return counts;
+    if kind == Hall::READS {
+        return false;
     }
-    false
+    if counts {
+        return true; // no writer wants one
+    }
+    columns::keys::is_ranged(range)
 }
 
 // Whether an insert has a wildcard.
@@ -276,8 +293,8 @@ fn bad_length(clients: &[u32], d: usize, counts: bool) -> bool
     Hall::LIST < n
 }
 
-// Whether a client, of which h was read, is not idle and its kind, query, wanting, step or list length is out of range. Only where the kind is 0
-// are all its numbers read.
+// Whether a client, of which h was read, is not idle and its kind, query, wanting, step or list length is out of range, or its range is one that
+// a begin would refuse. Only where the kind is 0 are all its numbers read.
 pub fn is_bad(clients: &[u32], d: usize, h: Held) -> bool
     requires { ⌜ Fit (now clients) d × (IsHeld h (now clients) d × (h .columns ≤ maxColumns)) ⌝ }
     ensures { λ r. ⌜ r ≡ isBad narrow (shapeIn (now (clients .entry))) (clientIn narrow (now (clients .entry)) d) ⌝ }
@@ -288,13 +305,17 @@ pub fn is_bad(clients: &[u32], d: usize, h: Held) -> bool
     if Hall::DELETES < h.kind {
         return true;
     }
-    if bad_key(clients, d, h.columns, h.marks) {
+    let range = range(clients, d);
+    if bad_key(clients, d, h.columns, h.marks, range) {
         return true;
     }
-    if bad_wanting(h.kind, h.counts) {
+    if bad_wanting(h.kind, h.counts, range) {
         return true;
     }
     if bad_insert(h.kind, h.columns, h.marks) {
+        return true;
+    }
+    if columns::keys::bad_range(h.columns, h.marks, range) {
         return true;
     }
     if steps_in_all(h.kind, h.columns, h.marks) <= h.steps {

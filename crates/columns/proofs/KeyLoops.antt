@@ -1,9 +1,9 @@
 -- Laws on marks, values and keys, over plain lists. Leans on FillLoop and ColumnLoops. Assumes nothing.
-use mathlib.Core.Path.{_≡_, refl, sym, _∙_}
-use mathlib.Core.Bool.{Bool, true, false, _&&_, not}
+use mathlib.Core.Path.{_≡_, refl, sym, ap, _∙_}
+use mathlib.Core.Bool.{Bool, true, false, _&&_, _||_, not, or-true}
 use mathlib.Core.List.{List, [], _∷_, _++_, map}
 use Prim.Native.Nat.{ℕ, zero, suc, _+_, _-_, _*_, _/_, _%_, _^_, _≤_, _<_}
-use native.Mathlib.Nat.{pow-succ', sub-zero}
+use native.Mathlib.Nat.{pow-succ', sub-zero, div-one, div-div-eq-div-mul}
 use native.Mathlib.Numerals.{add-one}
 use native.Mathlib.Omega.{arith}
 use lib.Dec.{eqb, ltb}
@@ -11,15 +11,19 @@ use lib.ListN.{length, take, drop, getD, set, replicate, length-take, length-dro
 use lib.Seq.{drop-cons, getD-drop, drop-drop}
 use borrow.Author.Tests.{eq-eqb, ne-eqb, lt-ltb, le-ltb, eqb-true, ltb-true, not-true, not-false}
 use Rattle.lists.specs.Lists.{padded, same}
+use Rattle.laws.proofs.ListLaws.{length-padded}
+use Rattle.laws.proofs.TestLaws.{same-test}
 use Rattle.query.specs.declared.Column.{Column}
 use Rattle.query.specs.declared.Column.the-variants.{Is, Wildcard}
+use Rattle.query.specs.declared.Range.{Range}
+use Rattle.query.specs.declared.Range.the-variants.{None, Between}
 use Rattle.query.specs.Query.{Query}
-use Rattle.query.specs.Encoding.{columnOf, columnValue, marks, columnsIn, queryIn, keyWords, isKey, countBit, countsIn, countKey, bareKey}
-use Rattle.query.specs.Shape.{shapeOf}
+use Rattle.query.specs.Encoding.{columnOf, columnValue, marks, columnsIn, queryIn, keyWords, isKey, countBit, countKey, rangeUnit, rangeIn, rangeKey, wantedKey, unranged, bareKey}
+use Rattle.query.specs.Range.{isRanged, isNamed, isRange, isReversed}
+use Rattle.query.specs.Shape.{Shape, shapeOf}
 use Rattle.query.proofs.EncodingLaws.{columns-length}
-use Rattle.rules.specs.Work.{Ask, askKey}
 use Rattle.columns.specs.ColumnContracts.{four}
-use Rattle.columns.specs.KeyContracts.{markOf, keeps, zeroUnder}
+use Rattle.columns.specs.KeyContracts.{markOf, keeps, zeroUnder, queryWidth}
 use Rattle.columns.proofs.FillLoop.{Filled, next-rest, fill-none, fill-more, fill-all, drop-map}
 use Rattle.columns.proofs.ColumnLoops.{at-place, past-all}
 
@@ -145,12 +149,6 @@ unfolding zeroUnder
 under-end values left i h = rw (drop-of-length-le values h)
 
 -- ---- A key's rule: its marks are below 2 ^ k, and no value stands without a mark
-pub same-test : (p r : Bool) → (p ≡ true → r ≡ true) → (r ≡ true → p ≡ true) → p ≡ r
-same-test true true f g = refl
-same-test true false f g = sym (f refl)
-same-test false true f g = g refl
-same-test false false f g = refl
-
 swap : (a b c : Bool) → a && (b && c) ≡ b && (a && c)
 swap true true c = refl
 swap true false c = refl
@@ -201,35 +199,95 @@ key-whole k (m ∷ vs) b h =
     let n : 6 - k ≡ length vs - k = omega arith in
     rw (length-map (columnsIn k m vs) columnValue, columns-length k m vs, n) (key-rule k m vs l)
 
-pub key-high : (k p m : ℕ) (vs : List ℕ) → p ≡ 2 ^ k → k ≤ 4 → length vs ≡ 6 → p ≤ m → false ≡ isKey (shapeOf k) (m ∷ vs)
-key-high k p m vs e b h l = rw (key-whole k (m ∷ vs) b (omega arith), ← e, le-ltb m p l)
+-- zeros behind the values change nothing
+zeros-pass : (m n : ℕ) → zeroUnder m (replicate n 0) ≡ true
+unfolding zeroUnder keeps
+zeros-pass m zero = refl
+zeros-pass m (suc n) = rw (or-true (eqb (m % 2) 1), zeros-pass (m / 2) n)
 
-pub key-low : (k p m : ℕ) (vs : List ℕ) (r : Bool) → p ≡ 2 ^ k → k ≤ 4 → length vs ≡ 6 → m < p → r ≡ zeroUnder m vs → r ≡ isKey (shapeOf k) (m ∷ vs)
-key-low k p m vs r e b h l z = rw (key-whole k (m ∷ vs) b (omega arith), ← e, lt-ltb m p l) z
+under-padded : (m n : ℕ) (vs : List ℕ) → zeroUnder m (vs ++ replicate n 0) ≡ zeroUnder m vs
+unfolding zeroUnder
+under-padded m n [] = zeros-pass m n
+under-padded m n (v ∷ vs) = rw (under-padded (m / 2) n vs)
 
--- ---- What is wanted
--- a first number that says "count" has the bit
-pub count-bit : (m : ℕ) (r : Bool) → ((vs : List ℕ) → r ≡ countsIn (m ∷ vs)) → r ≡ true → countBit ≤ m
-unfolding countsIn
-count-bit m r e h = let z = eqb-true (m / countBit % 2) 1 (sym (e []) ∙ h) in omega arith
+key-padded : (k m : ℕ) (vs : List ℕ) → k ≤ 4 → length vs ≤ 6 → isKey (shapeOf k) (m ∷ padded 6 vs) ≡ (ltb m (2 ^ k) && zeroUnder m vs)
+unfolding padded
+key-padded k m vs b h = key-whole k (m ∷ padded 6 vs) b (let z = length-padded 6 vs h in omega arith) ∙ rw (under-padded m (6 - length vs) vs)
 
-pub bare-of : (m : ℕ) (r : Bool) → ((vs : List ℕ) → r ≡ countsIn (m ∷ vs)) → r ≡ true → (vs : List ℕ) → m - countBit ≡ getD (bareKey (m ∷ vs)) 0 0
+pub key-high : (k p m : ℕ) (vs : List ℕ) → p ≡ 2 ^ k → k ≤ 4 → length vs ≤ 6 → p ≤ m → false ≡ isKey (shapeOf k) (m ∷ padded 6 vs)
+key-high k p m vs e b h l = rw (key-padded k m vs b h, ← e, le-ltb m p l)
+
+pub key-low : (k p m : ℕ) (vs : List ℕ) (r : Bool) → p ≡ 2 ^ k → k ≤ 4 → length vs ≤ 6 → m < p → r ≡ zeroUnder m vs → r ≡ isKey (shapeOf k) (m ∷ padded 6 vs)
+key-low k p m vs r e b h l z = rw (key-padded k m vs b h, ← e, lt-ltb m p l) z
+
+-- ---- What is wanted, and the range
+unranged-first : (g : Range) (m : ℕ) (vs : List ℕ) → getD (unranged g (m ∷ vs)) 0 0 ≡ m
+unfolding unranged
+unranged-first None m vs = refl
+unranged-first (Between c l h) m vs = refl
+
+pub bare-first : (m : ℕ) (vs : List ℕ) → m % countBit ≡ getD (bareKey (m ∷ vs)) 0 0
 unfolding bareKey
-bare-of m r e h vs = rw (← e vs, h)
+bare-first m vs = sym (unranged-first (rangeIn (m ∷ vs)) (m % countBit) vs)
 
-pub bare-is : (m : ℕ) (r : Bool) → ((vs : List ℕ) → r ≡ countsIn (m ∷ vs)) → r ≡ false → (vs : List ℕ) → m ≡ getD (bareKey (m ∷ vs)) 0 0
-unfolding bareKey
-bare-is m r e h vs = rw (← e vs, h)
+-- a column names a value where its bit is 1
+pub named-bit : (k m c : ℕ) (vs : List ℕ) → c < k → eqb (m / 2 ^ c % 2) 1 ≡ isNamed (getD (columnsIn k m vs) c Wildcard)
+unfolding columnsIn isNamed columnOf
+named-bit zero m c vs h = absurd (omega arith)
+named-bit (suc k) m zero vs h = rw (div-one m) (go (m % 2) (omega arith))
+  where
+    go : (b : ℕ) → b < 2 → eqb b 1 ≡ isNamed (columnOf b (getD vs 0 0))
+    go zero l = refl
+    go (suc zero) l = refl
+    go (suc (suc b)) l = absurd (omega arith)
+named-bit (suc k) m (suc c) vs h =
+    let e : m / 2 ^ suc c ≡ m / 2 / 2 ^ c = ap (λ (x : ℕ). m / x) (pow-succ' 2 c) ∙ sym (div-div-eq-div-mul m 2 (2 ^ c)) in
+    rw e (named-bit k (m / 2) c (drop 1 vs) (omega arith))
 
--- the key of a read
+-- the key of a read: its first number without a range
 pub first-small : (cols : List Column) (k : ℕ) (key : List ℕ) → key ≡ keyWords (take k cols) → k ≤ 4 → getD key 0 0 ≤ 15
 unfolding keyWords
 first-small cols k key e h = rw e (marks-four k 0 cols h)
 
-pub ask-counts : (x : Ask) (key : List ℕ) → key ≡ keyWords (x .query) → x .counts ≡ true → set key 0 (getD key 0 0 + countBit) ≡ askKey x
-unfolding askKey countKey
-ask-counts x key e h = rw (h, e)
+-- with a count it is below what a range adds, and without
+module _ (cols : List Column) (k : ℕ) (key : List ℕ) (e : key ≡ keyWords (take k cols)) where
+  pub count-low : k ≤ 4 → (now : List ℕ) → now ≡ set key 0 (getD key 0 0 + countBit) → getD now 0 0 < rangeUnit
+  unfolding keyWords
+  count-low h now n = rw (n, e) (let z = marks-four k 0 cols h in omega arith)
 
-pub ask-lists : (x : Ask) (key : List ℕ) → key ≡ keyWords (x .query) → x .counts ≡ false → key ≡ askKey x
-unfolding askKey
-ask-lists x key e h = rw (h, e)
+  pub list-low : k ≤ 4 → (now : List ℕ) → now ≡ key → getD now 0 0 < rangeUnit
+  unfolding keyWords
+  list-low h now n = rw (n, e) (let z = marks-four k 0 cols h in omega arith)
+
+  pub count-wanted : (counts : Bool) (g : Range) → counts ≡ true → {now : List ℕ} → now ≡ set key 0 (getD key 0 0 + countBit) → rangeKey g now ≡ wantedKey counts g (keyWords (take k cols))
+  unfolding wantedKey countKey
+  count-wanted counts g c n = rw (c, n, e)
+
+  pub list-wanted : (counts : Bool) (g : Range) → counts ≡ false → {now : List ℕ} → now ≡ key → rangeKey g now ≡ wantedKey counts g (keyWords (take k cols))
+  unfolding wantedKey
+  list-wanted counts g c n = rw (c, n, e)
+
+-- ---- A range that a begin would turn down, test by test
+pub no-range : (sh : Shape) (q : Query) (g : Range) → g ≡ None → false ≡ not (isRange sh q g) || isReversed g
+unfolding isRange isReversed
+no-range sh q g e = rw e
+
+module _ (sh : Shape) (q : Query) (g : Range) (c l h : ℕ) (e : g ≡ Between c l h) where
+  pub range-past : sh .columns ≤ c → true ≡ not (isRange sh q g) || isReversed g
+  unfolding isRange isReversed
+  range-past k = rw (e, le-ltb c (sh .columns) k)
+
+  module _ (k : c < sh .columns) (r : Bool) (n : r ≡ isNamed (getD q c Wildcard)) where
+    pub range-named : r ≡ true → true ≡ not (isRange sh q g) || isReversed g
+    unfolding isRange isReversed
+    range-named t = rw (e, lt-ltb c (sh .columns) k, ← n, t)
+
+    pub range-ends : r ≡ false → ltb h l ≡ not (isRange sh q g) || isReversed g
+    unfolding isRange isReversed
+    range-ends t = rw (e, lt-ltb c (sh .columns) k, ← n, t)
+
+-- the numbers of a key that are its query's
+pub query-few : (g : Range) (n : ℕ) → n ≡ queryWidth g → n ≤ 6
+unfolding queryWidth isRanged
+query-few None n e = omega arith
+query-few (Between i l h) n e = omega arith

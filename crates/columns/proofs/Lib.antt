@@ -6,3 +6,4 @@ pub mod KeyLoops
 pub mod MarkLaws
 pub mod MaskLaws
 pub mod LabelLaws
+pub mod BoundLaws

@@ -18,7 +18,8 @@ use Rattle.query.specs.Query.{Query, named, naming, readCount}
 use Rattle.query.specs.Encoding.{columnOf, columnValue, marks, columnsIn, keyWords, namesAll}
 use Rattle.columns.specs.KeyContracts.{markOf}
 use Rattle.columns.proofs.ColumnLoops.{names-value, names-wildcard}
-use Rattle.columns.proofs.KeyLoops.{marks-cons, same-test}
+use Rattle.laws.proofs.TestLaws.{same-test}
+use Rattle.columns.proofs.KeyLoops.{marks-cons}
 
 -- ---- Powers of two
 pub power-most : (k : ℕ) → k ≤ 4 → 2 ^ k ≤ 16

@@ -12,6 +12,7 @@ use lib.ListN.{length, take, drop, getD, set, replicate, length-map, length-appe
 use lib.Seq.{drop-cons, take-at, drop-at, getD-take, getD-drop}
 use borrow.Author.Tests.{eq-eqb, eqb-true}
 use Rattle.laws.proofs.ListLaws.{getD-map}
+use Rattle.laws.proofs.TestLaws.{same-test}
 use Rattle.query.specs.declared.Column.{Column}
 use Rattle.query.specs.declared.Column.the-variants.{Is, Wildcard}
 use Rattle.query.specs.Query.{Query, admits, lies}
@@ -20,7 +21,6 @@ use Rattle.columns.specs.ColumnContracts.{four}
 use Rattle.columns.specs.MaskContracts.{maskOf, maskWords, columnsUnder, queryUnder, Masked}
 use Rattle.columns.proofs.FillLoop.{Filled, drop-map, fill-more, fill-all}
 use Rattle.columns.proofs.ColumnLoops.{at-place, past-all}
-use Rattle.columns.proofs.KeyLoops.{same-test}
 
 -- ---- the mask of a column
 module _ (c : Column) where
@@ -33,20 +33,20 @@ module _ (c : Column) where
   mask-named v e = rw e
 
 -- ---- masks and values name their columns
-length-four : (q : Query) → length q ≤ 4 → length (four q) ≡ 4
+pub length-four : (q : Query) → length q ≤ 4 → length (four q) ≡ 4
 unfolding four
 length-four q h = rw (length-append, length-replicate) (omega arith)
 
-map-four : (f : Column → ℕ) (q : Query) → f Wildcard ≡ 0 → map f (four q) ≡ map f q ++ replicate (4 - length (map f q)) 0
+map-four : (f : Column → ℕ) (q : Query) (z : ℕ) → f Wildcard ≡ z → map f (four q) ≡ map f q ++ replicate (4 - length (map f q)) z
 unfolding four
-map-four f q e = rw length-map (go q (4 - length q))
+map-four f q z e = rw length-map (go q (4 - length q))
   where
-    zeros : (n : ℕ) → map f (replicate n Wildcard) ≡ replicate n 0
-    zeros zero = refl
-    zeros (suc n) = rw (e, zeros n)
+    behind : (n : ℕ) → map f (replicate n Wildcard) ≡ replicate n z
+    behind zero = refl
+    behind (suc n) = rw (e, behind n)
 
-    go : (q : Query) (n : ℕ) → map f (q ++ replicate n Wildcard) ≡ map f q ++ replicate n 0
-    go [] n = zeros n
+    go : (q : Query) (n : ℕ) → map f (q ++ replicate n Wildcard) ≡ map f q ++ replicate n z
+    go [] n = behind n
     go (c ∷ q) n = rw (go q n)
 
 named-back : (c : Column) → columnOf (maskOf c) (columnValue c) ≡ c
@@ -74,16 +74,16 @@ pub words-query : (k : ℕ) (q : Query) → length q ≡ k → k ≤ 4 → query
 unfolding queryUnder four
 words-query k q e h = rw (under-words q (omega arith)) (take-at q (replicate (4 - length q) Wildcard) k e)
 
--- ---- the loop that makes them: of f of each column those before i stand in s
-module _ (f : Column → ℕ) (cols : Query) (k i : ℕ) (s : List ℕ) (t : Filled 4 0 (map f (take k cols)) i s) where
-  pub fill-on : (z : Column) (x : ℕ) → x ≡ f (getD cols i z) → i < k → k ≤ 4 → length cols ≡ 4 → Filled 4 0 (map f (take k cols)) (i + 1) (set s i x)
-  fill-on z x e h g n =
-      let d : drop i (map f (take k cols)) ≡ x ∷ map f (drop (i + 1) (take k cols)) = drop-map f i (take k cols) ∙ ap (map f) (at-place z cols k i h (omega arith)) ∙ rw e in
-      fill-more 4 0 (map f (take k cols)) i s x _ t d (omega arith)
+-- ---- the loop that makes them: of f of each column those before i stand in s, and z, which is f of a wildcard, behind them
+module _ (f : Column → ℕ) (z : ℕ) (cols : Query) (k i : ℕ) (s : List ℕ) (t : Filled 4 z (map f (take k cols)) i s) where
+  pub fill-on : (w : Column) (x : ℕ) → x ≡ f (getD cols i w) → i < k → k ≤ 4 → length cols ≡ 4 → Filled 4 z (map f (take k cols)) (i + 1) (set s i x)
+  fill-on w x e h g n =
+      let d : drop i (map f (take k cols)) ≡ x ∷ map f (drop (i + 1) (take k cols)) = drop-map f i (take k cols) ∙ ap (map f) (at-place w cols k i h (omega arith)) ∙ rw e in
+      fill-more 4 z (map f (take k cols)) i s x _ t d (omega arith)
 
-  pub fill-end : f Wildcard ≡ 0 → k ≤ i → s ≡ map f (four (take k cols))
+  pub fill-end : f Wildcard ≡ z → k ≤ i → s ≡ map f (four (take k cols))
   fill-end e h =
-      fill-all 4 0 (map f (take k cols)) i s t (drop-map f i (take k cols) ∙ ap (map f) (past-all cols k i h)) ∙ sym (map-four f (take k cols) e)
+      fill-all 4 z (map f (take k cols)) i s t (drop-map f i (take k cols) ∙ ap (map f) (past-all cols k i h)) ∙ sym (map-four f (take k cols) z e)
 
 -- eight numbers one by one
 four-of : (s : List ℕ) → length s ≡ 4 → (t : List ℕ) → s ++ t ≡ getD s 0 0 ∷ getD s 1 0 ∷ getD s 2 0 ∷ getD s 3 0 ∷ t
@@ -93,13 +93,17 @@ four-of s l t =
     let e : drop 4 s ≡ [] = drop-of-length-le s n in
     ap (λ (x : List ℕ). x ++ t) (w 0 (omega arith)) ∙ rw (w 1 (omega arith), w 2 (omega arith), w 3 (omega arith), e)
 
+pub eight-of : (s t : List ℕ) → length s ≡ 4 → length t ≡ 4
+    → s ++ t ≡ getD s 0 0 ∷ getD s 1 0 ∷ getD s 2 0 ∷ getD s 3 0 ∷ getD t 0 0 ∷ getD t 1 0 ∷ getD t 2 0 ∷ getD t 3 0 ∷ []
+eight-of s t l m = four-of s l t ∙ ap (λ (x : List ℕ). getD s 0 0 ∷ getD s 1 0 ∷ getD s 2 0 ∷ getD s 3 0 ∷ x) (sym (append-nil t) ∙ four-of t m [])
+
 pub made-of : (q : Query) (s t : List ℕ) → length q ≤ 4 → s ≡ map maskOf (four q) → t ≡ map columnValue (four q)
     → getD s 0 0 ∷ getD s 1 0 ∷ getD s 2 0 ∷ getD s 3 0 ∷ getD t 0 0 ∷ getD t 1 0 ∷ getD t 2 0 ∷ getD t 3 0 ∷ [] ≡ maskWords q
 unfolding maskWords
 made-of q s t h e f =
     let l : length s ≡ 4 = ap length e ∙ length-map (four q) maskOf ∙ length-four q h in
     let m : length t ≡ 4 = ap length f ∙ length-map (four q) columnValue ∙ length-four q h in
-    sym (rw (← e, ← f) (four-of s l t ∙ ap (λ (x : List ℕ). getD s 0 0 ∷ getD s 1 0 ∷ getD s 2 0 ∷ getD s 3 0 ∷ x) (sym (append-nil t) ∙ four-of t m [])))
+    sym (rw (← e, ← f) (eight-of s t l m))
 
 -- ---- one column
 xor-none : (a b : ℕ) → bitXor a b ≡ 0 → a ≡ b

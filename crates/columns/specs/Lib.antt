@@ -2,3 +2,4 @@ pub mod ColumnContracts
 pub mod KeyContracts
 pub mod LabelContracts
 pub mod MaskContracts
+pub mod BoundContracts

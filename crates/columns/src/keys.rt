@@ -1,17 +1,21 @@
-// Queries as numbers in memory (docs/LAYOUT.md): marks, values, keys, and what a read wants.
+// Queries as numbers in memory (docs/LAYOUT.md): marks, values, keys, what a read wants, and its range.
 use hall::Hall;
 ghost use mathlib.Core.Path.{_≡_};
+ghost use mathlib.Core.Bool.{not, _||_};
 ghost use mathlib.Core.List.{List, _∷_, map};
-ghost use Prim.Native.Nat.{ℕ, _-_, _%_, _≤_, _<_, _^_};
+ghost use Prim.Native.Nat.{ℕ, _-_, _/_, _%_, _≤_, _<_, _^_};
 ghost use lib.ListN.{length, getD, take};
+ghost use Rattle.lists.specs.Lists.{padded};
 ghost use Rattle.query.specs.Query.{naming, readCount};
 ghost use Rattle.query.specs.Encoding.{keyWidth};
 ghost use Rattle.query.specs.Shape.{shapeOf, maxColumns};
-ghost use Rattle.query.specs.Encoding.{marks, columnOf, columnsIn, columnValue, keyWords, namesAll, isKey, bareKey};
-ghost use Rattle.rules.specs.Work.{askKey};
+ghost use Rattle.query.specs.declared.Column.the-variants.{Wildcard};
+ghost use Rattle.query.specs.Encoding.{marks, columnOf, columnsIn, columnValue, keyWords, namesAll, isKey, rangeUnit, rangeOf, rangeKey, wantedKey, bareKey};
+ghost use Rattle.query.specs.Range.{isRanged, isNamed, isRange, isReversed};
 ghost use Rattle.columns.specs.ColumnContracts.{four};
-ghost use Rattle.columns.specs.KeyContracts.{markOf, keeps, zeroUnder};
+ghost use Rattle.columns.specs.KeyContracts.{markOf, keeps, zeroUnder, queryWidth, IsNear};
 use query::Column;
+use query::Range;
 
 // 1 for a column that names a value, 0 for a wildcard.
 fn mark_of(col: Column) -> u32
@@ -187,10 +191,11 @@ fn zero_under(marks: u32, values: &[u32]) -> bool
     true
 }
 
-// Whether marks and the six numbers behind them are the key of a query of k columns: marks for k columns at most, and no value without a mark.
+// Whether marks and the numbers behind them, zeros from where they end, are the key of a query of k columns: marks for k columns at most, and no
+// value without a mark.
 pub fn is_key(k: usize, marks: u32, values: &[u32]) -> bool
-    requires { ⌜ (k ≤ maxColumns) × (length (now values) ≡ keyWidth - 1) ⌝ }
-    ensures { λ r. ⌜ r ≡ isKey (shapeOf k) (marks ∷ now (values .entry)) ⌝ }
+    requires { ⌜ (k ≤ maxColumns) × (length (now values) ≤ keyWidth - 1) ⌝ }
+    ensures { λ r. ⌜ r ≡ isKey (shapeOf k) (marks ∷ padded (keyWidth - 1) (now (values .entry))) ⌝ }
 {
     if power(k) <= marks {
         return false;
@@ -198,25 +203,119 @@ pub fn is_key(k: usize, marks: u32, values: &[u32]) -> bool
     zero_under(marks, values)
 }
 
-// ---- What is wanted
-// The marks in a key's first number, which says besides whether a count is wanted.
+// ---- What is wanted, and the range
+// The marks in a key's first number, which says besides whether a count is wanted, and the ranged column.
 pub fn bare_marks(first: u32) -> u32
     ensures { λ r. ⌜ ((vs : List ℕ) → r ≡ getD (bareKey (first ∷ vs)) 0 0) ⌝ }
 {
-    if Hall::is_count(first) {
-        return first - Hall::COUNT_BIT;
-    }
-    first
+    first % Hall::COUNT_BIT
 }
 
-// The key of a read: its query's, and in the first number what it wants.
-pub fn ask_key(cols: [Column; Hall::COLUMN_SLOTS], k: usize, counts: bool) -> [u32; Hall::KEY_WIDTH]
+// The range of a key, by its first number and its ends.
+pub fn range_of(first: u32, lowest: u32, highest: u32) -> Range
+    ensures { λ r. ⌜ r ≡ rangeOf (first / rangeUnit) lowest highest ⌝ }
+{
+    let above = first / Hall::RANGE_UNIT;
+    if above == 0 {
+        return Range::None;
+    }
+    let column = above - 1;
+    Range::Between {
+        column,
+        lowest,
+        highest,
+    }
+}
+
+// Whether there is a range.
+pub fn is_ranged(range: Range) -> bool
+    ensures { λ r. ⌜ r ≡ isRanged range ⌝ }
+{
+    let Range::Between {
+        column: _,
+        lowest: _,
+        highest: _,
+    } = range
+    else {
+        return false;
+    };
+    true
+}
+
+// How many of the numbers behind a key's first are its query's: a range has the last two.
+pub fn query_width(range: Range) -> usize
+    ensures { λ r. ⌜ r ≡ queryWidth range ⌝ }
+{
+    if is_ranged(range) {
+        return Hall::COLUMN_SLOTS;
+    }
+    Hall::KEY_WIDTH - 1
+}
+
+// Whether the column at a place names a value, by the marks.
+fn is_named(marks: u32, column: u32) -> bool
+    requires { ⌜ column < maxColumns ⌝ }
+    ensures { λ r. ⌜ ((k : ℕ) (vs : List ℕ) → column < k → r ≡ isNamed (getD (columnsIn k marks vs) column Wildcard)) ⌝ }
+{
+    (marks >> column) % 2 == 1
+}
+
+// Whether a begin would turn a range down, beside a query of k columns that has these marks: its column is past the last, or named too, or its
+// ends are reversed.
+pub fn bad_range(k: usize, marks: u32, range: Range) -> bool
     requires { ⌜ k ≤ maxColumns ⌝ }
-    ensures { λ r. ⌜ r ≡ askKey (record { shape = shapeOf k; query = take k cols; counts = counts }) ⌝ }
+    ensures { λ r. ⌜ ((vs : List ℕ) → r ≡ (not (isRange (shapeOf k) (columnsIn k marks vs) range) || isReversed range)) ⌝ }
+{
+    let Range::Between {
+        column,
+        lowest,
+        highest,
+    } = range
+    else {
+        return false;
+    };
+    if k <= column as usize {
+        return true;
+    }
+    if is_named(marks, column) {
+        return true;
+    }
+    highest < lowest
+}
+
+// A key with its range: its column plus 1 above what stands in the first number, and its ends.
+fn ranged_key(key: [u32; Hall::KEY_WIDTH], range: Range) -> [u32; Hall::KEY_WIDTH]
+    requires { ⌜ (getD key 0 0 < rangeUnit) × IsNear range ⌝ }
+    ensures { λ r. ⌜ r ≡ rangeKey range key ⌝ }
+{
+    let Range::Between {
+        column,
+        lowest,
+        highest,
+    } = range
+    else {
+        return key;
+    };
+    let mut ranged = key;
+    ranged[0] = key[0] + Hall::RANGE_UNIT * (column + 1);
+    ranged[Hall::LOWEST_OFFSET] = lowest;
+    ranged[Hall::HIGHEST_OFFSET] = highest;
+    ranged
+}
+
+// The key of a read: its query's, with what it wants and its range.
+pub fn ask_key(
+    cols: [Column; Hall::COLUMN_SLOTS],
+    k: usize,
+    counts: bool,
+    range: Range,
+) -> [u32; Hall::KEY_WIDTH]
+    requires { ⌜ (k ≤ maxColumns) × IsNear range ⌝ }
+    ensures { λ r. ⌜ r ≡ wantedKey counts range (keyWords (take k cols)) ⌝ }
 {
     let mut key = key_words(cols, k);
     if counts {
         key[0] = key[0] + Hall::COUNT_BIT;
     }
-    key
+    ranged_key(key, range)
 }

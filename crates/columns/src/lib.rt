@@ -9,6 +9,7 @@ ghost use Rattle.query.specs.Encoding.{isQuery, columnOf, queryOf, wellMarked};
 ghost use Rattle.columns.specs.ColumnContracts.{columnMarked, four, takenOf};
 use query::Column;
 
+pub mod bounds; // bounds.rt: the record test with a range
 pub mod keys; // keys.rt: marks, values and keys
 pub mod labels; // labels.rt: the labels of nodes
 pub mod masks; // masks.rt: the record test

@@ -6,15 +6,16 @@ use Prim.Native.Nat.{ℕ, zero, suc, _≤_, _<_}
 use native.Mathlib.Omega.{arith}
 use lib.ListN.{length, getD}
 use Rattle.lists.specs.Lists.{same}
-use Rattle.laws.proofs.ListLaws.{same-refl, keep-le}
+use Rattle.laws.proofs.ListLaws.{same-refl}
 use Rattle.laws.proofs.TestLaws.{or-false-l, or-false-r, clash}
+use Rattle.query.specs.declared.Range.{Range}
 use Rattle.query.specs.Query.{Query, Record, lies}
 use Rattle.query.specs.Encoding.{queryOf}
 use Rattle.rules.specs.declared.Outcome.{Outcome}
 use Rattle.rules.specs.declared.Outcome.the-variants.{Ended, Full}
 use Rattle.rules.specs.History.{begin}
-use Rattle.rules.specs.Table.{Table, insert, delete, listOf, has, changes, noRoom, Ascending, Distinct}
-use Rattle.records.proofs.RecordSets.{has-list}
+use Rattle.rules.specs.Table.{Table, insert, delete, has, changes, noRoom, Ascending, Distinct}
+use Rattle.records.proofs.RecordLists.{has-list, list-few}
 use Rattle.records.proofs.RecordsAscending.{ascending-distinct}
 use Rattle.demands.specs.WholeHistory.{History, plainAt, callAt, shapeAt}
 use Rattle.demands.specs.Demand3.{AnswerIs}
@@ -28,7 +29,7 @@ use Rattle.demands.proofs.Works.{one-work}
 use Rattle.demands.proofs.Steady.{lists-stay, answer-short, answer-steps}
 use Rattle.demands.proofs.WriteEnds.{writes-take}
 use Rattle.demands.proofs.Seen.{inserted, deleted, keeps}
-use Rattle.rules.specs.Work.{askOf, asking, readOf}
+use Rattle.rules.specs.Work.{listWithin, askOf, asking, readOf}
 use Rattle.demands.specs.Demand1.{trayOf}
 use Rattle.rules.specs.Layout.{maxRecords}
 use Rattle.demands.proofs.FromFile.{file-serves}
@@ -38,86 +39,84 @@ every-answer : (h : History) → EveryAnswer h
 every-answer h n count cached l e =
     let s = answer-steps h n _ cached l (result-is h n count cached (sound h n (omega arith) .shape) e) in
     let w = answers h n (s .0) (s .1) count cached l (s .2) e in
-    (s .0, w .counts, w .asked, w .b, record { tray = s .1; within = l; calls = s .2; runs = w .runs; says = e })
+    (s .0, w .counts, w .range, w .asked, w .b, record { tray = s .1; within = l; calls = s .2; runs = w .runs; says = e })
 
 -- ---- One read at a desk
-asked-eq : {d e : ℕ} {v w : Bool} {a c : List ℕ} → begin d (readOf v a) ≡ begin e (readOf w c) → a ≡ c
-asked-eq i = cc
-
-wanted-eq : {d e : ℕ} {v w : Bool} {a c : List ℕ} → begin d (readOf v a) ≡ begin e (readOf w c) → v ≡ w
-wanted-eq i = cc
+asked-eq : {d e : ℕ} {v w : Bool} {f g : Range} {a c : List ℕ} → begin d (readOf v f a) ≡ begin e (readOf w g c) → (v ≡ w) × (f ≡ g) × (a ≡ c)
+asked-eq i = (cc, cc, cc)
 
 one-read : (h : History) → OneRead h
-one-read h d counts counts′ a a′ b b′ n l u v =
-    let e = one-work h d (asking (askOf (shapeAt h) counts a)) (asking (askOf (shapeAt h) counts′ a′)) b b′ n (since-read h d b n counts a l u) (since-read h d b′ n counts′ a′ l v) in
+one-read h d counts counts′ range range′ a a′ b b′ n l u v =
+    let e = one-work h d (asking (askOf (shapeAt h) counts range a)) (asking (askOf (shapeAt h) counts′ range′ a′)) b b′ n
+    (since-read h d b n counts range a l u) (since-read h d b′ n counts′ range′ a′ l v) in
     let z = sym (u .begins) ∙ ap (callAt h) e ∙ v .begins in
-    (e, wanted-eq z, asked-eq z)
+    let y = asked-eq z in
+    (e, y .0, y .1, y .2)
 
 -- ---- The moment of an answer
-moment : (h : History) (d : ℕ) (counts : Bool) (a : List ℕ) (b n count : ℕ) (cached : Bool) → Answers h d counts a b n count cached
-    → (j : ℕ) × (b < j) × (j ≤ suc n) × TrueAt h counts a n count j
-moment h d counts a b n count cached x =
+moment : (h : History) (d : ℕ) (counts : Bool) (range : Range) (a : List ℕ) (b n count : ℕ) (cached : Bool) → Answers h d counts range a b n count cached
+    → (j : ℕ) × (b < j) × (j ≤ suc n) × TrueAt h counts range a n count j
+moment h d counts range a b n count cached x =
     let w = answers h n d (x .tray) count cached (x .within) (x .calls) (x .says) in
     let l = x .within in
-    let e = one-read h d counts (w .counts) a (w .asked) b (w .b) n (omega arith) (x .runs) (w .runs) in
+    let e = one-read h d counts (w .counts) range (w .range) a (w .asked) b (w .b) n (omega arith) (x .runs) (w .runs) in
     let i = e .0 in
     let after = w .after in
-    (w .j, omega arith, w .upto, rw (e .1, e .2) (w .was))
+    (w .j, omega arith, w .upto, rw (e .1, e .2, e .3) (w .was))
 
 never-back : (h : History) → NeverBack h
-never-back h d d′ counts counts′ a a′ b n b′ n′ count count′ cached cached′ x y l =
-    let z = moment h d counts a b n count cached x in
-    let w = moment h d′ counts′ a′ b′ n′ count′ cached′ y in
+never-back h d d′ counts counts′ range range′ a a′ b n b′ n′ count count′ cached cached′ x y l =
+    let z = moment h d counts range a b n count cached x in
+    let w = moment h d′ counts′ range′ a′ b′ n′ count′ cached′ y in
     (z .0, w .0, (let i = z .2 in let j = w .1 in omega arith), z .3, w .3)
 
 sees-earlier : (h : History) → SeesEarlier h
-sees-earlier h d counts a b n count cached x e l =
-    let z = moment h d counts a b n count cached x in
+sees-earlier h d counts range a b n count cached x e l =
+    let z = moment h d counts range a b n count cached x in
     (z .0, (let i = z .1 in omega arith), z .2, z .3)
 
 -- the plain table is the table memory's
-table-list : (h : History) (counts : Bool) (a : List ℕ) (n count j : ℕ) → j ≤ length (h .calls) → TrueAt h counts a n count j
-    → AnswerIs h counts n count (listOf (queryOf a) (tableAt h j))
-table-list h counts a n count j l x = rw (tables h j l) x
+table-list : (h : History) (counts : Bool) (range : Range) (a : List ℕ) (n count j : ℕ) → j ≤ length (h .calls) → TrueAt h counts range a n count j
+    → AnswerIs h counts n count (listWithin range (queryOf a) (tableAt h j))
+table-list h counts range a n count j l x = rw (tables h j l) x
 
 quiet-is-now : (h : History) → QuietIsNow h
-unfolding askOf
-quiet-is-now h d counts a b n count cached x k =
-    let z = moment h d counts a b n count cached x in
+unfolding askOf listWithin
+quiet-is-now h d counts range a b n count cached x k =
+    let z = moment h d counts range a b n count cached x in
     let l = x .within in
     let up = z .2 in
-    let e = lists-stay h (askOf (shapeAt h) counts a) b (suc n) (z .0) (omega arith) (z .1) up (λ i o m. k i o (omega arith)) in
-    rw e (table-list h counts a n count (z .0) (omega arith) (z .3))
+    let e = lists-stay h (askOf (shapeAt h) counts range a) b (suc n) (z .0) (omega arith) (z .1) up (λ i o m. k i o (omega arith)) in
+    rw e (table-list h counts range a n count (z .0) (omega arith) (z .3))
 
 quiet-count : (h : History) → QuietCount h
-quiet-count h d a b n count cached x k = quiet-is-now h d true a b n count cached x k .counted
+quiet-count h d range a b n count cached x k = quiet-is-now h d true range a b n count cached x k .counted
 
 -- no more records lie in a query than the plain table has
-count-most : (h : History) (a : List ℕ) (j : ℕ) → j ≤ length (h .calls) → length (listOf (queryOf a) (plainAt h j .table)) ≤ maxRecords
-unfolding listOf
-count-most h a j l =
-    let m = keep-le (lies (queryOf a)) (plainAt h j .table) in
+count-most : (h : History) (range : Range) (a : List ℕ) (j : ℕ) → j ≤ length (h .calls) → length (listWithin range (queryOf a) (plainAt h j .table)) ≤ maxRecords
+count-most h range a j l =
+    let m = list-few range (queryOf a) (plainAt h j .table) in
     let t = ap length (tables h j l) in
     let g = good-table h j l .most in
     omega arith
 
 counts-fit : (h : History) → CountsFit h
 unfolding trayOf
-counts-fit h d a b n count cached x =
-    let z = moment h d true a b n count cached x in
+counts-fit h d range a b n count cached x =
+    let z = moment h d true range a b n count cached x in
     let l = x .within in
     let up = z .2 in
-    (rw (z .3 .counted) (count-most h a (z .0) (omega arith)), z .3 .untouched ∙ ap trayOf (x .calls))
+    (rw (z .3 .counted) (count-most h range a (z .0) (omega arith)), z .3 .untouched ∙ ap trayOf (x .calls))
 
 answers-ascend : (h : History) → AnswersAscend h
-answers-ascend h d a b n count cached x =
-    let z = moment h d false a b n count cached x in
+answers-ascend h d range a b n count cached x =
+    let z = moment h d false range a b n count cached x in
     let l = x .within in
     let up = z .2 in (
       z .0,
       z .3,
-      subst (λ t. Ascending (listOf (queryOf a) t)) (tables h (z .0) (omega arith)) (demand-2-ascending h (z .0) (omega arith) .1 (queryOf a)),
-      answer-short h d a b n count cached x,
+      subst (λ t. Ascending (listWithin range (queryOf a) t)) (tables h (z .0) (omega arith)) (demand-2-ascending h (z .0) (omega arith) .1 range (queryOf a)),
+      answer-short h d range a b n count cached x,
     )
 
 -- ---- No record twice
@@ -167,36 +166,36 @@ delete-stays h d q r b e n o x y m l u j low up =
     (ap (has r) (tables h (suc t) (omega arith) ∙ z .3) ∙ deleted q r (plainAt h t .table) y) j (omega arith) up
 
 inserts-seen : (h : History) → InsertsSeen h
-inserts-seen h d r b e changed x d′ counts a b′ n count cached y m i u =
-    let z = moment h d′ counts a b′ n count cached y in
+inserts-seen h d r b e changed x d′ counts range a b′ n count cached y m i g u =
+    let z = moment h d′ counts range a b′ n count cached y in
     let l = y .within in
     let low = z .1 in
     let up = z .2 in
     let early = y .runs .earlier in (
       z .0,
       z .3,
-      ap (λ t. has r (listOf (queryOf a) t)) (sym (tables h (z .0) (omega arith)))
-          ∙ has-list r (queryOf a) (tableAt h (z .0)) ∙ rw (insert-stays h d r b e n changed x (omega arith) l u (z .0) (omega arith) up, i),
+      ap (λ t. has r (listWithin range (queryOf a) t)) (sym (tables h (z .0) (omega arith)))
+          ∙ has-list range (queryOf a) (tableAt h (z .0)) r ∙ rw (insert-stays h d r b e n changed x (omega arith) l u (z .0) (omega arith) up, i, g),
     )
 
 deletes-seen : (h : History) → DeletesSeen h
-deletes-seen h d q b e o x d′ counts a b′ n count cached y m r i u =
-    let z = moment h d′ counts a b′ n count cached y in
+deletes-seen h d q b e o x d′ counts range a b′ n count cached y m r i u =
+    let z = moment h d′ counts range a b′ n count cached y in
     let l = y .within in
     let low = z .1 in
     let up = z .2 in
     let early = y .runs .earlier in (
       z .0,
       z .3,
-      ap (λ t. has r (listOf (queryOf a) t)) (sym (tables h (z .0) (omega arith)))
-          ∙ has-list r (queryOf a) (tableAt h (z .0)) ∙ rw (delete-stays h d q r b e n o x i (omega arith) l u (z .0) (omega arith) up),
+      ap (λ t. has r (listWithin range (queryOf a) t)) (sym (tables h (z .0) (omega arith)))
+          ∙ has-list range (queryOf a) (tableAt h (z .0)) r ∙ rw (delete-stays h d q r b e n o x i (omega arith) l u (z .0) (omega arith) up),
     )
 
 pub corollaries : (h : History) → Corollaries h
 corollaries h = record {
   every-answer = every-answer h;
   one-read = one-read h;
-  file-was-true = λ d counts a b n count x. moment h d counts a b n count true x;
+  file-was-true = λ d counts range a b n count x. moment h d counts range a b n count true x;
   file-serves = file-serves h;
   sees-earlier = sees-earlier h;
   never-back = never-back h;

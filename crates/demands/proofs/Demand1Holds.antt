@@ -1,6 +1,7 @@
 -- Demand 1: of any memories and any arguments, every call leaves each memory unaltered past its least length, and all of them where it is
 -- refused. Leans on UnalteredMemories, on rules' PassedChecks and on refinement's RefusedCalls. Assumes nothing.
 use mathlib.Core.Path.{_≡_, refl, ap}
+use mathlib.Core.Logic.{_⊎_, inl, inr}
 use mathlib.Core.Bool.{Bool, true, false, cond, not, _&&_, _||_}
 use mathlib.Core.List.{List, []}
 use mathlib.Core.Option.{Option, none, some}
@@ -11,14 +12,13 @@ use lib.ListN.{length, getD, length-take, length-drop}
 use borrow.Author.Tests.{ltb-true, eqb-true, eqb-false, leb-true}
 use Rattle.laws.proofs.TestLaws.{byTest, clash}
 use Rattle.laws.proofs.ListLaws.{length-without, and-right}
-use Rattle.laws.proofs.RowLaws.{wide-nil, wide-keep, wide-without, wide-at, length-flat}
-use Rattle.query.specs.Query.{lies, Query, Record}
+use Rattle.laws.proofs.RowLaws.{wide-nil, wide-without, wide-at}
+use Rattle.query.specs.Query.{Record}
 use Rattle.query.specs.Shape.{narrow, Shape, shapeOf}
-use Rattle.rules.specs.Layout.{maxClients, listRoom, trayLeast, entryWidth, clientWidth, maxList}
+use Rattle.rules.specs.Layout.{maxClients, listRoom, trayLeast, entryWidth, clientWidth, maxList, refusedShort, refusedOccupied, refusedReversed}
 use Rattle.rules.specs.declared.Outcome.{Outcome}
 use Rattle.rules.specs.declared.Outcome.the-variants.{Refused, Accepted, Answered, Long, Ended, Full}
-use Rattle.rules.specs.Table.{listOf}
-use Rattle.rules.specs.Work.{Ask, Value, ofRecords, valueOf, mayAnswer, readLabels, Write, writeLabels, Work, asking, writing, Request, workOf, ofNumber, valueFor}
+use Rattle.rules.specs.Work.{Ask, Value, ofRecords, valueOf, mayAnswer, readLabels, Write, writeLabels, Work, asking, writing, Request, workOf, ofNumber, valueFor, listWithin}
 use Rattle.rules.specs.Nodes.{Words, Store, store}
 use Rattle.rules.specs.Answers.{Entry, valueIn, listIn, isCount}
 use Rattle.rules.specs.Client.{steps, sawPending, foundFull, entryOf}
@@ -32,13 +32,14 @@ use Rattle.rules.specs.Sound.{Sound, Busy}
 use Rattle.rules.proofs.PassedChecks.{open-passed, begin-passed, step-passed, abandon-passed, evict-answer-passed, evict-node-passed, renew-passed}
 use Rattle.rules.proofs.WorkLaws.{read-label-wide, write-label-wide}
 use Rattle.rules.proofs.ClientLaws.{list-room}
+use Rattle.records.proofs.RecordLists.{list-numbers}
 use Rattle.records.proofs.RecordWrites.{of-width, effect-wide, effect-few}
 use Rattle.refinement.proofs.ClientPhases.{fits-at, begun-left}
 use Rattle.refinement.proofs.OthersRefined.{request-fits}
 use Rattle.refinement.proofs.ClientParts.{length-entry}
 use Rattle.refinement.proofs.MemoryReads.{length-nodes, length-answers}
 use Rattle.refinement.proofs.AnswersRefined.{wide-filed, length-filed}
-use Rattle.refinement.proofs.RefusedCalls.{begin-low, step-low, abandon-low, evict-answer-low, evict-node-low, renew-low}
+use Rattle.refinement.proofs.RefusedCalls.{IsCode, begin-coded, step-low, abandon-low, evict-answer-low, evict-node-low, renew-low}
 use Rattle.demands.specs.Demand1.{Unaltered, Leaves, trayOf, Demand1}
 use Rattle.demands.proofs.UnalteredMemories.{unaltered-same, unaltered-then, unaltered-written, unaltered-set, unaltered-cleared, unaltered-store, unaltered-answers}
 use Rattle.demands.proofs.UnalteredMemories.{AllUnaltered, all-same, all-now, all-store, all-filed, all-table, sized-in, wide-held, wide-filed-in}
@@ -47,7 +48,12 @@ use Rattle.lists.specs.Lists.{flat}
 use Rattle.demands.proofs.CountTray.{count-tray}
 
 -- ---- A refused call
-pub refused-leaves : (sh : Shape) (m : Mem) (tray : List ℕ) (n : ℕ) → n ≤ 11 → (n ≡ 0 → ⊥) → Leaves narrow sh m tray (resultWith (Refused n) m tray)
+-- what is not 0 of the codes is 1 to 11, or 14
+refusal : (n : ℕ) → IsCode n → (n ≡ 0 → ⊥) → ((refusedShort ≤ n) × (n ≤ refusedOccupied)) ⊎ (n ≡ refusedReversed)
+refusal n (inl l) ne = inl (omega arith, l)
+refusal n (inr e) ne = inr e
+
+pub refused-leaves : (sh : Shape) (m : Mem) (tray : List ℕ) (n : ℕ) → IsCode n → (n ≡ 0 → ⊥) → Leaves narrow sh m tray (resultWith (Refused n) m tray)
 unfolding number
 refused-leaves sh m tray n h ne = record {
   table = unaltered-same _ _;
@@ -56,7 +62,7 @@ refused-leaves sh m tray n h ne = record {
   clients = unaltered-same _ _;
   tray = unaltered-same _ _;
   refused = λ e. (refl, refl);
-  numbers = λ k e. let z : n ≡ k = ap number e in (omega arith, omega arith);
+  numbers = λ k e. let z : n ≡ k = ap number e in rw (← z) (refusal n h ne);
 }
 
 -- ---- A call that goes on
@@ -94,7 +100,7 @@ accepted-went = (refl, refl)
 accepted-leaves : (sh : Shape) (m n : Mem) (tray : List ℕ) → AllUnaltered sh m n → Leaves narrow sh m tray (resultWith Accepted n tray)
 accepted-leaves sh m n tray a = went-leaves sh m n tray tray Accepted accepted-went a (unaltered-same _ _)
 
-unless-leaves : (sh : Shape) (m : Mem) (code : ℕ) (x : Result) → code ≤ 11 → (code ≡ 0 → Leaves narrow sh m [] (untrayed x)) → Leaves narrow sh m [] (untrayed (unless code m x))
+unless-leaves : (sh : Shape) (m : Mem) (code : ℕ) (x : Result) → IsCode code → (code ≡ 0 → Leaves narrow sh m [] (untrayed x)) → Leaves narrow sh m [] (untrayed (unless code m x))
 unfolding unless untrayed
 unless-leaves sh m code x l g =
     byTest (eqb code 0)
@@ -102,10 +108,10 @@ unless-leaves sh m code x l g =
     (λ e. rw e (refused-leaves sh m [] code l (eqb-false code 0 e)))
 
 -- ---- Opening
-open-low : (short bad : Bool) → cond short 1 (cond bad 2 0) ≤ 11
-open-low true bad = omega arith
-open-low false true = omega arith
-open-low false false = omega arith
+open-low : (short bad : Bool) → IsCode (cond short 1 (cond bad 2 0))
+open-low true bad = inl (omega arith)
+open-low false true = inl (omega arith)
+open-low false false = inl (omega arith)
 
 pub open-leaves : (m : Mem) (k : ℕ) → Leaves narrow (shapeOf k) m [] (untrayed (openResult m k))
 unfolding openResult openCode untrayed opened
@@ -121,7 +127,7 @@ open-leaves m k = unless-leaves (shapeOf k) m (openCode m k) _ (open-low (isShor
 -- ---- Begins
 pub begin-leaves : (m : Mem) (d : ℕ) (r : Request) → Leaves narrow (shape m) m [] (untrayed (beginResult m d r))
 unfolding beginResult untrayed
-begin-leaves m d r = unless-leaves (shape m) m (beginCode m d r) _ (begin-low m d r) (λ e.
+begin-leaves m d r = unless-leaves (shape m) m (beginCode m d r) _ (begin-coded m d r) (λ e.
     let b = begin-passed m d r e in
     let w = begun-left (shape m) (b .memories .least) (b .memories .most) (workOf (shape m) r) (request-fits (shape m) r (b .good)) in
     accepted-leaves (shape m) m _ [] (all-now (shape m) m m d _ (all-same (shape m) m) (b .memories .long .clients) (b .below) (w .wide)))
@@ -133,7 +139,7 @@ module _ (m : Mem) (s : Sound m) (tray : List ℕ) (room : trayLeast ≤ length 
   now n c a w = all-now (shape m) m n d c a (s .long .clients) low w
 
   unsound-leaves : Leaves narrow (shape m) m tray (resultWith (Refused 3) m tray)
-  unsound-leaves = refused-leaves (shape m) m tray 3 (omega arith) (λ e. omega arith)
+  unsound-leaves = refused-leaves (shape m) m tray 3 (inl (omega arith)) (λ e. omega arith)
 
   answered-leaves : (n : Mem) (v : Value) (cached : Bool) → AllUnaltered (shape m) m n → length (v .numbers) ≤ listRoom → Leaves narrow (shape m) m tray (answered n tray d v cached)
   unfolding answered isAccepted number isRefused
@@ -193,11 +199,7 @@ module _ (m : Mem) (s : Sound m) (tray : List ℕ) (room : trayLeast ≤ length 
     raise-leaves false (some t) z = accepted-leaves (shape m) m _ tray (now _ _ (all-store m t s z) (stepped-wide (client m d) (b .wide)))
     raise-leaves true (some t) z = went-leaves (shape m) m _ tray tray (endOf (client m d)) end-went (now _ _ (all-store m t s z) idle-wide) (unaltered-same _ _)
 
-  -- the numbers of a list, and of a value that may be answered
-  list-whole : (q : Query) → length (flat (listOf q (recordsIn (columns m) (m .table)))) ≡ length (listOf q (recordsIn (columns m) (m .table))) * columns m
-  unfolding listOf
-  list-whole q = length-flat (columns m) _ (wide-keep (columns m) (lies q) _ (wide-held m s .0))
-
+  -- the numbers of a value that may be answered
   value-room : (counts : Bool) (l : List Record) → length (flat l) ≡ length l * columns m → counts || leb (valueFor counts l .count) maxList ≡ true
       → length (valueFor counts l .numbers) ≤ listRoom
   unfolding ofRecords ofNumber
@@ -206,14 +208,16 @@ module _ (m : Mem) (s : Sound m) (tray : List ℕ) (room : trayLeast ≤ length 
 
   taken-room : (x : Ask) → mayAnswer x (valueOf x (recordsIn (columns m) (m .table))) ≡ true → length (valueOf x (recordsIn (columns m) (m .table)) .numbers) ≤ listRoom
   unfolding mayAnswer valueOf
-  taken-room x e = value-room (x .counts) (listOf (x .query) (recordsIn (columns m) (m .table))) (list-whole (x .query)) e
+  taken-room x e =
+      let t = recordsIn (columns m) (m .table) in
+      value-room (x .counts) (listWithin (x .range) (x .query) t) (list-numbers (x .range) (x .query) t (columns m) (wide-held m s .0)) e
 
   read-leaves : {x : Ask} → Busy narrow (shape m) (client m d) (asking x) → Leaves narrow (shape m) m tray (readResult m tray d x (steps (client m d)))
   unfolding readResult
   read-leaves {x} b =
       let i : ℕ = steps (client m d) in
       let n : ℕ = length (readLabels x) in
-      let f = fits-at (shape m) (client m d) (b .work) in
+      let f = fits-at b in
       let few : length (x .query) ≤ 4 = (let a = f .columns in let c = s .most in omega arith) in
       byTest (ltb i n)
       (λ t. rw t (look-leaves b i _ _ (sized-ensured _ _ (read-label-wide x i few (ltb-true i n t)) (sized-in m s))))
@@ -226,7 +230,7 @@ module _ (m : Mem) (s : Sound m) (tray : List ℕ) (room : trayLeast ≤ length 
   write-table-leaves : {w : Write} → Busy narrow (shape m) (client m d) (writing w) → Leaves narrow (shape m) m tray (writeTableResult m tray d (w .change))
   unfolding writeTableResult
   write-table-leaves {w} b =
-      let f = fits-at (shape m) (client m d) (b .work) in
+      let f = fits-at b in
       let r = wide-held m s in
       accepted-leaves (shape m) m _ tray
       (now _ _
@@ -238,7 +242,7 @@ module _ (m : Mem) (s : Sound m) (tray : List ℕ) (room : trayLeast ≤ length 
   write-leaves {w} b =
       let i : ℕ = steps (client m d) in
       let n : ℕ = length (writeLabels w) in
-      let f = fits-at (shape m) (client m d) (b .work) in
+      let f = fits-at b in
       byTest (ltb i n)
       (λ t. rw t (announce-leaves b _ (sized-announced _ _ (write-label-wide w i (let a = f .columns in let c = s .most in omega arith) (ltb-true i n t)) (sized-in m s))))
       (λ t. rw t (byTest (eqb i n)
@@ -255,12 +259,12 @@ unfolding stepResult progress
 step-leaves m tray d =
     byTest (eqb (stepCode m tray d) 0)
     (λ e. let p = step-passed m tray d (eqb-true (stepCode m tray d) 0 e) in rw e (progress-leaves m (p .1 .0) tray (p .0) d (p .1 .1) _ (p .1 .2)))
-    (λ e. rw e (refused-leaves (shape m) m tray (stepCode m tray d) (step-low m tray d) (eqb-false (stepCode m tray d) 0 e)))
+    (λ e. rw e (refused-leaves (shape m) m tray (stepCode m tray d) (inl (step-low m tray d)) (eqb-false (stepCode m tray d) 0 e)))
 
 -- ---- Abandonings
 release-leaves : (m : Mem) (d : ℕ) (o : Option Store) → Sound m → d < maxClients → AllSized o → Leaves narrow (shape m) m [] (untrayed (releaseResult m d o))
 unfolding releaseResult untrayed
-release-leaves m d none s h z = refused-leaves (shape m) m [] 3 (omega arith) (λ e. omega arith)
+release-leaves m d none s h z = refused-leaves (shape m) m [] 3 (inl (omega arith)) (λ e. omega arith)
 release-leaves m d (some t) s h z = accepted-leaves (shape m) m _ [] (all-now (shape m) m _ d _ (all-store m t s z) (s .long .clients) h idle-wide)
 
 abandoned-leaves : (m : Mem) (d : ℕ) (w : Work) → Sound m → d < maxClients → Leaves narrow (shape m) m [] (untrayed (abandonedOf m d w))
@@ -270,13 +274,13 @@ abandoned-leaves m d (writing w) s h = release-leaves m d _ s h (sized-retired f
 
 pub abandon-leaves : (m : Mem) (d : ℕ) → Leaves narrow (shape m) m [] (untrayed (abandonResult m d))
 unfolding abandonResult abandoned
-abandon-leaves m d = unless-leaves (shape m) m (abandonCode m d) _ (abandon-low m d) (λ e.
+abandon-leaves m d = unless-leaves (shape m) m (abandonCode m d) _ (inl (abandon-low m d)) (λ e.
     let p = abandon-passed m d e .0 in abandoned-leaves m d _ (p .0) (p .1))
 
 -- ---- Evictions and renewals
 pub evict-answer-leaves : (m : Mem) (i : ℕ) → Leaves narrow (shape m) m [] (untrayed (evictAnswerResult m i))
 unfolding evictAnswerResult untrayed
-evict-answer-leaves m i = unless-leaves (shape m) m (evictAnswerCode m i) _ (evict-answer-low m i) (λ e.
+evict-answer-leaves m i = unless-leaves (shape m) m (evictAnswerCode m i) _ (inl (evict-answer-low m i)) (λ e.
     let p = evict-answer-passed m i e in
     let es : List Entry = answersIn narrow (m .answers) in
     let w = wide-filed-in m (p .0) in
@@ -288,7 +292,7 @@ evict-answer-leaves m i = unless-leaves (shape m) m (evictAnswerCode m i) _ (evi
 
 pub evict-node-leaves : (m : Mem) (i : ℕ) → Leaves narrow (shape m) m [] (untrayed (evictNodeResult m i))
 unfolding evictNodeResult untrayed
-evict-node-leaves m i = unless-leaves (shape m) m (evictNodeCode m i) _ (evict-node-low m i) (λ e.
+evict-node-leaves m i = unless-leaves (shape m) m (evictNodeCode m i) _ (inl (evict-node-low m i)) (λ e.
     let p = evict-node-passed m i e in
     let n = length-nodes (m .nodes) in
     let h = p .1 in
@@ -296,7 +300,7 @@ evict-node-leaves m i = unless-leaves (shape m) m (evictNodeCode m i) _ (evict-n
 
 pub renew-leaves : (m : Mem) → Leaves narrow (shape m) m [] (untrayed (renewResult m))
 unfolding renewResult untrayed renewed
-renew-leaves m = unless-leaves (shape m) m (renewCode m) _ (renew-low m) (λ e.
+renew-leaves m = unless-leaves (shape m) m (renewCode m) _ (inl (renew-low m)) (λ e.
     let s = renew-passed m e .0 in
     accepted-leaves (shape m) m _ [] (record {
       table = unaltered-same _ _;

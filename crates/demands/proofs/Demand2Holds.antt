@@ -11,39 +11,36 @@ use Rattle.rules.specs.Answers.{Entry, keyIn, fetchPlace, isCount}
 use Rattle.rules.specs.Client.{entryOf}
 use Rattle.rules.specs.Memory.{Mem, answersIn}
 use Rattle.rules.specs.Outcome.{StepResult}
-use Rattle.rules.specs.Refusals.{shape, client, columns}
+use Rattle.rules.specs.Refusals.{shape, client}
 use Rattle.rules.specs.Steps.{fetchResult}
 use Rattle.rules.specs.Calls.{stepResult}
-use Rattle.query.specs.Shape.{Shape, narrow, maxColumns}
+use Rattle.query.specs.Shape.{Shape, narrow}
 use Rattle.rules.specs.History.{callResult}
 use Rattle.laws.proofs.Members.{in-at}
 use Rattle.machine.specs.Transition.{Transition}
 use Rattle.machine.specs.Machine.{isRefused}
 use Rattle.machine.proofs.Gets.{gets}
 use Rattle.machine.proofs.Frames.{phaseWork}
-use Rattle.refinement.proofs.Abstraction.{stateOf, responseOf, ansOf, filedOf}
+use Rattle.refinement.proofs.Abstraction.{stateOf, responseOf, ansOf, filedOf, Fits}
 use Rattle.refinement.proofs.AnswersRefined.{map-in}
 use Rattle.rules.specs.Answers.{valueIn}
 use Rattle.refinement.proofs.ClientPhases.{fits-at, ask-back}
 use Rattle.demands.specs.WholeHistory.{History, memAt, callAt, resultAt, shapeAt}
 use Rattle.demands.specs.Demand2.{Reads, GetsIt}
 use Rattle.demands.proofs.HistoryRuns.{responseAt, sound, transition-at}
-use Rattle.demands.proofs.Moments.{fetching}
+use Rattle.demands.proofs.Moments.{reader-there, fetching}
 use Rattle.demands.proofs.Taken.{fetch-step, fetch-accepted, fetch-gave, Gave}
 use Rattle.demands.proofs.Flags.{flagsAt, quiescent-at, since-phase, on-client}
 use Rattle.demands.proofs.Filings.{step-reply, step-call, on-file}
 use Rattle.rules.specs.Work.{Ask, readLabels, askIn, askKey}
 use Rattle.rules.specs.History as rules
 use Rattle.machine.specs.Machine as machine
-use Prim.Native.Nat.{_≤_}
 
 -- ---- The answer that is on file
 -- an entry with the reader's key is of what it asks
-pub its-key : (m : Mem) (d : ℕ) (q : Ask) (n : ℕ) (e : Entry) → columns m ≤ maxColumns → Reads m d q n → keyIn e ≡ askKey q → ansOf (shape m) e .query ≡ q
+pub its-key : (m : Mem) (d : ℕ) (q : Ask) (n : ℕ) (e : Entry) → Fits m → Reads m d q n → keyIn e ≡ askKey q → ansOf (shape m) e .query ≡ q
 unfolding ansOf
-its-key m d q n e few r i =
-    let f = fits-at (shape m) (client m d) (r .works) in
-    ap (askIn (shape m)) i ∙ ask-back (shape m) q f few
+its-key m d q n e f r i = ap (askIn (shape m)) i ∙ ask-back (shape m) q (fits-at (reader-there m d q n f r)) (f .few)
 
 on-file-there : (m : Mem) (e : Entry) (i : ℕ) → i < length (answersIn narrow (m .answers)) → getD (answersIn narrow (m .answers)) i [] ≡ e
     → In (ansOf (shape m) e) (stateOf m .filed)
@@ -75,7 +72,7 @@ demand-2-gets h q b n e x b′ f y last c lb lf either k =
     subst (λ c. Transition (stateOf m) c (responseAt h n) (stateOf (memAt h (suc n)))) (step-call (shapeAt h) (callAt h n) d (x .tray) (x .calls)) (transition-at h n w) in
     let a = gets (stateOf m) (flagsAt h n) (s .good .inv) (quiescent-at h n (omega arith)) o (ap isRefused r ∙ fetch-accepted (shape m) _ m (x .tray) d i)
     q (z .revs) (z .saw) (z .phase) (z .all) (ansOf (shape m) e) (on-file-there m e (x .place) (x .there) (x .is))
-    (its-key m d q (length (readLabels q)) e (s .fits .few) (x .fetches) (x .key))
+    (its-key m d q (length (readLabels q)) e (s .fits) (x .fetches) (x .key))
     (on-client h q d b n c since lb k n (x .runs .earlier) (omega arith))
     (on-file h q b′ f n c (omega arith) y last lf k n (last .0) (omega arith)) in
     let g : Gave (shapeAt h) (x .tray) e (fetchResult m (x .tray) d i) = subst (λ sh. Gave sh (x .tray) e (fetchResult m (x .tray) d i)) (s .shape)

@@ -5,9 +5,10 @@ use mathlib.Core.List.{List, [], _∷_, _++_}
 use Prim.Native.Nat.{ℕ, suc, _*_, _≤_, _<_}
 use native.Mathlib.Omega.{arith}
 use lib.ListN.{length, take}
+use Rattle.query.specs.declared.Range.{Range}
 use Rattle.query.specs.Encoding.{queryOf}
 use Rattle.rules.specs.declared.Outcome.the-variants.{Answered}
-use Rattle.rules.specs.Table.{Table, listOf}
+use Rattle.rules.specs.Table.{Table}
 use Rattle.rules.specs.Memory.{recordsIn}
 use Rattle.rules.specs.Outcome.{StepResult}
 use Rattle.rules.specs.Refusals.{shape, client}
@@ -16,7 +17,7 @@ use Rattle.rules.specs.Client.{entryOf}
 use Rattle.rules.specs.Sound.{Busy}
 use Rattle.rules.proofs.ClientLaws.{asked-counts}
 use Rattle.rules.specs.History.{Call, Plain, step, callResult}
-use Rattle.rules.specs.Work.{Value, valueOf, askOf, deleteOf, insertOf, readOf, workOf, ofRecords, ofNumber, Request}
+use Rattle.rules.specs.Work.{Value, listWithin, valueOf, askOf, deleteOf, insertOf, readOf, workOf, ofRecords, ofNumber, Request}
 use Rattle.machine.specs.Machine.{answered}
 use Rattle.machine.specs.Transition.{Transition}
 use Rattle.machine.proofs.Log.{entry, plainTable}
@@ -59,12 +60,12 @@ answer-is sh counts x count cached e = ap (responseIn sh counts (x .tray)) e
 abbrev pub wantedAt : History → ℕ → Bool
 wantedAt h n = countsAt (memAt h n) (callOf (shapeAt h) (callAt h n))
 
-pub wanted-is : (h : History) (n d : ℕ) (tray : List ℕ) (counts : Bool) (a : List ℕ) (b : ℕ) → n ≤ length (h .calls) → callAt h n ≡ step d tray
-    → UnderWay h (readOf counts a) d b n → (wantedAt h n ≡ counts) × (isCount (entryOf (client (memAt h n) d)) ≡ counts)
+pub wanted-is : (h : History) (n d : ℕ) (tray : List ℕ) (counts : Bool) (range : Range) (a : List ℕ) (b : ℕ) → n ≤ length (h .calls) → callAt h n ≡ step d tray
+    → UnderWay h (readOf counts range a) d b n → (wantedAt h n ≡ counts) × (isCount (entryOf (client (memAt h n) d)) ≡ counts)
 unfolding callOf countsAt workOf askOf
-wanted-is h n d tray counts a b l c u =
+wanted-is h n d tray counts range a b l c u =
     let m = memAt h n in
-    let w = works-client m d (workOf (shapeAt h) (readOf counts a)) (begun-busy h (readOf counts a) d b n l u n (u .earlier) (omega arith)) in
+    let w = works-client m d (workOf (shapeAt h) (readOf counts range a)) (begun-busy h (readOf counts range a) d b n l u n (u .earlier) (omega arith)) in
     let y = subst (Busy narrow (shape m) (client m d)) (w .works) (busy-at m (sound h n l .fits) d (w .below) (w .busy)) in
     (ap (λ (z : Call). countsAt m (callOf (shapeAt h) z)) c ∙ asked-counts y, asked-counts y)
 
@@ -83,12 +84,12 @@ unfolding logTo entryAt
 log-more h n d v cached c a = rw (c, a) refl
 
 -- a value told is a list told, or a count
-told-answer : (sh : Shape) (counts : Bool) (a : List ℕ) (t : Table) (count : ℕ) (lent tray : List ℕ) → said sh counts tray count ≡ valueOf (askOf sh counts a) t
-    → (counts ≡ true → tray ≡ lent) → IsAnswer counts (sh .columns) (listOf (queryOf a) t) count lent tray
+told-answer : (sh : Shape) (counts : Bool) (range : Range) (a : List ℕ) (t : Table) (count : ℕ) (lent tray : List ℕ) → said sh counts tray count ≡ valueOf (askOf sh counts range a) t
+    → (counts ≡ true → tray ≡ lent) → IsAnswer counts (sh .columns) (listWithin range (queryOf a) t) count lent tray
 unfolding valueOf ofRecords ofNumber askOf
-told-answer sh true a t count lent tray e k = record { counted = ap (λ (v : Value). v .count) e; untouched = k refl }
-told-answer sh false a t count lent tray e k =
-    let c : count ≡ length (listOf (queryOf a) t) = ap (λ (v : Value). v .count) e in
+told-answer sh true range a t count lent tray e k = record { counted = ap (λ (v : Value). v .count) e; untouched = k refl }
+told-answer sh false range a t count lent tray e k =
+    let c : count ≡ length (listWithin range (queryOf a) t) = ap (λ (v : Value). v .count) e in
     record { counted = c; records = ap (λ n. take (n * sh .columns) tray) (sym c) ∙ ap (λ (v : Value). v .numbers) e }
 
 -- the tray that a count's step is lent stays
@@ -112,21 +113,22 @@ answers h n d tray count cached l c e =
     let up : w .moment ≤ suc n = let z = w .upto in omega arith in
     let m : take (w .moment) (logTo h n ++ (entry (machine.step d) (answered v cached) ∷ [])) ≡ logTo h (w .moment) =
     ap (take (w .moment)) (log-more h n d v cached (step-is h n d tray c) a) ∙ take-log h (w .moment) (suc n) up in
-    let i = wanted-is h n d tray (u .counts) (u .asked) (length (w .underWay .earlier)) (omega arith) c (u .runs) in
+    let i = wanted-is h n d tray (u .counts) (u .range) (u .asked) (length (w .underWay .earlier)) (omega arith) c (u .runs) in
     let T = plainAt h (w .moment) .table in
-    let e : said (shapeAt h) (u .counts) (resultAt h n .tray) count ≡ valueOf (askOf (shapeAt h) (u .counts) (u .asked)) T =
+    let e : said (shapeAt h) (u .counts) (resultAt h n .tray) count ≡ valueOf (askOf (shapeAt h) (u .counts) (u .range) (u .asked)) T =
     ap (λ x. said (shapeAt h) x (resultAt h n .tray) count) (sym (i .0))
     ∙ w .was ∙ ap (λ x. valueOf (w .key) (plainTable (shapeAt h) x)) m ∙ ap (valueOf (w .key)) (plain-table h (w .moment) (omega arith))
     ∙ ap (λ x. valueOf x T) (sym (u .asks)) in
     record {
       counts = u .counts;
+      range = u .range;
       asked = u .asked;
       b = length (w .underWay .earlier);
       runs = u .runs;
       j = w .moment;
       after = w .later;
       upto = up;
-      was = told-answer (shapeAt h) (u .counts) (u .asked) T count (trayOf (callAt h n)) (resultAt h n .tray) e (λ y. tray-stays h n d tray c (i .1 ∙ y));
+      was = told-answer (shapeAt h) (u .counts) (u .range) (u .asked) T count (trayOf (callAt h n)) (resultAt h n .tray) e (λ y. tray-stays h n d tray c (i .1 ∙ y));
     }
 
 -- ---- The limits
@@ -149,7 +151,7 @@ unfolding workOf
 demand-3 h = record {
   tables = tables h;
   answers = answers h;
-  reads-end = λ d counts a b n l u. ends-by h d (readOf counts a) b n l u;
+  reads-end = λ d counts range a b n l u. ends-by h d (readOf counts range a) b n l u;
   inserts-end = λ d a b n l u. ends-by h d (insertOf a) b n l u;
   deletes-end = λ d a b n l u. ends-by h d (deleteOf a) b n l u;
 }

@@ -13,8 +13,10 @@ use lib.ListN.{length, getD, take, replicate}
 use Rattle.lists.specs.Lists.{same, keep, place, without, allBelow, listed, padded, written, rows, flat, entriesIn, withEntries}
 use Rattle.laws.proofs.ListLaws.{and-left, and-right, same-eq}
 use Rattle.query.specs.declared.Column.the-variants.{Is}
+use Rattle.query.specs.declared.Range.the-variants.{None}
 use Rattle.query.specs.Query.{admits, lies, pick, readNode, named, readNodes, readCount}
-use Rattle.query.specs.Encoding.{columnOf, queryOf, wellMarked, isQuery, namesAll, termValue, columnValue, tag, tags, labelWords, marks, keyWords, countsIn, countKey, bareKey}
+use Rattle.query.specs.Range.{within, isRange, isReversed, starred}
+use Rattle.query.specs.Encoding.{columnOf, queryOf, wellMarked, isQuery, namesAll, termValue, columnValue, tag, tags, labelWords, marks, keyWords, countsIn, countKey, rangeOf, rangeIn, rangeKey, wantedKey, unranged, bareKey}
 use Rattle.query.specs.Encoding.{columnsIn, queryIn}
 use Rattle.rules.specs.declared.Outcome.the-variants.{Answered}
 use Rattle.rules.specs.Table.{listOf}
@@ -31,14 +33,14 @@ use Rattle.rules.specs.Steps.{nowAt, storeBack, answered, lookResult, fetchResu
 use Rattle.rules.specs.Calls.{unless, beginResult, stepResult}
 use Rattle.rules.specs.History.{Call, begin, step, abandon, evictAnswer, evictNode as dropNode, renew, untrayed}
 use Rattle.rules.specs.History.{callResult, isAccepted, memAfter}
-use Rattle.machine.specs.Machine.{sameAsk, sameShape, sameQuery, sameColumn, sameWanted}
+use Rattle.machine.specs.Machine.{sameAsk, sameShape, sameQuery, sameColumn, sameWanted, sameRange}
 use Rattle.machine.proofs.Asks.{sameAsk-eq}
 use Rattle.refinement.proofs.ClientPhases.{asking-at}
 use Rattle.demands.specs.WholeHistory.{History, memAt, callAt, resultAt, acceptedAt, endsWork, endsAt, UnderWay}
 use Rattle.demands.specs.Demand2.{isOpen, isQuiet, stillThere, keepsNodes, Quiescent, Reads, Filed, Fetches, LastFiled}
 use Rattle.demands.proofs.HistoryRuns.{next-mem}
 use Rattle.demands.proofs.Demand2Holds.{demand-2-gets}
-use Rattle.rules.specs.Work.{Ask, readOf, ofRecords, valueOf, mayAnswer, readLabels, askKey, askIn, kindOf, keyOf, workIn, stepsInAll, isWrite, askOf, workOf, faultOf}
+use Rattle.rules.specs.Work.{Ask, askFault, listWithin, readOf, ofRecords, valueOf, mayAnswer, readLabels, askKey, askIn, kindOf, keyOf, workIn, workFault, stepsInAll, isWrite, askOf, workOf, faultOf}
 use Rattle.rules.specs.Work.{asking, ofNumber}
 
 abbrev pub tray : List ℕ
@@ -50,8 +52,8 @@ asked = 1 ∷ 5 ∷ []
 
 abbrev pub played : List Call
 played =
-    begin 0 (readOf false asked) ∷ step 0 tray ∷ step 0 tray ∷ step 0 tray ∷ step 0 tray ∷ step 0 tray
-    ∷ begin 0 (readOf false asked) ∷ step 0 tray ∷ step 0 tray ∷ step 0 tray ∷ []
+    begin 0 (readOf false None asked) ∷ step 0 tray ∷ step 0 tray ∷ step 0 tray ∷ step 0 tray ∷ step 0 tray
+    ∷ begin 0 (readOf false None asked) ∷ step 0 tray ∷ step 0 tray ∷ step 0 tray ∷ []
 
 abbrev pub lent : Mem
 lent = mem (replicate tableLeast 7) (replicate (nodesLeast narrow) 7) (replicate (answersLeast narrow (shapeOf 1)) 7) (replicate (clientsLeast narrow (shapeOf 1)) 7)
@@ -64,7 +66,7 @@ abbrev pub example : History
 example = record { lent = lent; k = 1; accepted = may-open; calls = played }
 
 abbrev q : Ask
-q = record { shape = shapeOf 1; query = Is 5 ∷ []; counts = false }
+q = record { shape = shapeOf 1; query = Is 5 ∷ []; counts = false; range = None }
 
 -- ---- The tests of a call: its number, the memories that it finds, and the call
 -- the client at desk 0 is a reader that asks q and has made so many steps, and its next is taken
@@ -110,7 +112,7 @@ passes i m [] = true
 passes i m (c ∷ cs) = tests i m c && passes (suc i) (callResult m c .mem) cs
 
 computed : passes 0 (opened narrow (shapeOf 1) lent) played ≡ true
-unfolding same keep place without allBelow listed padded written rows flat entriesIn withEntries pick readNode named readCount columnOf queryOf wellMarked isQuery namesAll termValue columnValue tag tags labelWords marks keyWords columnsIn queryIn countsIn countKey bareKey listOf labelIn pending revision withPending withRevision hasLabel nodePlace isPresent nodeOf withNode evictNode added isFree oldestFree makeRoom addedIn ensured isHigh isWorn keyIn lengthIn revisionIn isCount mostIn listIn valueIn hasKeyOf atLeast serves fetchPlace keyPlace filed isLong someLong kind steps sawPending entryOf idle isIdle begun workAt askAt isBad stepped noted holding recordsIn storeIn withStore answersIn withAnswers clientIn withClient cleared opened client isShort badColumns isUnsound noClient openCode beginCode atClient stepCode nowAt storeBack answered lookResult fetchResult tableResult fileResult readResult progressOf progress unless beginResult stepResult untrayed callResult isAccepted endsWork endsAt isOpen isQuiet stillThere keepsNodes number lies admits sameAsk sameWanted sameQuery sameColumn readNodes ofRecords ofNumber valueOf mayAnswer readLabels askKey askIn kindOf keyOf workIn stepsInAll isWrite askOf workOf faultOf sameShape ready onFile quiescentAt mayFile goes tests passes
+unfolding same keep place without allBelow listed padded written rows flat entriesIn withEntries pick readNode named readCount columnOf queryOf wellMarked isQuery namesAll termValue columnValue tag tags labelWords marks keyWords columnsIn queryIn countsIn countKey rangeOf rangeIn rangeKey wantedKey unranged bareKey within isRange isReversed starred listOf labelIn pending revision withPending withRevision hasLabel nodePlace isPresent nodeOf withNode evictNode added isFree oldestFree makeRoom addedIn ensured isHigh isWorn keyIn lengthIn revisionIn isCount mostIn listIn valueIn hasKeyOf atLeast serves fetchPlace keyPlace filed isLong someLong kind steps sawPending entryOf idle isIdle begun workAt askAt isBad stepped noted holding recordsIn storeIn withStore answersIn withAnswers clientIn withClient cleared opened client isShort badColumns isUnsound noClient openCode beginCode atClient stepCode nowAt storeBack answered lookResult fetchResult tableResult fileResult readResult progressOf progress unless beginResult stepResult untrayed callResult isAccepted endsWork endsAt isOpen isQuiet stillThere keepsNodes number lies admits sameAsk sameWanted sameRange sameQuery sameColumn readNodes ofRecords ofNumber askFault listWithin valueOf mayAnswer readLabels askKey askIn kindOf keyOf workIn workFault stepsInAll isWrite askOf workOf faultOf sameShape ready onFile quiescentAt mayFile goes tests passes
 computed = refl
 
 -- ---- What they say of each call
@@ -175,8 +177,8 @@ is-ready m n e =
     )
 
 -- a read that call b began at desk 0 is under way up to call n, where no call between is 5 or 9
-runs : (b n : ℕ) → b < n → n ≤ 9 → ((i : ℕ) → b < i → i < n → i ≡ 5 → ⊥) → callAt example b ≡ begin 0 (readOf false asked) → acceptedAt example b ≡ true
-    → UnderWay example (readOf false asked) 0 b n
+runs : (b n : ℕ) → b < n → n ≤ 9 → ((i : ℕ) → b < i → i < n → i ≡ 5 → ⊥) → callAt example b ≡ begin 0 (readOf false None asked) → acceptedAt example b ≡ true
+    → UnderWay example (readOf false None asked) 0 b n
 unfolding goes resultAt
 runs b n l m f c a = record {
   begins = c;
@@ -195,11 +197,11 @@ second-begun : acceptedAt example 6 ≡ true
 unfolding acceptedAt resultAt
 second-begun = at 6 (omega arith) .begun-again
 
-first-call : callAt example 0 ≡ begin 0 (readOf false asked)
+first-call : callAt example 0 ≡ begin 0 (readOf false None asked)
 unfolding callAt
 first-call = refl
 
-second-call : callAt example 6 ≡ begin 0 (readOf false asked)
+second-call : callAt example 6 ≡ begin 0 (readOf false None asked)
 unfolding callAt
 second-call = refl
 
@@ -216,7 +218,7 @@ was-filed =
     let r = is-ready (memAt example 5) (length (readLabels q) + 2) (at 5 (omega arith) .files) in
     record {
       client = 0;
-      request = readOf false asked;
+      request = readOf false None asked;
       tray = tray;
       calls = file-call;
       takes = r .0;
@@ -251,7 +253,7 @@ fetched =
     let r = is-ready (memAt example 9) (length (readLabels q)) (and-left (ready (memAt example 9) (length (readLabels q))) _ (at 9 (omega arith) .fetches)) in
     record {
       client = 0;
-      request = readOf false asked;
+      request = readOf false None asked;
       tray = tray;
       within = omega arith;
       calls = fetch-call;

@@ -13,8 +13,10 @@ use lib.ListN.{length, getD, take, replicate}
 use Rattle.lists.specs.Lists.{same, before, keep, place, without, allBelow, listed, padded, written, rows, flat, entriesIn, withEntries}
 use Rattle.laws.proofs.ListLaws.{and-left, and-right, same-eq}
 use Rattle.query.specs.declared.Column.the-variants.{Is, Wildcard}
+use Rattle.query.specs.declared.Range.the-variants.{None}
 use Rattle.query.specs.Query.{admits, lies, naming, pick, readNode, writeNode, named, readNodes, writeNodes, readCount, writeCount}
-use Rattle.query.specs.Encoding.{columnOf, queryOf, wellMarked, isQuery, namesAll, recordOf, termValue, columnValue, tag, tags, labelWords, marks, keyWords, countsIn, countKey, bareKey}
+use Rattle.query.specs.Range.{within, isRange, isReversed, starred}
+use Rattle.query.specs.Encoding.{columnOf, queryOf, wellMarked, isQuery, namesAll, recordOf, termValue, columnValue, tag, tags, labelWords, marks, keyWords, countsIn, countKey, rangeOf, rangeIn, rangeKey, wantedKey, unranged, bareKey}
 use Rattle.query.specs.Encoding.{columnsIn, queryIn}
 use Rattle.query.specs.Graph.{agreeIn, agree, meets}
 use Rattle.rules.specs.declared.Outcome.the-variants.{Answered}
@@ -33,15 +35,15 @@ use Rattle.rules.specs.Steps.{endOf, raiseResult, writeResult, progressOf, prog
 use Rattle.rules.specs.Calls.{unless, beginResult, stepResult, evictNodeResult}
 use Rattle.rules.specs.History.{Call, begin, step, abandon, evictAnswer, evictNode as dropNode, renew, untrayed}
 use Rattle.rules.specs.History.{callResult, isAccepted, memAfter}
-use Rattle.machine.specs.Machine.{sameAsk, sameShape, sameQuery, sameColumn, sameWanted}
+use Rattle.machine.specs.Machine.{sameAsk, sameShape, sameQuery, sameColumn, sameWanted, sameRange}
 use Rattle.machine.proofs.Asks.{sameAsk-eq}
 use Rattle.refinement.proofs.ClientPhases.{asking-at}
 use Rattle.demands.specs.WholeHistory.{History, memAt, callAt, resultAt, acceptedAt, endsWork, endsAt, UnderWay}
 use Rattle.demands.specs.Demand2.{isOpen, isQuiet, stillThere, keepsNodes, Quiescent, Reads, Filed, Fetches, LastFiled}
 use Rattle.demands.proofs.HistoryRuns.{next-mem}
 use Rattle.demands.proofs.Demand2WholeHolds.{demand-2}
-use Rattle.rules.specs.Work.{Ask, readOf, insertOf, ofRecords, valueOf, mayAnswer, readLabels, writeLabels, askKey, askIn, changeKind, kindOf, keyOf, changeIn, writeIn}
-use Rattle.rules.specs.Work.{workIn, stepsInAll, isWrite, askOf, workOf, faultOf, asking, ofNumber}
+use Rattle.rules.specs.Work.{Ask, askFault, listWithin, readOf, insertOf, ofRecords, valueOf, mayAnswer, readLabels, writeLabels, askKey, askIn, changeKind, kindOf, keyOf, changeIn, writeIn}
+use Rattle.rules.specs.Work.{workIn, workFault, stepsInAll, isWrite, askOf, workOf, faultOf, asking, ofNumber}
 
 abbrev pub tray : List ℕ
 tray = replicate trayLeast 9
@@ -55,7 +57,7 @@ abbrev pub played : List Call
 played =
     begin 2 (insertOf (1 ∷ 5 ∷ 1 ∷ 7 ∷ [])) ∷ step 2 tray ∷ step 2 tray ∷ step 2 tray ∷ step 2 tray ∷ step 2 tray
     ∷ step 2 tray ∷ step 2 tray ∷ step 2 tray ∷ step 2 tray
-    ∷ begin 1 (readOf false asked) ∷ begin 0 (readOf false asked) ∷ step 0 tray ∷ step 0 tray ∷ step 1 tray ∷ step 0 tray
+    ∷ begin 1 (readOf false None asked) ∷ begin 0 (readOf false None asked) ∷ step 0 tray ∷ step 0 tray ∷ step 1 tray ∷ step 0 tray
     ∷ dropNode 1 ∷ step 0 tray ∷ step 0 tray ∷ step 1 tray ∷ step 1 tray ∷ []
 
 abbrev pub lent : Mem
@@ -69,7 +71,7 @@ abbrev pub example : History
 example = record { lent = lent; k = 2; accepted = may-open; calls = played }
 
 abbrev q : Ask
-q = record { shape = shapeOf 2; query = Is 5 ∷ Wildcard ∷ []; counts = false }
+q = record { shape = shapeOf 2; query = Is 5 ∷ Wildcard ∷ []; counts = false; range = None }
 
 -- ---- The tests of a call: its number, the memories that it finds, and the call
 -- the client at desk d is a reader that asks q and has made so many steps, and its next is taken
@@ -117,7 +119,7 @@ passes i m [] = true
 passes i m (c ∷ cs) = tests i m c && passes (suc i) (callResult m c .mem) cs
 
 computed : passes 0 (opened narrow (shapeOf 2) lent) played ≡ true
-unfolding same before keep place without allBelow listed padded written rows flat entriesIn withEntries admits lies naming pick readNode writeNode named readNodes writeNodes readCount writeCount columnOf queryOf wellMarked isQuery namesAll recordOf termValue columnValue tag tags labelWords marks keyWords columnsIn queryIn countsIn countKey bareKey agreeIn agree meets listOf has putIn target isFull effect noRoom changes labelIn pending revision withPending withRevision hasLabel nodePlace isPresent nodeOf withNode evictNode added isFree oldestFree makeRoom addedIn ensured announcedIn announced isPending released lifted mayRetire retired isHigh isWorn keyIn lengthIn revisionIn isCount mostIn listIn valueIn hasKeyOf atLeast serves fetchPlace keyPlace filed isLong someLong kind steps sawPending didChange foundFull entryOf idle isIdle begun askAt writeAt workAt isBad stepped flag noted holding wrote recordsIn withRecords storeIn withStore answersIn withAnswers clientIn withClient cleared opened client isShort badColumns isUnsound noClient openCode beginCode atClient stepCode evictNodeCode nowAt storeBack answered lookResult fetchResult tableResult fileResult readResult announceResult writeTableResult endOf raiseResult writeResult progressOf progress unless beginResult stepResult evictNodeResult untrayed callResult isAccepted endsWork endsAt isOpen isQuiet stillThere keepsNodes number sameAsk sameWanted sameQuery sameColumn sameShape ofRecords ofNumber valueOf mayAnswer readLabels writeLabels askKey askIn changeKind kindOf keyOf changeIn writeIn workIn stepsInAll isWrite askOf workOf faultOf ready onFile quiescentAt mayFile goes accepts tests passes
+unfolding same before keep place without allBelow listed padded written rows flat entriesIn withEntries admits lies naming pick readNode writeNode named readNodes writeNodes readCount writeCount columnOf queryOf wellMarked isQuery namesAll recordOf termValue columnValue tag tags labelWords marks keyWords columnsIn queryIn countsIn countKey rangeOf rangeIn rangeKey wantedKey unranged bareKey within isRange isReversed starred agreeIn agree meets listOf has putIn target isFull effect noRoom changes labelIn pending revision withPending withRevision hasLabel nodePlace isPresent nodeOf withNode evictNode added isFree oldestFree makeRoom addedIn ensured announcedIn announced isPending released lifted mayRetire retired isHigh isWorn keyIn lengthIn revisionIn isCount mostIn listIn valueIn hasKeyOf atLeast serves fetchPlace keyPlace filed isLong someLong kind steps sawPending didChange foundFull entryOf idle isIdle begun askAt writeAt workAt isBad stepped flag noted holding wrote recordsIn withRecords storeIn withStore answersIn withAnswers clientIn withClient cleared opened client isShort badColumns isUnsound noClient openCode beginCode atClient stepCode evictNodeCode nowAt storeBack answered lookResult fetchResult tableResult fileResult readResult announceResult writeTableResult endOf raiseResult writeResult progressOf progress unless beginResult stepResult evictNodeResult untrayed callResult isAccepted endsWork endsAt isOpen isQuiet stillThere keepsNodes number sameAsk sameWanted sameRange sameQuery sameColumn sameShape ofRecords ofNumber askFault listWithin valueOf mayAnswer readLabels writeLabels askKey askIn changeKind kindOf keyOf changeIn writeIn workIn workFault stepsInAll isWrite askOf workOf faultOf ready onFile quiescentAt mayFile goes accepts tests passes
 computed = refl
 
 -- ---- What they say of each call
@@ -195,11 +197,11 @@ second-begun : acceptedAt example 11 ≡ true
 unfolding acceptedAt resultAt accepts
 second-begun = unfold accepts in at 11 (omega arith) .begun-second
 
-first-call : callAt example 10 ≡ begin 1 (readOf false asked)
+first-call : callAt example 10 ≡ begin 1 (readOf false None asked)
 unfolding callAt
 first-call = refl
 
-second-call : callAt example 11 ≡ begin 0 (readOf false asked)
+second-call : callAt example 11 ≡ begin 0 (readOf false None asked)
 unfolding callAt
 second-call = refl
 
@@ -211,7 +213,7 @@ fetch-call : callAt example 20 ≡ step 1 tray
 unfolding callAt
 fetch-call = refl
 
-fetching-runs : UnderWay example (readOf false asked) 1 10 20
+fetching-runs : UnderWay example (readOf false None asked) 1 10 20
 unfolding goes resultAt
 fetching-runs = record {
   begins = first-call;
@@ -222,7 +224,7 @@ fetching-runs = record {
       not-true _ (rw (le-ltb i 11 (omega arith), ne-eqb i 20 (λ y. omega arith)) at z);
 }
 
-filing-runs : UnderWay example (readOf false asked) 0 11 18
+filing-runs : UnderWay example (readOf false None asked) 0 11 18
 unfolding goes resultAt
 filing-runs = record {
   begins = second-call;
@@ -236,7 +238,7 @@ filing-runs = record {
 was-filed : Filed example q 11 18
 was-filed =
     let r = is-ready (memAt example 18) 0 (length (readLabels q) + 2) (omega arith) (at 18 (omega arith) .files) in
-    record { client = 0; request = readOf false asked; tray = tray; calls = file-call; takes = r .0; files = r .1; runs = filing-runs }
+    record { client = 0; request = readOf false None asked; tray = tray; calls = file-call; takes = r .0; files = r .1; runs = filing-runs }
 
 abbrev e : Entry
 e = getD (answersIn narrow (memAt example 20 .answers)) 0 []
@@ -270,7 +272,7 @@ fetched =
     (and-left (ready (memAt example 20) 1 (length (readLabels q))) _ (at 20 (omega arith) .fetches)) in
     record {
       client = 1;
-      request = readOf false asked;
+      request = readOf false None asked;
       tray = tray;
       within = omega arith;
       calls = fetch-call;

@@ -398,4 +398,4 @@ filing-read h x b n e y =
     let es = answersIn narrow (m .answers) in
     let s = sound h n (omega arith) in
     filing-of h x n e (omega arith) (subst (λ a. In a es) (y .is) (in-at [] es (y .place) (y .there)))
-    (ap (λ sh. askIn sh (keyIn e)) (sym (s .shape)) ∙ sym (ans-ask (shape m) e) ∙ its-key m (y .client) x (length (readLabels x)) e (s .fits .few) (y .fetches) (y .key))
+    (ap (λ sh. askIn sh (keyIn e)) (sym (s .shape)) ∙ sym (ans-ask (shape m) e) ∙ its-key m (y .client) x (length (readLabels x)) e (s .fits) (y .fetches) (y .key))

@@ -108,7 +108,7 @@ filed-there h q n w e =
       _,
       record {
         client = d;
-        request = readOf (u .counts) (u .asked);
+        request = readOf (u .counts) (u .range) (u .asked);
         tray = f .tray;
         calls = f .calls;
         takes = step-taken (shape (memAt h n)) _ (memAt h n) (f .tray) d (ap isRefused (sym (step-reply h n d (f .tray) (f .calls))) ∙ f .taken);

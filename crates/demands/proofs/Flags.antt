@@ -10,6 +10,7 @@ use lib.Dec.{eqb}
 use borrow.Author.Tests.{eqb-true, eqb-false, eq-eqb}
 use lib.ListN.{length}
 use Rattle.laws.proofs.TestLaws.{byTest}
+use Rattle.query.specs.declared.Range.{Range}
 use Rattle.rules.specs.Work.{Ask, asking, writing, askOf, readOf, workOf, Request, Work}
 use Rattle.machine.specs.Machine.{State, Phase, idle, looking, tabling, filing, announcing, raising, Response, isRefused}
 use Rattle.machine.proofs.Quiescence.{quiescent, quiet, kept, keyAt, begins, quiescent-next, quiescent-start, QuiescenceInv, opened-quiescent}
@@ -88,10 +89,10 @@ flag-on : (s t : State) (k : machine-quiescent.Quiescent) (d : ℕ) (q : Ask) (c
 unfolding quiescent-next
 flag-on s t k d q c a b r e m = rw (b, e, r) m
 
-pub since-read : (h : History) (d b n : ℕ) (counts : Bool) (a : List ℕ) → n ≤ length (h .calls) → UnderWay h (readOf counts a) d b n
-    → Since h (asking (askOf (shapeAt h) counts a)) d b n
+pub since-read : (h : History) (d b n : ℕ) (counts : Bool) (range : Range) (a : List ℕ) → n ≤ length (h .calls) → UnderWay h (readOf counts range a) d b n
+    → Since h (asking (askOf (shapeAt h) counts range a)) d b n
 unfolding workOf
-since-read h d b n counts a w u = record { request = readOf counts a; is = refl; within = w; runs = u }
+since-read h d b n counts range a w u = record { request = readOf counts range a; is = refl; within = w; runs = u }
 
 key-since : (h : History) (q : Ask) (d b n : ℕ) → Since h (asking q) d b n → (i : ℕ) → b < i → i ≤ n → keyAt (stateOf (memAt h i) .clients d) ≡ q
 key-since h q d b n s i l m = work-key (stateOf (memAt h i) .clients d) q (work-since h (asking q) d b n s i l m)

@@ -1,5 +1,5 @@
--- An answer from file goes back to a read that asked the same and wanted the same. Leans on machine's Frames, on WorksBegun, Demand3Holds
--- and FilingRead. Assumes nothing.
+-- An answer from file goes back to a read that asked the same, with the same range, and wanted the same. Leans on machine's Frames, on
+-- WorksBegun, Demand3Holds and FilingRead. Assumes nothing.
 use mathlib.Core.Path.{_≡_, refl, sym, ap, _∙_, subst}
 use mathlib.Core.Bool.{Bool, true, false}
 use mathlib.Core.Option.{some}
@@ -67,19 +67,19 @@ entry-of m a i = let j = in-map (ansOf (shape m)) (answersIn narrow (m .answers)
 
 pub file-serves : (h : History) → FileServes h
 unfolding callOf workOf
-file-serves h d counts a b n count x =
+file-serves h d counts range a b n count x =
     let l = x .within in
     let m = memAt h n in
     let S = sound h n (omega arith) in
     let y : Served (stateOf m) (callOf (shapeAt h) (callAt h n)) =
     subst (ServedBy (stateOf m) (callOf (shapeAt h) (callAt h n))) (result-is h n count true (S .shape) (x .says)) (served (stateOf m) (transition-frame (stateOf m) (transition-at h n l) .response)) in
     let i : d ≡ y .client = step-eq (sym (ap (callOf (shapeAt h)) (x .calls)) ∙ y .calls) in
-    let w = begun-busy h (readOf counts a) d b n (omega arith) (x .runs) n (x .runs .earlier) (omega arith) in
-    let q : asking (y .asks) ≡ asking (askOf (shapeAt h) counts a) = same-work (sym (y .works) ∙ ap (λ (e : ℕ). phaseWork (stateOf m .clients e)) (sym i) ∙ w) in
+    let w = begun-busy h (readOf counts range a) d b n (omega arith) (x .runs) n (x .runs .earlier) (omega arith) in
+    let q : asking (y .asks) ≡ asking (askOf (shapeAt h) counts range a) = same-work (sym (y .works) ∙ ap (λ (e : ℕ). phaseWork (stateOf m .clients e)) (sym i) ∙ w) in
     let e = entry-of m (y .found) (y .there) in
-    let k : askIn (shapeAt h) (keyIn (e .0)) ≡ askOf (shapeAt h) counts a =
+    let k : askIn (shapeAt h) (keyIn (e .0)) ≡ askOf (shapeAt h) counts range a =
     ap (λ sh. askIn sh (keyIn (e .0))) (sym (S .shape)) ∙ sym (e .2) ∙ y .same ∙ ask-same q in
-    let z = filing-of h (askOf (shapeAt h) counts a) n (e .0) (omega arith) (e .1) k in
+    let z = filing-of h (askOf (shapeAt h) counts range a) n (e .0) (omega arith) (e .1) k in
     (z .begun, z .by, z .filing, z .last)
   where
     ask-same : {u v : Ask} → asking u ≡ asking v → u ≡ v

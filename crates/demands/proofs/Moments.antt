@@ -1,16 +1,22 @@
--- What demand 2 says of the memories at a moment, told of the machine's state: no open write meets a query, its nodes are still there, and
--- a client's read stands at its fetch or at its file step. Leans on refinement and on machine's Quiescence. Assumes nothing.
+-- What demand 2 says of the memories at a moment, told of the machine's state: no open write meets a query, a ranged column starred; its nodes
+-- are still there; and a client's read stands at its fetch or at its file step. Leans on refinement and on machine's Quiescence. Assumes
+-- nothing.
 use mathlib.Core.Path.{_≡_, refl, sym, ap, subst, _∙_}
 use mathlib.Core.Bool.{Bool, true, false, not}
-use mathlib.Core.List.{List, []}
-use Prim.Native.Nat.{ℕ, _+_, _≤_, _<_}
+use mathlib.Core.List.{List, [], _∷_}
+use Prim.Native.Nat.{ℕ, zero, suc, _+_, _≤_, _<_}
 use native.Mathlib.Omega.{arith}
 use lib.Dec.{eqb, leb}
 use borrow.Author.Tests.{eqb-true, eqb-false, leb-true, leb-false, not-true}
-use lib.ListN.{length, getD}
-use Rattle.laws.proofs.ListLaws.{all-below, below-at}
-use Rattle.laws.proofs.TestLaws.{byTest}
-use Rattle.query.specs.Graph.{meets}
+use lib.ListN.{length, getD, set}
+use Rattle.laws.proofs.ListLaws.{all-below, below-at, and-left, and-right}
+use Rattle.laws.proofs.TestLaws.{byTest, clash}
+use Rattle.query.specs.declared.Column.the-variants.{Wildcard}
+use Rattle.query.specs.declared.Range.{Range}
+use Rattle.query.specs.declared.Range.the-variants.{None, Between}
+use Rattle.query.specs.Query.{Query}
+use Rattle.query.specs.Range.{starred}
+use Rattle.query.specs.Graph.{agreeIn, agree, meets}
 use Rattle.rules.specs.Work.{Write, Ask, Value, readLabels, shares, Work, asking, writing, writeLabels, workIn, stepsInAll}
 use Rattle.rules.specs.Table.{target}
 use Rattle.rules.specs.Nodes.{isPresent}
@@ -43,9 +49,24 @@ writer-opens : (w : Write) (i : ℕ) (c f : Bool) (q : Ask) → opens (writerOf 
 unfolding writerOf opens
 writer-opens w i c f q = byTest (leb i (length (writeLabels w))) (λ t. rw t refl) (λ t. rw t refl)
 
+-- a star more meets no less: a write that does not meet the query with a ranged column starred does not meet the query
+star-agrees : (q w : Query) (i : ℕ) → agree q w ≡ true → agree (set q i Wildcard) w ≡ true
+unfolding agree agreeIn
+star-agrees [] w i e = e
+star-agrees (c ∷ q) [] zero e = e
+star-agrees (c ∷ q) [] (suc i) e = e
+star-agrees (c ∷ q) (d ∷ w) zero e = and-right (agreeIn c d) (agree q w) e
+star-agrees (c ∷ q) (d ∷ w) (suc i) e =
+    rw (and-left (agreeIn c d) (agree q w) e) (star-agrees q w i (and-right (agreeIn c d) (agree q w) e))
+
+starred-meets : (g : Range) (q w : Query) → meets (starred g q) w ≡ false → meets q w ≡ false
+unfolding starred meets
+starred-meets None q w e = e
+starred-meets (Between column lowest highest) q w e = byTest (agree q w) (λ t. clash (star-agrees q w column t) e) (λ t. t)
+
 -- the one use of lemma 2: a write that does not meet the query shares no node with it
-not-shared : (q : Ask) (w : Write) → meets (q .query) (target (w .change)) ≡ false → shares q w ≡ false
-not-shared q w e = sym (meets-shares q w) ∙ e
+not-shared : (q : Ask) (w : Write) → meets (starred (q .range) (q .query)) (target (w .change)) ≡ false → shares q w ≡ false
+not-shared q w e = sym (meets-shares q w) ∙ starred-meets (q .range) (q .query) (target (w .change)) e
 
 client-opens : (sh : Shape) (q : Ask) (c : Client) → isOpen narrow sh q c ≡ false → opens (phaseOf sh c) q ≡ false
 unfolding isOpen phaseOf workAt workIn writeAt busyPhase
@@ -71,7 +92,7 @@ unfolding keepsNodes kept stillThere
 kept-there q m t e = all-below (length (readLabels q)) _ (λ j l. rw (has-is q m j, has-is q t j) (below-at (length (readLabels q)) (stillThere q m t) j e l))
 
 -- ---- A read at its fetch, and at its file step
-reader-there : (m : Mem) (d : ℕ) (q : Ask) (n : ℕ) → Fits m → Reads m d q n → Busy narrow (shape m) (client m d) (asking q)
+pub reader-there : (m : Mem) (d : ℕ) (q : Ask) (n : ℕ) → Fits m → Reads m d q n → Busy narrow (shape m) (client m d) (asking q)
 reader-there m d q n f r = subst (λ w. Busy narrow (shape m) (client m d) w) (r .works) (busy-at m f d (r .below) (r .busy))
 
 pub record Fetching (m : Mem) (d : ℕ) (q : Ask) : Type 0 where

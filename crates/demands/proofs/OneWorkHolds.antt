@@ -12,6 +12,7 @@ use lib.ListN.{length}
 use Rattle.laws.proofs.ListLaws.{and-left}
 use Rattle.laws.proofs.TestLaws.{byTest, clash}
 use Rattle.query.specs.Shape.{Shape}
+use Rattle.query.specs.declared.Range.{Range}
 use Rattle.query.specs.Query.{Query}
 use Rattle.query.specs.Encoding.{queryOf}
 use Rattle.rules.specs.declared.Outcome.{Outcome}
@@ -132,7 +133,7 @@ left s d (Transition.abandoned-write {w = w} l e m) k = (writing w, rw e refl)
 -- ---- The two ways of telling
 request-writes : (sh : Shape) (r : Request) → isWriting (workOf sh r) ≡ isWrite r
 unfolding workOf isWrite
-request-writes sh (readOf counts a) = refl
+request-writes sh (readOf counts range a) = refl
 request-writes sh (insertOf a) = refl
 request-writes sh (deleteOf a) = refl
 
@@ -177,16 +178,17 @@ step-ends h n o l e k =
       λ y. ap countsWork (z .1 .is) ∙ f .list y,
     )
 
-a-read : (h : History) (n : ℕ) (r : Request) → isWrite r ≡ false → StepEnds h n r → (counts : Bool) × (a : List ℕ) × StepEnds h n (readOf counts a)
+a-read : (h : History) (n : ℕ) (r : Request) → isWrite r ≡ false → StepEnds h n r → (counts : Bool) × (range : Range) × (a : List ℕ) × StepEnds h n (readOf counts range a)
 unfolding isWrite
-a-read h n (readOf counts a) e s = (counts, a, s)
+a-read h n (readOf counts range a) e s = (counts, range, a, s)
 a-read h n (insertOf a) e s = absurd (false≢true (sym e))
 a-read h n (deleteOf a) e s = absurd (false≢true (sym e))
 
-a-list : (h : History) (n : ℕ) (r : Request) → isWrite r ≡ false → countsWork (workOf (shapeAt h) r) ≡ false → StepEnds h n r → (a : List ℕ) × StepEnds h n (readOf false a)
+a-list : (h : History) (n : ℕ) (r : Request) → isWrite r ≡ false → countsWork (workOf (shapeAt h) r) ≡ false → StepEnds h n r
+    → (range : Range) × (a : List ℕ) × StepEnds h n (readOf false range a)
 unfolding isWrite workOf askOf
-a-list h n (readOf true a) e k s = absurd (true≢false k)
-a-list h n (readOf false a) e k s = (a, s)
+a-list h n (readOf true range a) e k s = absurd (true≢false k)
+a-list h n (readOf false range a) e k s = (range, a, s)
 a-list h n (insertOf a) e k s = absurd (false≢true (sym e))
 a-list h n (deleteOf a) e k s = absurd (false≢true (sym e))
 
@@ -206,7 +208,7 @@ delete-room q t = refl
 
 an-insert : (h : History) (n : ℕ) (r : Request) → isWrite r ≡ true → resultAt h n .out ≡ Full → StepEnds h n r → (a : List ℕ) × StepEnds h n (insertOf a)
 unfolding isWrite isWriteEnd
-an-insert h n (readOf counts a) e k s = absurd (false≢true e)
+an-insert h n (readOf counts range a) e k s = absurd (false≢true e)
 an-insert h n (insertOf a) e k s = (a, s)
 an-insert h n (deleteOf a) e k s =
     let x = s .4 in

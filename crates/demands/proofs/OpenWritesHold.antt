@@ -11,7 +11,8 @@ use lib.ListN.{length}
 use Rattle.lists.specs.Lists.{allBelow}
 use Rattle.laws.proofs.ListLaws.{all-below, below-at}
 use Rattle.laws.proofs.TestLaws.{byTest, clash}
-use Rattle.query.specs.Query.{Meet}
+use Rattle.query.specs.Query.{Query, Meet}
+use Rattle.query.specs.Range.{starred}
 use Rattle.query.specs.Graph.{meets}
 use Rattle.query.specs.Shape.{Shape, narrow}
 use Rattle.query.proofs.Meet.{meets-is}
@@ -137,17 +138,16 @@ none-open h i l p =
           (λ e. rw e refl)),
     )
 
-meets-not : (x : Ask) (w : Write) → (meets (x .query) (target (w .change)) ≡ false) ↔ (Meet (x .query) (target (w .change)) → ⊥)
-meets-not x w =
-    let q = x .query in
-    let t = target (w .change) in
+meets-not : (q t : Query) → (meets q t ≡ false) ↔ (Meet q t → ⊥)
+meets-not q t =
     (λ e m. clash (meets-is q t .1 m) e, λ f. byTest (meets q t) (λ e. absurd (f (meets-is q t .0 e))) (λ e. e))
 
 pub quiet-tells : (h : History) → QuietTells h
 unfolding isQuiet isOpen
 quiet-tells h i l x =
-    let z = none-open h i l (λ w. meets (x .query) (target (w .change))) in
-    (λ e w d b o. meets-not x w .0 (z .0 e w d b o), λ f. z .1 (λ w d b o. meets-not x w .1 (f w d b o)))
+    let q = starred (x .range) (x .query) in
+    let z = none-open h i l (λ w. meets q (target (w .change))) in
+    (λ e w d b o. meets-not q (target (w .change)) .0 (z .0 e w d b o), λ f. z .1 (λ w d b o. meets-not q (target (w .change)) .1 (f w d b o)))
 
 pub unopposed-tells : (h : History) → UnopposedTells h
 unfolding isUnopposed isOpposed

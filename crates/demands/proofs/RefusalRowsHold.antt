@@ -1,11 +1,12 @@
--- The number that a call returns is that of the first row of its refusals that applies, which is the smallest that applies; where none does it
--- is 0, 12 or 13. Leans on rules' definitions and laws, and on NodeFaults for 3 at a node. Assumes nothing.
+-- The number that a call returns is that of the first row of its refusals that applies, which is the smallest that applies, but for 14; where
+-- none does it is 0, 12 or 13. 14 is given to a begin of a read with a reversed range, and to no other call. Leans on rules' definitions and
+-- laws, on refinement's RefusedCalls and on NodeFaults for 3 at a node. Assumes nothing.
 use mathlib.Core.Path.{_≡_, refl, sym, ap, _∙_}
 use mathlib.Core.Bool.{Bool, true, false, cond, not, _&&_, _||_}
 use mathlib.Core.List.{List, [], _∷_, _++_}
 use mathlib.Core.Logic.{_⊎_, inl, inr}
 use mathlib.Core.Option.{Option, none, some}
-use Prim.Native.Nat.{ℕ, _+_, _-_, _≤_}
+use Prim.Native.Nat.{ℕ, _+_, _-_, _≤_, _<_}
 use native.Mathlib.Omega.{arith}
 use lib.Dec.{eqb, ltb, leb}
 use lib.ListN.{length, getD}
@@ -14,12 +15,14 @@ use Rattle.lists.specs.Lists.{In, here, there}
 use Rattle.laws.proofs.TestLaws.{byTest, clash, or-false, or-false-l, or-false-r}
 use Rattle.laws.proofs.ListLaws.{and-left, and-right}
 use Rattle.query.specs.Encoding.{isQuery, namesAll, queryOf}
+use Rattle.query.specs.Range.{isRange, isReversed}
 use Rattle.query.specs.Shape.{Shape, narrow, maxColumns}
-use Rattle.rules.specs.Layout.{trayLeast, refusedColumns}
-use Rattle.rules.specs.Work.{Ask, Value, readLabels, mayAnswer, Write, writeLabels, Work, asking, writing, Request, readOf, insertOf, deleteOf, isWrite, faultOf}
+use Rattle.rules.specs.Layout.{trayLeast, reads, refusedColumns, refusedReversed}
+use Rattle.rules.specs.Work.{Ask, Value, readLabels, mayAnswer, Write, writeLabels, Work, asking, writing, Request, readOf, insertOf, deleteOf, isWrite, askFault, askOf, faultOf, writeIn, workIn}
 use Rattle.rules.specs.Table.{target}
 use Rattle.rules.specs.Nodes.{Words, Store, isWorn}
-use Rattle.rules.specs.Client.{steps, sawPending, foundFull, isIdle, isBad, workAt}
+use Rattle.rules.specs.Answers.{keyIn}
+use Rattle.rules.specs.Client.{Client, kind, steps, sawPending, foundFull, entryOf, isIdle, isBad, workAt}
 use Rattle.rules.specs.Memory.{Mem, storeIn, answersIn}
 use Rattle.rules.specs.Outcome.{Result, number}
 use Rattle.rules.specs.Refusals.{shape, columns, client, isShort, badColumns, isUnsound, noClient, isCommitted}
@@ -27,12 +30,11 @@ use Rattle.rules.specs.Refusals.{openCode, beginCode, atClient, stepCode, aband
 use Rattle.rules.specs.Steps.{answered, lookResult, fetchResult, tableResult, fileResult, readResult, announceResult, writeTableResult, endOf, raiseResult, writeResult, progressOf, progress}
 use Rattle.rules.specs.Calls.{unless, openResult, beginResult, stepResult, releaseResult, abandonedOf, abandoned, abandonResult, evictAnswerResult, evictNodeResult, renewResult}
 use Rattle.rules.specs.History.{Call, begin, step, abandon, evictAnswer, evictNode, renew, untrayed, callResult, isAccepted}
-use Rattle.rules.proofs.WorkLaws.{write-labels-some, write-label-wide}
-use Rattle.machine.specs.Machine.{WorkFits}
-use Rattle.refinement.proofs.ClientPhases.{fits-at}
+use Rattle.rules.proofs.WorkLaws.{write-labels-some, write-label-wide, target-length}
+use Rattle.refinement.proofs.RefusedCalls.{begin-code}
 use Rattle.demands.proofs.NodeFaults.{isNone, look-none, mark-none, raise-none, back-none}
 use Rattle.demands.specs.RefusalRows.{Row, firstOf, someApplies, isThere, isBusy, isUnsoundAt, isUnsoundBack, isLongAt, isFullAt}
-use Rattle.demands.specs.RefusalRows.{openRows, beginRows, stepRows, endRows, abandonRows, evictAnswerRows, evictNodeRows, renewRows, rowsOf, endsOf, Gives, RefusalRows, Smallest, SmallestGiven}
+use Rattle.demands.specs.RefusalRows.{openRows, beginRows, stepRows, endRows, abandonRows, evictAnswerRows, evictNodeRows, renewRows, rowsOf, endsOf, Gives, RefusalRows, Smallest, SmallestGiven, hasReversed, IsReversedBegin, OnlyReversed}
 
 -- ---- The first of two lists of rows
 first-refused : (a b : List Row) → someApplies a ≡ true → firstOf (a ++ b) ≡ firstOf a
@@ -47,40 +49,53 @@ first-accepted [] b e = refl
 first-accepted (r ∷ a) b e = let o = or-false (r .applies) (someApplies a) e in rw (o .0) (first-accepted a b (o .1))
 
 -- ---- The smallest
--- every row that applies has a number of at least n
+-- a number k that may apply where n is given: none smaller, and above 2 where 14 is
+abbrev NoLess : ℕ → ℕ → Type 0
+NoLess n k = (n ≤ k) ⊎ ((n ≡ refusedReversed) × (refusedColumns < k))
+
+abbrev noLess : ℕ → ℕ → Bool
+noLess n k = leb n k || (eqb n refusedReversed && ltb refusedColumns k)
+
+no-less : (n k : ℕ) → noLess n k ≡ true → NoLess n k
+no-less n k e = byTest (leb n k)
+    (λ t. inl (leb-true n k t))
+    (λ t. let z : eqb n refusedReversed && ltb refusedColumns k ≡ true = rw t at e in
+    inr (eqb-true n refusedReversed (and-left (eqb n refusedReversed) _ z), ltb-true refusedColumns k (and-right (eqb n refusedReversed) _ z)))
+
+-- so is the number of every row that applies
 data Above (n : ℕ) : List Row → Type 0 where
   end : Above n []
-  more : {r : Row} {rs : List Row} → (r .applies ≡ true → n ≤ r .number) → Above n rs → Above n (r ∷ rs)
+  more : {r : Row} {rs : List Row} → (r .applies ≡ true → NoLess n (r .number)) → Above n rs → Above n (r ∷ rs)
 
--- of two rows that apply the later has no smaller number
+-- of two rows that apply the later may where the earlier is given
 data Rising : List Row → Type 0 where
   done : Rising []
   rise : {r : Row} {rs : List Row} → (r .applies ≡ true → Above (r .number) rs) → Rising rs → Rising (r ∷ rs)
 
-above-in : {n : ℕ} {rs : List Row} (r : Row) → Above n rs → In r rs → r .applies ≡ true → n ≤ r .number
+above-in : {n : ℕ} {rs : List Row} (r : Row) → Above n rs → In r rs → r .applies ≡ true → NoLess n (r .number)
 above-in r (more h k) (here i) e = rw i (h (rw i at e))
 above-in r (more h k) (there i) e = above-in r k i e
 
-first-least : {rs : List Row} → Rising rs → (s : Row) → In s rs → s .applies ≡ true → firstOf rs ≤ s .number
+first-least : {rs : List Row} → Rising rs → (s : Row) → In s rs → s .applies ≡ true → NoLess (firstOf rs) (s .number)
 unfolding firstOf
-first-least (rise {r} h k) s (here i) e = let l : r .applies ≡ true = rw i at e in rw (i, l) (omega arith)
+first-least (rise {r} h k) s (here i) e = let l : r .applies ≡ true = rw i at e in rw (i, l) (inl (omega arith))
 first-least (rise {r} h k) s (there i) e =
     byTest (r .applies)
     (λ t. rw t (above-in s (h t) i e))
     (λ t. rw t (first-least k s i e))
 
--- every row, whether it applies or not, has a number of at least n
+-- so is the number of every row, whether it applies or not
 numbersFrom : ℕ → List Row → Bool
 numbersFrom n [] = true
-numbersFrom n (r ∷ rs) = leb n (r .number) && numbersFrom n rs
+numbersFrom n (r ∷ rs) = noLess n (r .number) && numbersFrom n rs
 
 from : (n : ℕ) (rs : List Row) → numbersFrom n rs ≡ true → Above n rs
 unfolding numbersFrom
 from n [] e = end
-from n (r ∷ rs) e = more (λ a. leb-true _ _ (and-left (leb n (r .number)) _ e)) (from n rs (and-right (leb n (r .number)) _ e))
+from n (r ∷ rs) e = more (λ a. no-less n (r .number) (and-left (noLess n (r .number)) _ e)) (from n rs (and-right (noLess n (r .number)) _ e))
 
-over : (n : ℕ) (r : Row) (rs : List Row) → leb n (r .number) ≡ true → Above n rs → Above n (r ∷ rs)
-over n r rs e h = more (λ a. leb-true _ _ e) h
+over : (n : ℕ) (r : Row) (rs : List Row) → noLess n (r .number) ≡ true → Above n rs → Above n (r ∷ rs)
+over n r rs e h = more (λ a. no-less n (r .number) e) h
 
 -- ---- Refusals
 -- no row of a list stands for a call that is accepted
@@ -132,16 +147,23 @@ unfolding openRows refusing isAccepted
 open-gives m k = gives (openRows m k) [] _ (open-first m k) refl none-zero
 
 -- ---- Begins
-fault-cases : (sh : Shape) (r : Request) → (faultOf sh r ≡ 0) ⊎ (faultOf sh r ≡ refusedColumns)
-unfolding faultOf
-fault-cases sh (readOf counts a) = byTest (isQuery sh a) (λ e. rw e (inl refl)) (λ e. rw e (inr refl))
-fault-cases sh (insertOf a) = byTest (isQuery sh a && namesAll (queryOf a)) (λ e. rw e (inl refl)) (λ e. rw e (inr refl))
-fault-cases sh (deleteOf a) = byTest (isQuery sh a) (λ e. rw e (inl refl)) (λ e. rw e (inr refl))
+-- a code after what begins was judged by itself: 2, then 14
+abbrev faulted : Bool → Bool → Bool → ℕ
+faulted query range reversed = cond query (cond range (cond reversed refusedReversed 0) refusedColumns) refusedColumns
 
--- a code after what begins was judged by itself
-after-fault : (f rest : ℕ) → (f ≡ 0) ⊎ (f ≡ refusedColumns) → cond (not (eqb f 0)) f rest ≡ cond (eqb f refusedColumns) refusedColumns rest
-after-fault f rest (inl e) = rw e
-after-fault f rest (inr e) = rw e
+judged : (query range reversed : Bool) (rest : ℕ) → cond (not (eqb (faulted query range reversed) 0)) (faulted query range reversed) rest
+    ≡ cond (eqb (faulted query range reversed) refusedColumns) refusedColumns (cond reversed refusedReversed rest)
+judged true true true rest = refl
+judged true true false rest = refl
+judged true false v rest = refl
+judged false g v rest = refl
+
+after-fault : (sh : Shape) (r : Request) (rest : ℕ) → cond (not (eqb (faultOf sh r) 0)) (faultOf sh r) rest
+    ≡ cond (eqb (faultOf sh r) refusedColumns) refusedColumns (cond (hasReversed r) refusedReversed rest)
+unfolding faultOf askFault askOf hasReversed
+after-fault sh (readOf counts range a) rest = judged (isQuery sh a) (isRange sh (queryOf a) range) (isReversed range) rest
+after-fault sh (insertOf a) rest = judged (isQuery sh a && namesAll (queryOf a)) true false rest
+after-fault sh (deleteOf a) rest = judged (isQuery sh a) true false rest
 
 -- a code at the called client; the rows say that it is there
 at-called : (gone bad idle : Bool) (n rest : ℕ)
@@ -154,7 +176,7 @@ unfolding beginResult beginCode beginRows firstOf number
 begin-first m d r =
     unless-number (beginCode m d r) m _ refl
     ∙ rw (at-called (noClient d) (isBad narrow (shape m) (client m d)) (not (isIdle narrow (client m d))) 5 (cond (isWrite r && isWorn narrow (shape m) (storeIn narrow (m .nodes))) 10 0))
-    (ap (λ (n : ℕ). cond (isShort narrow (shape m) m) 1 n) (after-fault (faultOf (shape m) r) _ (fault-cases (shape m) r)))
+    (ap (λ (n : ℕ). cond (isShort narrow (shape m) m) 1 n) (after-fault (shape m) r _))
 
 -- two rows that do not apply together
 not-there : {A : Type 0} (gone x : Bool) → gone ≡ true → not gone && x ≡ true → A
@@ -169,11 +191,12 @@ begin-rising m d r =
     rise (λ e. from _ _ refl)
     (rise (λ e. from _ _ refl)
     (rise (λ e. from _ _ refl)
+    (rise (λ e. from _ _ refl)
     -- 4, and 3 of the desk
     (rise (λ e. more (λ a. not-there (noClient d) _ e a) (from _ _ refl))
     (rise (λ e. from _ _ refl)
     (rise (λ e. from _ _ refl)
-    (rise (λ e. from _ _ refl) done))))))
+    (rise (λ e. from _ _ refl) done)))))))
 
 pub begin-gives : (m : Mem) (d : ℕ) (r : Request) → Gives (beginRows m d r) [] (number (beginResult m d r .out))
 unfolding beginRows refusing isAccepted
@@ -278,11 +301,20 @@ write-number m tray d w i k =
     (λ u. let o : i ≡ n → ⊥ = eqb-false i n u in
     rw (u, lt-ltb n i (omega arith), ← raise-none (getD (writeLabels w) (i - (n + 1)) []) s) (raise-number m tray d (eqb i (n + n)) _))))
 
-progress-number : (m : Mem) (tray : List ℕ) (d : ℕ) (w : Work) → WorkFits (shape m) w → columns m ≤ maxColumns
+-- a write's target has the hall's columns
+abbrev OfHall : Shape → Work → Type 0
+OfHall sh (asking x) = Unit
+OfHall sh (writing w) = length (target (w .change)) ≡ sh .columns
+
+of-hall : (sh : Shape) (c : Client) → OfHall sh (workAt sh c)
+unfolding workAt workIn writeIn
+of-hall sh c = byTest (eqb (kind c) reads) (λ e. rw e tt) (λ e. rw e (target-length sh (kind c) (keyIn (entryOf c))))
+
+progress-number : (m : Mem) (tray : List ℕ) (d : ℕ) (w : Work) → OfHall (shape m) w → columns m ≤ maxColumns
     → number (progressOf m tray d w .out) ≡ underWay m d w (steps (client m d))
 unfolding progressOf
 progress-number m tray d (asking x) f k = read-number m tray d x (steps (client m d))
-progress-number m tray d (writing w) f k = write-number m tray d w (steps (client m d)) (let c = f .columns in omega arith)
+progress-number m tray d (writing w) f k = write-number m tray d w (steps (client m d)) (omega arith)
 
 -- in range where the hall's numbers are
 columns-most : (m : Mem) → isUnsound m ≡ false → columns m ≤ maxColumns
@@ -311,7 +343,7 @@ unfolding stepCode atClient progress stepRows endRows firstOf
 step-first m tray d =
     step-number m tray d
     ∙ stepping (isShort narrow (shape m) m || ltb (length tray) trayLeast) (isUnsound m) (noClient d) (isBad narrow (shape m) (client m d)) (isIdle narrow (client m d)) _ _ _ _
-    (λ u. progress-number m tray d (workAt (shape m) (client m d)) (fits-at (shape m) (client m d) refl) (columns-most m u))
+    (λ u. progress-number m tray d (workAt (shape m) (client m d)) (of-hall (shape m) (client m d)) (columns-most m u))
 
 step-rising : (m : Mem) (tray : List ℕ) (d : ℕ) → Rising (stepRows m tray d ++ endRows m d)
 unfolding stepRows endRows numbersFrom
@@ -418,6 +450,56 @@ call-smallest m (abandon d) = smallest _ _ (abandon-first m d) (abandon-rising m
 call-smallest m (evictAnswer i) = smallest _ _ (evict-answer-first m i) (evict-answer-rising m i)
 call-smallest m (evictNode i) = smallest _ _ (evict-node-first m i) (evict-node-rising m i)
 call-smallest m renew = smallest _ _ (renew-first m) (renew-rising m)
+
+-- ---- 14 is a begin's
+-- no row of a list is 14's
+others : List Row → Bool
+others [] = true
+others (r ∷ rs) = not (eqb (r .number) refusedReversed) && others rs
+
+first-other : (rs : List Row) (n : ℕ) → n ≡ firstOf rs → others rs ≡ true → n ≡ refusedReversed → ⊥
+unfolding firstOf others
+first-other [] n e h k = omega arith
+first-other (r ∷ rs) n e h k =
+    byTest (r .applies)
+    (λ t. eqb-false (r .number) refusedReversed (not-true _ (and-left (not (eqb (r .number) refusedReversed)) _ h)) (sym (rw t at e) ∙ k))
+    (λ t. first-other rs n (rw t at e) (and-right (not (eqb (r .number) refusedReversed)) _ h) k)
+
+-- what turns a request down with 14 for itself
+reversed : (query range reversed : Bool) → faulted query range reversed ≡ refusedReversed → reversed ≡ true
+reversed true true true e = refl
+reversed true true false e = absurd (omega arith)
+reversed true false v e = absurd (omega arith)
+reversed false g v e = absurd (omega arith)
+
+begun-reversed : (sh : Shape) (d : ℕ) (r : Request) → faultOf sh r ≡ refusedReversed → IsReversedBegin (begin d r)
+unfolding faultOf askFault askOf hasReversed
+begun-reversed sh d (readOf counts range a) e = reversed (isQuery sh a) (isRange sh (queryOf a) range) (isReversed range) e
+begun-reversed sh d (insertOf a) e = reversed (isQuery sh a && namesAll (queryOf a)) true false e
+begun-reversed sh d (deleteOf a) e = reversed (isQuery sh a) true false e
+
+begin-reversed : (m : Mem) (d : ℕ) (r : Request) → number (beginResult m d r .out) ≡ refusedReversed → IsReversedBegin (begin d r)
+unfolding beginResult number
+begin-reversed m d r e =
+    begun-reversed (shape m) d r
+    (begin-code (λ n. n ≡ refusedReversed → faultOf (shape m) r ≡ refusedReversed) (λ n l k. absurd (omega arith)) m d r (λ k. k)
+    (sym (unless-number (beginCode m d r) m _ refl) ∙ e))
+
+open-other : (m : Mem) (k : ℕ) → number (openResult m k .out) ≡ refusedReversed → ⊥
+unfolding openRows others
+open-other m k = first-other (openRows m k) _ (open-first m k) refl
+
+call-reversed : (m : Mem) (c : Call) → number (callResult m c .out) ≡ refusedReversed → IsReversedBegin c
+unfolding callResult untrayed stepRows endRows abandonRows evictAnswerRows evictNodeRows renewRows others
+call-reversed m (begin d r) = begin-reversed m d r
+call-reversed m (step d tray) = first-other _ _ (step-first m tray d) refl
+call-reversed m (abandon d) = first-other _ _ (abandon-first m d) refl
+call-reversed m (evictAnswer i) = first-other _ _ (evict-answer-first m i) refl
+call-reversed m (evictNode i) = first-other _ _ (evict-node-first m i) refl
+call-reversed m renew = first-other _ _ (renew-first m) refl
+
+pub only-reversed : OnlyReversed
+only-reversed = record { opening = open-other; calls = call-reversed }
 
 pub refusal-rows : RefusalRows
 refusal-rows = record { opening = open-gives; calls = call-gives }

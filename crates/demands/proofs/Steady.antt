@@ -24,6 +24,7 @@ use Rattle.machine.proofs.TraceInv.{TraceInv}
 use Rattle.machine.proofs.Quiescence.{opens, quiet}
 use Rattle.refinement.proofs.Abstraction.{stateOf, callOf, said}
 use Rattle.rules.proofs.WorkLaws.{shares-is}
+use Rattle.query.specs.declared.Range.{Range}
 use Rattle.query.specs.Shape.{Shape}
 use Rattle.machine.proofs.Frames.{same-table, written, ResponseFrom, by-refusal, by-going-on, from-file, from-table, from-hand, by-length, by-last-raise, transition-frame, phaseWork}
 use Rattle.demands.specs.WholeHistory.{History, memAt, callAt, shapeAt, resultAt}
@@ -131,15 +132,15 @@ phase-wants (filing p ns v) q e = ap asksCount (same-work e)
 phase-wants (announcing w i) q e = ap asksCount (same-work e)
 phase-wants (raising w j c f) q e = ap asksCount (same-work e)
 
-pub answer-short : (h : History) (d : ℕ) (a : List ℕ) (b n count : ℕ) (cached : Bool) → Answers h d false a b n count cached → count ≤ maxList
+pub answer-short : (h : History) (d : ℕ) (range : Range) (a : List ℕ) (b n count : ℕ) (cached : Bool) → Answers h d false range a b n count cached → count ≤ maxList
 unfolding workOf askOf callOf
-answer-short h d a b n count cached x =
+answer-short h d range a b n count cached x =
     let l = x .within in
     let s = stateOf (memAt h n) in
     let S = sound h n (omega arith) in
     let r = transition-frame s (transition-at h n l) .response in
     let r′ = subst (λ c. ResponseFrom s c (responseAt h n)) (ap (callOf (shapeAt h)) (x .calls)) r in
-    let w = begun-busy h (readOf false a) d b n (omega arith) (x .runs) n (x .runs .earlier) (omega arith) in
+    let w = begun-busy h (readOf false range a) d b n (omega arith) (x .runs) n (x .runs .earlier) (omega arith) in
     said-count (shapeAt h) (wantedAt h n) (resultAt h n .tray) count
     (subst (Short (wants (s .clients d))) (result-is h n count cached (S .shape) (x .says)) (short-from s _ (S .good .trace) r′) (phase-wants (s .clients d) _ w))
 

@@ -11,6 +11,7 @@ use borrow.Author.Tests.{eqb-true, eqb-false, eq-eqb, ltb-true, lt-ltb, leb-true
 use lib.ListN.{length, drop}
 use Rattle.laws.proofs.ListLaws.{and-left, and-right}
 use Rattle.laws.proofs.TestLaws.{byTest, clash}
+use Rattle.query.specs.declared.Range.{Range}
 use Rattle.query.specs.Query.{writeCount}
 use Rattle.query.specs.Shape.{Shape, narrow}
 use Rattle.rules.specs.declared.Outcome.the-variants.{Refused}
@@ -221,13 +222,13 @@ step-result : (h : History) (n d : ℕ) (tray : List ℕ) → callAt h n ≡ rul
 unfolding resultAt callResult
 step-result h n d tray e = ap (callResult (memAt h n)) e
 
-pub read-at : (h : History) (counts : Bool) (a : List ℕ) (d b n i : ℕ) (s : StepOf h (readOf counts a) d b n i)
-    → resultAt h n ≡ readResult (memAt h n) (s .tray) d (askOf (shapeAt h) counts a) i
+pub read-at : (h : History) (counts : Bool) (range : Range) (a : List ℕ) (d b n i : ℕ) (s : StepOf h (readOf counts range a) d b n i)
+    → resultAt h n ≡ readResult (memAt h n) (s .tray) d (askOf (shapeAt h) counts range a) i
 unfolding progressOf workOf
-read-at h counts a d b n i s =
-    let z = standing h (readOf counts a) d b n i s in
-    step-result h n d (s .tray) (s .calls) ∙ progressed (memAt h n) (s .tray) d (asking (askOf (shapeAt h) counts a)) i z
-    ∙ ap (readResult (memAt h n) (s .tray) d (askOf (shapeAt h) counts a)) (z .made)
+read-at h counts range a d b n i s =
+    let z = standing h (readOf counts range a) d b n i s in
+    step-result h n d (s .tray) (s .calls) ∙ progressed (memAt h n) (s .tray) d (asking (askOf (shapeAt h) counts range a)) i z
+    ∙ ap (readResult (memAt h n) (s .tray) d (askOf (shapeAt h) counts range a)) (z .made)
 
 pub write-at : (h : History) (r : Request) (w : Write) (d b n i : ℕ) → workOf (shapeAt h) r ≡ writing w → (s : StepOf h r d b n i)
     → resultAt h n ≡ writeResult (memAt h n) (s .tray) d w i
@@ -333,7 +334,7 @@ pub nodes-count : (h : History) (w : Write) (d n : ℕ) → n ≤ length (h .cal
 unfolding writeCount
 nodes-count h w d n l b =
     let c : length (target (w .change)) ≡ shapeAt h .columns =
-    fits-at (shape (memAt h n)) (client (memAt h n) d) (b .work) .columns ∙ ap (λ (sh : Shape). sh .columns) (sound h n l .shape) in
+    fits-at b .columns ∙ ap (λ (sh : Shape). sh .columns) (sound h n l .shape) in
     (length-writeLabels w ∙ ap (λ k. 2 ^ k) c, c)
 
 -- ---- A client between its steps

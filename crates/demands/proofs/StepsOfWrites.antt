@@ -310,7 +310,7 @@ isWriting (writing w) = true
 
 begins-of : (sh : Shape) (r : Request) (w : Write) → workOf sh r ≡ writing w → (c : Change) × Begins r c
 unfolding workOf
-begins-of sh (readOf counts a) w e = absurd (false≢true (ap isWriting e))
+begins-of sh (readOf counts range a) w e = absurd (false≢true (ap isWriting e))
 begins-of sh (insertOf a) w e = (insert (recordOf (queryOf a)), inserting a)
 begins-of sh (deleteOf a) w e = (delete (queryOf a), deleting a)
 

@@ -7,14 +7,16 @@ use Prim.Native.Nat.{ℕ, suc, _^_, _≤_, _<_}
 use lib.Dec.{eqb}
 use lib.ListN.{length, getD}
 use Rattle.lists.specs.Lists.{same, allBelow}
+use Rattle.query.specs.declared.Range.{Range}
 use Rattle.query.specs.Query.{Query, Record, lies}
+use Rattle.query.specs.Range.{within}
 use Rattle.query.specs.Encoding.{queryOf, recordOf}
 use Rattle.rules.specs.declared.Outcome.{Outcome}
 use Rattle.rules.specs.declared.Outcome.the-variants.{Refused, Accepted, Answered, Long, Ended, Full}
 use Rattle.query.specs.Shape.{Form, Shape}
 use Rattle.rules.specs.Layout.{maxRecords, maxClients, maxList, reads}
-use Rattle.rules.specs.Table.{Table, Change, insert, delete, listOf, has, effect, changes, noRoom, Ascending}
-use Rattle.rules.specs.Work.{Request, readOf, insertOf, deleteOf, askOf, stepsInAll, workOf}
+use Rattle.rules.specs.Table.{Table, Change, insert, delete, has, effect, changes, noRoom, Ascending}
+use Rattle.rules.specs.Work.{Request, readOf, insertOf, deleteOf, listWithin, askOf, stepsInAll, workOf}
 use Rattle.rules.specs.Client.{Client, kind, isIdle, writeAt}
 use Rattle.rules.specs.Memory.{Mem, recordsIn}
 use Rattle.rules.specs.Refusals.{form, shape, client}
@@ -23,17 +25,18 @@ use Rattle.demands.specs.WholeHistory.{History, shapeAt, memAt, plainAt,
 use Rattle.demands.specs.Demand3.{AnswerIs}
 use Rattle.demands.specs.Demand2.{isQuiet, Filed, LastFiled}
 
--- call n answers the read of `a` that call b began at desk d, which wants a list (false) or a count (true)
-pub record Answers (h : History) (d : ℕ) (counts : Bool) (a : List ℕ) (b n count : ℕ) (cached : Bool) : Type 0 where
+-- call n answers the read of `a` that call b began at desk d, which wants a list (false) or a count (true), with a range or
+-- without
+pub record Answers (h : History) (d : ℕ) (counts : Bool) (range : Range) (a : List ℕ) (b n count : ℕ) (cached : Bool) : Type 0 where
   pub tray : List ℕ
   pub within : n < length (h .calls)
   pub calls : callAt h n ≡ step d tray
-  pub runs : UnderWay h (readOf counts a) d b n
+  pub runs : UnderWay h (readOf counts range a) d b n
   pub says : resultAt h n .out ≡ Answered count cached
 
--- that answer is the query's list, or how many records it has, on the plain table after the first j calls
-abbrev pub TrueAt : History → Bool → List ℕ → ℕ → ℕ → ℕ → Type 0
-TrueAt h counts a n count j = AnswerIs h counts n count (listOf (queryOf a) (plainAt h j .table))
+-- that answer is the query's list, of which the records within the range, or how many records it has, on the plain table after the first j calls
+abbrev pub TrueAt : History → Bool → Range → List ℕ → ℕ → ℕ → ℕ → Type 0
+TrueAt h counts range a n count j = AnswerIs h counts n count (listWithin range (queryOf a) (plainAt h j .table))
 
 -- what the table memory holds after the first n calls
 abbrev pub tableAt : History → ℕ → Table
@@ -42,61 +45,62 @@ tableAt h n = recordsIn (shapeAt h .columns) (memAt h n .table)
 -- Whatever call answers, it is a step of a read that was begun and is under way.
 abbrev pub EveryAnswer : History → Type 0
 EveryAnswer h = (n count : ℕ) (cached : Bool) → n < length (h .calls) → resultAt h n .out ≡ Answered count cached
-    → (d : ℕ) × (counts : Bool) × (a : List ℕ) × (b : ℕ) × Answers h d counts a b n count cached
+    → (d : ℕ) × (counts : Bool) × (range : Range) × (a : List ℕ) × (b : ℕ) × Answers h d counts range a b n count cached
 
 -- At a desk one read is under way at a time: two begins that both are, are one call.
 abbrev pub OneRead : History → Type 0
-OneRead h = (d : ℕ) (counts counts′ : Bool) (a a′ : List ℕ) (b b′ n : ℕ) → n ≤ length (h .calls)
-    → UnderWay h (readOf counts a) d b n → UnderWay h (readOf counts′ a′) d b′ n → (b ≡ b′) × (counts ≡ counts′) × (a ≡ a′)
+OneRead h = (d : ℕ) (counts counts′ : Bool) (range range′ : Range) (a a′ : List ℕ) (b b′ n : ℕ) → n ≤ length (h .calls)
+    → UnderWay h (readOf counts range a) d b n → UnderWay h (readOf counts′ range′ a′) d b′ n → (b ≡ b′) × (counts ≡ counts′) × (range ≡ range′) × (a ≡ a′)
 
 -- An answer from file was true at a moment of that read: after its begin, and not after its answer.
 abbrev pub FileWasTrue : History → Type 0
-FileWasTrue h = (d : ℕ) (counts : Bool) (a : List ℕ) (b n count : ℕ) → Answers h d counts a b n count true
-    → (j : ℕ) × (b < j) × (j ≤ suc n) × TrueAt h counts a n count j
+FileWasTrue h = (d : ℕ) (counts : Bool) (range : Range) (a : List ℕ) (b n count : ℕ) → Answers h d counts range a b n count true
+    → (j : ℕ) × (b < j) × (j ≤ suc n) × TrueAt h counts range a n count j
 
--- What is answered from file was filed by a read of the same query that wanted the same, and by the last such: "a count never serves a list,
--- nor a list a count" (S-1).
+-- What is answered from file was filed by a read of the same query that wanted the same and had the same range, and by the last such: "a count
+-- never serves a list, nor a list a count" (S-1), and "The key of a filed answer .. include[s] the column and both ends" (S-3).
 abbrev pub FileServes : History → Type 0
-FileServes h = (d : ℕ) (counts : Bool) (a : List ℕ) (b n count : ℕ) → Answers h d counts a b n count true
-    → (b′ : ℕ) × (f : ℕ) × Filed h (askOf (shapeAt h) counts a) b′ f × LastFiled h (askOf (shapeAt h) counts a) f n
+FileServes h = (d : ℕ) (counts : Bool) (range : Range) (a : List ℕ) (b n count : ℕ) → Answers h d counts range a b n count true
+    → (b′ : ℕ) × (f : ℕ) × Filed h (askOf (shapeAt h) counts range a) b′ f × LastFiled h (askOf (shapeAt h) counts range a) f n
 
 -- A read sees every call e that came before its begin, the end of a write say: its answer is of the table after e or later.
 abbrev pub SeesEarlier : History → Type 0
-SeesEarlier h = (d : ℕ) (counts : Bool) (a : List ℕ) (b n count : ℕ) (cached : Bool) → Answers h d counts a b n count cached
-    → (e : ℕ) → e < b → (j : ℕ) × (e < j) × (j ≤ suc n) × TrueAt h counts a n count j
+SeesEarlier h = (d : ℕ) (counts : Bool) (range : Range) (a : List ℕ) (b n count : ℕ) (cached : Bool) → Answers h d counts range a b n count cached
+    → (e : ℕ) → e < b → (j : ℕ) × (e < j) × (j ≤ suc n) × TrueAt h counts range a n count j
 
 -- Answers do not go back: a read that began after another answered shows the table of a later moment.
 abbrev pub NeverBack : History → Type 0
-NeverBack h = (d d′ : ℕ) (counts counts′ : Bool) (a a′ : List ℕ) (b n b′ n′ count count′ : ℕ) (cached cached′ : Bool)
-    → Answers h d counts a b n count cached → Answers h d′ counts′ a′ b′ n′ count′ cached′ → n < b′
-    → (j : ℕ) × (j′ : ℕ) × (j < j′) × TrueAt h counts a n count j × TrueAt h counts′ a′ n′ count′ j′
+NeverBack h = (d d′ : ℕ) (counts counts′ : Bool) (range range′ : Range) (a a′ : List ℕ) (b n b′ n′ count count′ : ℕ) (cached cached′ : Bool)
+    → Answers h d counts range a b n count cached → Answers h d′ counts′ range′ a′ b′ n′ count′ cached′ → n < b′
+    → (j : ℕ) × (j′ : ℕ) × (j < j′) × TrueAt h counts range a n count j × TrueAt h counts′ range′ a′ n′ count′ j′
 
--- With no write open that meets the query, from begin to answer, the answer is the table's list now, from file or not.
+-- With no write open that meets the query, a ranged column starred, from begin to answer, the answer is the table's list now, from file or not.
 abbrev pub QuietIsNow : History → Type 0
-QuietIsNow h = (d : ℕ) (counts : Bool) (a : List ℕ) (b n count : ℕ) (cached : Bool) → Answers h d counts a b n count cached
-    → ((i : ℕ) → b < i → i ≤ n → isQuiet (askOf (shapeAt h) counts a) (memAt h i) ≡ true)
-    → AnswerIs h counts n count (listOf (queryOf a) (tableAt h (suc n)))
+QuietIsNow h = (d : ℕ) (counts : Bool) (range : Range) (a : List ℕ) (b n count : ℕ) (cached : Bool) → Answers h d counts range a b n count cached
+    → ((i : ℕ) → b < i → i ≤ n → isQuiet (askOf (shapeAt h) counts range a) (memAt h i) ≡ true)
+    → AnswerIs h counts n count (listWithin range (queryOf a) (tableAt h (suc n)))
 
--- With no write open that meets the query, from a count's begin to its answer, the count is the number of records in the
--- query's subspace now.
+-- With no write open that meets the query, a ranged column starred, from a count's begin to its answer, the count is the number of records in
+-- the query's subspace, within its range, now.
 abbrev pub QuietCount : History → Type 0
-QuietCount h = (d : ℕ) (a : List ℕ) (b n count : ℕ) (cached : Bool) → Answers h d true a b n count cached
-    → ((i : ℕ) → b < i → i ≤ n → isQuiet (askOf (shapeAt h) true a) (memAt h i) ≡ true)
-    → count ≡ length (listOf (queryOf a) (tableAt h (suc n)))
+QuietCount h = (d : ℕ) (range : Range) (a : List ℕ) (b n count : ℕ) (cached : Bool) → Answers h d true range a b n count cached
+    → ((i : ℕ) → b < i → i ≤ n → isQuiet (askOf (shapeAt h) true range a) (memAt h i) ≡ true)
+    → count ≡ length (listWithin range (queryOf a) (tableAt h (suc n)))
 
--- What is under way has made fewer accepted steps than it makes in all, which is by the number of its nodes: a read 2^m + 3, a write
+-- What is under way has made fewer accepted steps than it makes in all, which is by the number of its nodes: a read 2^m + 3 (m: its
+-- named columns, of which a ranged one is none), a write
 -- 2^(k+1) + 1 (rules/proofs, `length-readLabels` and `length-writeLabels`). Demand 3's nineteen and thirty-three are the most of these.
 abbrev pub StepsByNodes : History → Type 0
 StepsByNodes h = (d : ℕ) (r : Request) (b n : ℕ) → n ≤ length (h .calls) → UnderWay h r d b n → stepsIn h d b n < stepsInAll (workOf (shapeAt h) r)
 
 -- An answer's records ascend, and are at most 32.
 abbrev pub AnswersAscend : History → Type 0
-AnswersAscend h = (d : ℕ) (a : List ℕ) (b n count : ℕ) (cached : Bool) → Answers h d false a b n count cached
-    → (j : ℕ) × TrueAt h false a n count j × Ascending (listOf (queryOf a) (plainAt h j .table)) × (count ≤ maxList)
+AnswersAscend h = (d : ℕ) (range : Range) (a : List ℕ) (b n count : ℕ) (cached : Bool) → Answers h d false range a b n count cached
+    → (j : ℕ) × TrueAt h false range a n count j × Ascending (listWithin range (queryOf a) (plainAt h j .table)) × (count ≤ maxList)
 
 -- A count is at most 2,048, and its answer leaves the tray as it was.
 abbrev pub CountsFit : History → Type 0
-CountsFit h = (d : ℕ) (a : List ℕ) (b n count : ℕ) (cached : Bool) (x : Answers h d true a b n count cached)
+CountsFit h = (d : ℕ) (range : Range) (a : List ℕ) (b n count : ℕ) (cached : Bool) (x : Answers h d true range a b n count cached)
     → (count ≤ maxRecords) × (resultAt h n .tray ≡ x .tray)
 
 -- The table never holds a record twice, and never more than 2,048.
@@ -154,19 +158,19 @@ isUnopposed v r m = allBelow maxClients (λ d. not (isOpposed (form m) (shape m)
 abbrev pub Unopposed : History → Bool → Record → ℕ → ℕ → Type 0
 Unopposed h v r b n = (i : ℕ) → b < i → i ≤ n → isUnopposed v r (memAt h i) ≡ true
 
--- A record that an insert has put in is in the answer of every read that begins later and whose query it lies in, or counted in it, unless
+-- A record that an insert has put in is in the answer of every read that begins later and in whose query and range it lies, or counted in it, unless
 -- a delete of it was open since the insert's begin.
 abbrev pub InsertsSeen : History → Type 0
 InsertsSeen h = (d : ℕ) (r : Record) (b e : ℕ) (changed : Bool) → Ends h d (insert r) b e (Ended changed)
-    → (d′ : ℕ) (counts : Bool) (a : List ℕ) (b′ n count : ℕ) (cached : Bool) → Answers h d′ counts a b′ n count cached → e < b′
-    → lies (queryOf a) r ≡ true → Unopposed h true r b n → (j : ℕ) × TrueAt h counts a n count j × (has r (listOf (queryOf a) (plainAt h j .table)) ≡ true)
+    → (d′ : ℕ) (counts : Bool) (range : Range) (a : List ℕ) (b′ n count : ℕ) (cached : Bool) → Answers h d′ counts range a b′ n count cached → e < b′
+    → lies (queryOf a) r ≡ true → within range r ≡ true → Unopposed h true r b n → (j : ℕ) × TrueAt h counts range a n count j × (has r (listWithin range (queryOf a) (plainAt h j .table)) ≡ true)
 
 -- A record that a delete has taken out is in no answer of a read that begins later, nor counted in one, unless an insert of it was open
 -- since the delete's begin.
 abbrev pub DeletesSeen : History → Type 0
 DeletesSeen h = (d : ℕ) (q : Query) (b e : ℕ) (o : Outcome) → Ends h d (delete q) b e o
-    → (d′ : ℕ) (counts : Bool) (a : List ℕ) (b′ n count : ℕ) (cached : Bool) → Answers h d′ counts a b′ n count cached → e < b′
-    → (r : Record) → lies q r ≡ true → Unopposed h false r b n → (j : ℕ) × TrueAt h counts a n count j × (has r (listOf (queryOf a) (plainAt h j .table)) ≡ false)
+    → (d′ : ℕ) (counts : Bool) (range : Range) (a : List ℕ) (b′ n count : ℕ) (cached : Bool) → Answers h d′ counts range a b′ n count cached → e < b′
+    → (r : Record) → lies q r ≡ true → Unopposed h false r b n → (j : ℕ) × TrueAt h counts range a n count j × (has r (listWithin range (queryOf a) (plainAt h j .table)) ≡ false)
 
 pub record Corollaries (h : History) : Type 0 where
   pub every-answer : EveryAnswer h

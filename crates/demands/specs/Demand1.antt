@@ -1,13 +1,14 @@
 -- Demand 1, about the definitions that the calls' contracts cite: what any call, the opening too, does to memories of any contents with any
 -- arguments. Leans on rules' Calls and History. Definitions only. Assumes nothing.
 use mathlib.Core.Path.{_≡_}
+use mathlib.Core.Logic.{_⊎_}
 use mathlib.Core.Bool.{true, false}
 use mathlib.Core.List.{List, []}
 use Prim.Native.Nat.{ℕ, _≤_}
 use lib.ListN.{length, drop}
 use Rattle.query.specs.Shape.{Form, narrow, Shape, shapeOf}
 use Rattle.rules.specs.declared.Outcome.the-variants.{Refused}
-use Rattle.rules.specs.Layout.{tableLeast, nodesLeast, answersLeast, clientsLeast, trayLeast, refusedShort, refusedOccupied}
+use Rattle.rules.specs.Layout.{tableLeast, nodesLeast, answersLeast, clientsLeast, trayLeast, refusedShort, refusedOccupied, refusedReversed}
 use Rattle.rules.specs.Memory.{Mem}
 use Rattle.rules.specs.Outcome.{StepResult, number}
 use Rattle.rules.specs.Answers.{isCount}
@@ -30,10 +31,11 @@ pub record Leaves (f : Form) (sh : Shape) (m : Mem) (lent : List ℕ) (x : StepR
   pub answers : Unaltered (answersLeast f sh) (m .answers) (x .mem .answers)
   pub clients : Unaltered (clientsLeast f sh) (m .clients) (x .mem .clients)
   pub tray : Unaltered trayLeast lent (x .tray)
-  -- "Refusals 1 to 11 alter nothing": a call that is not accepted ("A call is accepted if it returns 0, 12 or 13.") leaves all as it was
+  -- "Refusals 1 to 11 alter nothing", and "any number that a later request adds to a call" (14, S-3): a call that is not accepted ("A call is
+  -- accepted if it returns 0, 12 or 13.") leaves all as it was
   pub refused : isAccepted (number (x .out)) ≡ false → (x .mem ≡ m) × (x .tray ≡ lent)
-  -- and what a call is refused with is 1 to 11
-  pub numbers : (n : ℕ) → x .out ≡ Refused n → (refusedShort ≤ n) × (n ≤ refusedOccupied)
+  -- and what a call is refused with is 1 to 11, or 14
+  pub numbers : (n : ℕ) → x .out ≡ Refused n → ((refusedShort ≤ n) × (n ≤ refusedOccupied)) ⊎ (n ≡ refusedReversed)
 
 -- "tray | for a step only": the tray that a call is lent
 unfoldable pub trayOf : Call → List ℕ

@@ -8,6 +8,7 @@ use lib.Dec.{eqb}
 use lib.ListN.{length, getD}
 use Rattle.lists.specs.Lists.{allBelow, written}
 use Rattle.query.specs.Graph.{meets}
+use Rattle.query.specs.Range.{starred}
 use Rattle.rules.specs.Work.{Ask, readLabels, askKey, asking, Value, Request}
 use Rattle.rules.specs.declared.Outcome.the-variants.{Answered}
 use Rattle.rules.specs.Table.{target}
@@ -22,9 +23,11 @@ use Rattle.rules.specs.History.{step}
 use Rattle.demands.specs.WholeHistory.{History, shapeAt, memAt, callAt, resultAt, UnderWay}
 
 -- ---- The last sentence
--- "A write is open from its begin until its desk is idle.": a write that meets the query of x is open at a desk
+-- "A write is open from its begin until its desk is idle.": a write that meets the query of x is open at a desk. S-3: "a write counts as
+-- meeting it if it meets the query with that [ranged] column starred"
 unfoldable pub isOpen : Form → Shape → Ask → Client → Bool
-isOpen f sh x c = not (isIdle f c) && (not (eqb (kind c) reads) && meets (x .query) (target (writeAt sh c .change)))
+isOpen f sh x c =
+    not (isIdle f c) && (not (eqb (kind c) reads) && meets (starred (x .range) (x .query)) (target (writeAt sh c .change)))
 
 -- "no write meeting the query was open"
 unfoldable pub isQuiet : Ask → Mem → Bool

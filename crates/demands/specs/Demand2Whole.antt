@@ -8,18 +8,20 @@ use Prim.Native.Nat.{ℕ, suc, _+_, _^_, min, _≤_, _<_}
 use lib.Dec.{ltb}
 use lib.ListN.{length}
 use Rattle.lists.specs.Lists.{same, written}
+use Rattle.query.specs.declared.Range.{Range}
+use Rattle.query.specs.Range.{within, starred}
 use Rattle.query.specs.Query.{Query, Record, Label, lies, readNode, writeNode, readCount}
 use Rattle.query.specs.Encoding.{queryOf, recordOf, labelWords}
 use Rattle.query.specs.Graph.{E′, E″}
 use Rattle.rules.specs.declared.Outcome.the-variants.{Accepted, Answered, Long}
 use Rattle.rules.specs.Layout.{maxRecords, maxList}
-use Rattle.rules.specs.Table.{Table, Change, delete, target, listOf, has, putIn, effect, isFull, Ascending}
+use Rattle.rules.specs.Table.{Table, Change, delete, target, has, putIn, effect, isFull, Ascending}
 use Rattle.rules.specs.Nodes.{Store, isPresent, nodeOf, revision, pending}
 use Rattle.rules.specs.Answers.{Entry, revisionIn}
 use Rattle.rules.specs.Client.{entryOf, sawPending}
 use Rattle.rules.specs.Memory.{storeIn}
 use Rattle.rules.specs.Refusals.{form, client}
-use Rattle.rules.specs.Work.{Ask, valueFor, asking, Request, readOf, insertOf, deleteOf, workOf}
+use Rattle.rules.specs.Work.{Ask, valueFor, listWithin, asking, Request, readOf, insertOf, deleteOf, workOf}
 use Rattle.demands.specs.WholeHistory.{History, shapeAt, memAt, resultAt, UnderWay, stepsIn, StepOf}
 use Rattle.demands.specs.Demand2.{Quiescent, Reads, Filed, Fetches, LastFiled, valueAt}
 use Rattle.demands.specs.Demand3.{AnswerIs}
@@ -43,7 +45,8 @@ revisionAt h n p = revision (form (memAt h n)) (nodeOf (labelWords p) (nodesAt h
 abbrev pub pendingAt : History → ℕ → Label → ℕ
 pendingAt h n p = pending (nodeOf (labelWords p) (nodesAt h n))
 
--- ---- "a list taken is exactly the table's records in the query's subspace, ascending"
+-- ---- "a list taken is exactly the table's records in the query's subspace, ascending"; with a range "exactly the subspace's records within"
+-- (S-3)
 -- "More than 32 records ends the read with 12."; a count "counts past 32 without giving 12" (S-1)
 abbrev pub Answerable : Bool → List Record → Type 0
 Answerable counts l = counts ≡ false → length l ≤ maxList
@@ -58,17 +61,18 @@ pub data Disposes (h : History) (counts : Bool) (d n : ℕ) (l : List Record) : 
   holds : Answerable counts l → sawPending (client (memAt h n) d) ≡ false → resultAt h n .out ≡ Accepted
       → valueAt h (suc n) (entryAt h (suc n) d) ≡ valueFor counts l → Disposes h counts d n l
 
-pub record TakesList (h : History) (counts : Bool) (q : Query) (d n : ℕ) : Type 0 where
+pub record TakesList (h : History) (counts : Bool) (range : Range) (q : Query) (d n : ℕ) : Type 0 where
   pub list : List Record
-  pub is : list ≡ listOf q (tableAt h n)
-  pub exact : (r : Record) → has r list ≡ (has r (tableAt h n) && lies q r)
+  pub is : list ≡ listWithin range q (tableAt h n)
+  pub exact : (r : Record) → has r list ≡ (has r (tableAt h n) && (lies q r && within range r))
   pub ascends : Ascending list
   pub goes : Disposes h counts d n list
 
--- a read's table step comes after its 2^m looks and its fetch. So a count taken is exactly the number of the table's records in the subspace
+-- a read's table step comes after its 2^m looks and its fetch. So a count taken is exactly the number of the table's records in the subspace,
+-- within its range
 abbrev pub ListsTaken : History → Type 0
-ListsTaken h = (counts : Bool) (a : List ℕ) (d b n : ℕ) → StepOf h (readOf counts a) d b n (readCount (queryOf a) + 1)
-    → TakesList h counts (queryOf a) d n
+ListsTaken h = (counts : Bool) (range : Range) (a : List ℕ) (d b n : ℕ) → StepOf h (readOf counts range a) d b n (readCount (queryOf a) + 1)
+    → TakesList h counts range (queryOf a) d n
 
 -- ---- "inserts (but for 13, a full table), deletes .. are those of source document 002, definitions 1 to 5"
 -- a write's table step comes after its 2^k marks. "an insert puts its record in its ascending place, unless it is there already or
@@ -130,7 +134,7 @@ pub record Raises (h : History) (p : Label) (n : ℕ) : Type 0 where
 
 -- "One look for each node, in order."
 abbrev pub Looks : History → Type 0
-Looks h = (counts : Bool) (a : List ℕ) (d b n i : ℕ) → i < readCount (queryOf a) → StepOf h (readOf counts a) d b n i
+Looks h = (counts : Bool) (range : Range) (a : List ℕ) (d b n i : ℕ) → i < readCount (queryOf a) → StepOf h (readOf counts range a) d b n i
     → LooksAt h (readNode (queryOf a) i) d n i
 
 -- "One *mark* for each node", "Then one *raise* for each node"
@@ -151,11 +155,12 @@ pub record Came (h : History) (r : Request) (d b n least count : ℕ) (node : �
   pub steps : StepOf h r d b at (least + number)
   pub is : node number ≡ p
 
--- Past its looks a read has looked at the nodes that definition 11's E'' gives it and at no others; past its marks a write has marked those
+-- Past its looks a read has looked at the nodes that definition 11's E'' gives it and at no others, and "For its nodes that [ranged] column
+-- counts as a star" (S-3); past its marks a write has marked those
 -- of E', and with its end it has raised them.
 abbrev pub ReadNodes : History → Type 0
-ReadNodes h = (counts : Bool) (a : List ℕ) (d b n i : ℕ) → StepOf h (readOf counts a) d b n i → readCount (queryOf a) ≤ i
-    → (p : Label) → Came h (readOf counts a) d b n 0 (readCount (queryOf a)) (readNode (queryOf a)) p ↔ E″ p (queryOf a)
+ReadNodes h = (counts : Bool) (range : Range) (a : List ℕ) (d b n i : ℕ) → StepOf h (readOf counts range a) d b n i → readCount (queryOf a) ≤ i
+    → (p : Label) → Came h (readOf counts range a) d b n 0 (readCount (queryOf a)) (readNode (queryOf a)) p ↔ E″ p (starred range (queryOf a))
 
 abbrev pub MarkedNodes : History → Type 0
 MarkedNodes h = (r : Request) (w : Change) → Begins r w → (d b n i : ℕ) → StepOf h r d b n i → 2 ^ shapeAt h .columns ≤ i
@@ -169,20 +174,20 @@ RaisedNodes h = (r : Request) (w : Change) → Begins r w → (d b n : ℕ) → 
 -- "Otherwise *file*: .. the list goes last with the noted revisions, and the read answers.": what the client holds at its file step is the
 -- list that the table step of its read took, or the count, which "is filed like a list" (S-1), which it answers with, and the revisions
 -- that its looks found
-pub record FilesList (h : History) (counts : Bool) (a : List ℕ) (d b n : ℕ) : Type 0 where
+pub record FilesList (h : History) (counts : Bool) (range : Range) (a : List ℕ) (d b n : ℕ) : Type 0 where
   pub at : ℕ
   pub before : at < n
-  pub takes : StepOf h (readOf counts a) d b at (readCount (queryOf a) + 1)
-  pub held : valueAt h n (entryAt h n d) ≡ valueFor counts (listOf (queryOf a) (tableAt h at))
+  pub takes : StepOf h (readOf counts range a) d b at (readCount (queryOf a) + 1)
+  pub held : valueAt h n (entryAt h n d) ≡ valueFor counts (listWithin range (queryOf a) (tableAt h at))
   pub count : ℕ
   pub says : resultAt h n .out ≡ Answered count false
-  pub list : AnswerIs h counts n count (listOf (queryOf a) (tableAt h at))
-  pub noted : (i : ℕ) → i < readCount (queryOf a) → (m : ℕ) × (m < n) × StepOf h (readOf counts a) d b m i
+  pub list : AnswerIs h counts n count (listWithin range (queryOf a) (tableAt h at))
+  pub noted : (i : ℕ) → i < readCount (queryOf a) → (m : ℕ) × (m < n) × StepOf h (readOf counts range a) d b m i
       × (revisionIn (form (memAt h n)) (entryAt h n d) i ≡ revisionAt h (suc m) (readNode (queryOf a) i))
 
 abbrev pub ListsFiled : History → Type 0
-ListsFiled h = (counts : Bool) (a : List ℕ) (d b n : ℕ) → StepOf h (readOf counts a) d b n (readCount (queryOf a) + 2)
-    → FilesList h counts a d b n
+ListsFiled h = (counts : Bool) (range : Range) (a : List ℕ) (d b n : ℕ) → StepOf h (readOf counts range a) d b n (readCount (queryOf a) + 2)
+    → FilesList h counts range a d b n
 
 -- ---- The last sentence, with the read that filed the answer found
 -- "A read whose fetch finds a filed answer to its query gets it, if from the earlier of its own begin and the filing read's to that fetch

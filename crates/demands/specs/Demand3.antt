@@ -5,12 +5,12 @@ use mathlib.Core.List.{List}
 use Prim.Native.Nat.{ℕ, suc, _*_, _≤_, _<_}
 use lib.ListN.{length, take}
 use Rattle.lists.specs.Lists.{flat}
+use Rattle.query.specs.declared.Range.{Range}
 use Rattle.query.specs.Query.{Record}
 use Rattle.query.specs.Encoding.{queryOf}
 use Rattle.rules.specs.declared.Outcome.the-variants.{Answered}
-use Rattle.rules.specs.Table.{listOf}
 use Rattle.rules.specs.Memory.{recordsIn}
-use Rattle.rules.specs.Work.{readOf, insertOf, deleteOf}
+use Rattle.rules.specs.Work.{listWithin, readOf, insertOf, deleteOf}
 use Rattle.rules.specs.History.{step}
 use Rattle.demands.specs.Demand1.{trayOf}
 use Rattle.demands.specs.WholeHistory.{History, shapeAt, memAt, plainAt, callAt, resultAt, UnderWay, stepsIn}
@@ -36,16 +36,18 @@ AnswerIs h counts n count l = IsAnswer counts (shapeAt h .columns) l count (tray
 
 -- "whatever a read answers with, count and records, is exactly its query's list on the plain table at some moment from that read's begin
 -- to its answer": the read of `asked` was begun at desk d by call b, and moment j lies after call b and not after call n, which answers.
--- S-1: "A count too was true at some moment of its own read."
+-- S-1: "A count too was true at some moment of its own read." S-3: with a range "exactly the subspace's records within", and "Such a list is
+-- right at some moment of its read."
 pub record WasTrue (h : History) (d n count : ℕ) : Type 0 where
   pub counts : Bool
+  pub range : Range
   pub asked : List ℕ
   pub b : ℕ
-  pub runs : UnderWay h (readOf counts asked) d b n
+  pub runs : UnderWay h (readOf counts range asked) d b n
   pub j : ℕ
   pub after : b < j
   pub upto : j ≤ suc n
-  pub was : AnswerIs h counts n count (listOf (queryOf asked) (plainAt h j .table))
+  pub was : AnswerIs h counts n count (listWithin range (queryOf asked) (plainAt h j .table))
 
 pub record Demand3 (h : History) : Type 0 where
   -- "after each call the table memory holds the plain table that document 01 works out from the calls"
@@ -53,6 +55,6 @@ pub record Demand3 (h : History) : Type 0 where
   pub answers : (n d : ℕ) (tray : List ℕ) (count : ℕ) (cached : Bool) → n < length (h .calls) → callAt h n ≡ step d tray
       → resultAt h n .out ≡ Answered count cached → WasTrue h d n count
   -- "a read has ended with its nineteenth accepted step at the latest, a write with its thirty-third"
-  pub reads-end : (d : ℕ) (counts : Bool) (a : List ℕ) (b n : ℕ) → n ≤ length (h .calls) → UnderWay h (readOf counts a) d b n → stepsIn h d b n < 19
+  pub reads-end : (d : ℕ) (counts : Bool) (range : Range) (a : List ℕ) (b n : ℕ) → n ≤ length (h .calls) → UnderWay h (readOf counts range a) d b n → stepsIn h d b n < 19
   pub inserts-end : (d : ℕ) (a : List ℕ) (b n : ℕ) → n ≤ length (h .calls) → UnderWay h (insertOf a) d b n → stepsIn h d b n < 33
   pub deletes-end : (d : ℕ) (a : List ℕ) (b n : ℕ) → n ≤ length (h .calls) → UnderWay h (deleteOf a) d b n → stepsIn h d b n < 33

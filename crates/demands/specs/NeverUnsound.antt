@@ -17,7 +17,8 @@ use Rattle.demands.specs.WholeHistory.{History, shapeAt, memAt, callAt, 
 -- ---- Never 3
 -- "3 | unsound | at any call but opening: k, an entry count or a filed list's length in memory out of range; the called desk is not idle
 -- and its kind, query, step or list length is out of range; a raise or the taking back of a mark finds its node missing or unmarked; no
--- unmarked node to put out; a counter at its largest to raise; marks at 12 or more to add to": no call of a history is turned down so
+-- unmarked node to put out; a counter at its largest to raise; marks at 12 or more to add to"; "a filed or held count above 2,048 is 3" (S-1); "a held range
+-- that a begin would refuse is 3" (S-3): no call of a history is turned down so
 abbrev pub NeverThree : History → Type 0
 NeverThree h = (n : ℕ) → n < length (h .calls) → number (resultAt h n .out) ≡ refusedUnsound → ⊥
 

@@ -6,6 +6,7 @@ use mathlib.Core.Bool.{Bool, true, false}
 use mathlib.Core.List.{List}
 use Prim.Native.Nat.{ℕ, _≤_, _<_}
 use lib.ListN.{length}
+use Rattle.query.specs.declared.Range.{Range}
 use Rattle.rules.specs.declared.Outcome.the-variants.{Answered, Long, Ended, Full}
 use Rattle.rules.specs.Work.{Request, readOf, insertOf, isWrite}
 use Rattle.rules.specs.History.{step, abandon}
@@ -25,9 +26,9 @@ StepEnds h n r = (d : ℕ) × (tray : List ℕ) × (callAt h n ≡ step d tray) 
 pub record EveryEnd (h : History) : Type 0 where
   -- "one that answers": a read's
   pub answers : (n count : ℕ) (cached : Bool) → n < length (h .calls) → resultAt h n .out ≡ Answered count cached
-      → (counts : Bool) × (a : List ℕ) × StepEnds h n (readOf counts a)
+      → (counts : Bool) × (range : Range) × (a : List ℕ) × StepEnds h n (readOf counts range a)
   -- "gives 12": a read's that wants a list; a count "counts past 32 without giving 12" (S-1)
-  pub long : (n : ℕ) → n < length (h .calls) → resultAt h n .out ≡ Long → (a : List ℕ) × StepEnds h n (readOf false a)
+  pub long : (n : ℕ) → n < length (h .calls) → resultAt h n .out ≡ Long → (range : Range) × (a : List ℕ) × StepEnds h n (readOf false range a)
   -- "reports the write's end": a write's, and with 13 an insert's
   pub ended : (n : ℕ) (changed : Bool) → n < length (h .calls) → resultAt h n .out ≡ Ended changed → (r : Request) × (isWrite r ≡ true) × StepEnds h n r
   pub full : (n : ℕ) → n < length (h .calls) → resultAt h n .out ≡ Full → (a : List ℕ) × StepEnds h n (insertOf a)

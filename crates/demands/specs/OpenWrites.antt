@@ -7,6 +7,7 @@ use mathlib.Core.Logic.{_↔_}
 use Prim.Native.Nat.{ℕ, _≤_, _<_}
 use lib.ListN.{length}
 use Rattle.query.specs.Query.{Record, Meet}
+use Rattle.query.specs.Range.{starred}
 use Rattle.rules.specs.Layout.{maxClients}
 use Rattle.rules.specs.Table.{target}
 use Rattle.rules.specs.Work.{Ask, Write, writing, Request, workOf}
@@ -50,9 +51,9 @@ abbrev pub DesksTell : History → Type 0
 DesksTell h = (i : ℕ) → i ≤ length (h .calls) → (d : ℕ) (w : Write) → Writes (memAt h i) d w ↔ ((b : ℕ) × Open h w d b i)
 
 -- ---- All desks at a moment
--- "no write meeting the query was open"
+-- "no write meeting the query was open"; S-3: "a write counts as meeting it if it meets the query with that [ranged] column starred"
 abbrev pub NoneMeets : History → Ask → ℕ → Type 0
-NoneMeets h x i = (w : Write) (d b : ℕ) → Open h w d b i → Meet (x .query) (target (w .change)) → ⊥
+NoneMeets h x i = (w : Write) (d b : ℕ) → Open h w d b i → Meet (starred (x .range) (x .query)) (target (w .change)) → ⊥
 
 -- the test of demand 2's last sentence
 abbrev pub QuietTells : History → Type 0

@@ -2,16 +2,18 @@
 -- memories and any arguments. Leans on rules' Refusals, Nodes, Client and Work for the conditions, on Calls and History for what a call returns.
 -- Definitions only. Assumes nothing.
 use mathlib.Core.Path.{_≡_}
+use mathlib.Core.Logic.{_⊎_}
 use mathlib.Core.Bool.{Bool, true, false, cond, not, _&&_, _||_}
 use mathlib.Core.List.{List, [], _∷_, _++_}
-use Prim.Native.Nat.{ℕ, _+_, _-_, _≤_}
+use Prim.Native.Nat.{ℕ, _+_, _-_, _≤_, _<_}
 use lib.Dec.{eqb, ltb, leb}
 use lib.ListN.{length, getD, take}
 use Rattle.lists.specs.Lists.{In}
+use Rattle.query.specs.Range.{isReversed}
 use Rattle.query.specs.Shape.{Form, narrow, shapeOf}
 use Rattle.rules.specs.Layout.{maxNodes, maxPending, maxRevision, trayLeast, nodeCountOffset, answerCountOffset, refusedShort, refusedColumns, refusedUnsound, refusedNoClient}
-use Rattle.rules.specs.Layout.{refusedTaken, refusedIdle, refusedCommitted, refusedNoEntry, refusedPending, refusedWorn, refusedOccupied, endedLong, endedFull}
-use Rattle.rules.specs.Work.{readLabels, valueOf, mayAnswer, writeLabels, Work, asking, writing, Request, isWrite, faultOf}
+use Rattle.rules.specs.Layout.{refusedTaken, refusedIdle, refusedCommitted, refusedNoEntry, refusedPending, refusedWorn, refusedOccupied, refusedReversed, endedLong, endedFull}
+use Rattle.rules.specs.Work.{readLabels, valueOf, mayAnswer, writeLabels, Work, asking, writing, Request, readOf, insertOf, deleteOf, isWrite, faultOf}
 use Rattle.rules.specs.Nodes.{Words, Node, Store, pending, revision, isPresent, nodeOf, isFree, isWorn}
 use Rattle.rules.specs.Client.{Client, steps, foundFull, isIdle, isBad, workAt}
 use Rattle.rules.specs.Memory.{Mem, recordsIn, storeIn}
@@ -104,6 +106,13 @@ unfoldable pub isFullAt : Client → Work → ℕ → Bool
 isFullAt c (asking x) i = false
 isFullAt c (writing w) i = eqb i (length (writeLabels w) + length (writeLabels w)) && foundFull c
 
+-- ---- 14 (S-3)
+-- "the lowest above the highest": of a read's range, whatever else is wrong with it; a write has none
+unfoldable pub hasReversed : Request → Bool
+hasReversed (readOf counts range a) = isReversed range
+hasReversed (insertOf a) = false
+hasReversed (deleteOf a) = false
+
 -- ---- The refusals of each call, in the order in which they are given. A number may stand in several rows.
 unfoldable pub openRows : Mem → ℕ → List Row
 openRows m k =
@@ -116,13 +125,17 @@ unfoldable pub beginRows : Mem → ℕ → Request → List Row
 beginRows m d r =
     -- "a lent memory is below its least length"
     row refusedShort (isShort (form m) (shape m) m)
-    -- "a query whose columns are not as many as the k in memory, a mark above 1, a star with a value, an insert with a star"
+    -- "a query whose columns are not as many as the k in memory, a mark above 1, a star with a value, an insert with a star"; "a ranged
+    -- column that is also named, or whose number is not below k, is 2" (S-3)
     ∷ row refusedColumns (eqb (faultOf (shape m) r) refusedColumns)
+    -- "14 reversed, the lowest above the highest, tested right after 2" (S-3)
+    ∷ row refusedReversed (hasReversed r)
     -- "k, an entry count or a filed list's length in memory out of range"; "a filed .. count above 2,048 is 3" (S-1)
     ∷ row refusedUnsound (isUnsound m)
     -- "desk above 11"
     ∷ row refusedNoClient (noClient d)
-    -- "the called desk is not idle and its kind, query, step or list length is out of range"; "a .. held count above 2,048 is 3" (S-1)
+    -- "the called desk is not idle and its kind, query, step or list length is out of range"; "a .. held count above 2,048 is 3" (S-1);
+    -- "a held range that a begin would refuse is 3" (S-3)
     ∷ row refusedUnsound (isThere d && isBad (form m) (shape m) (client m d))
     -- "begin at a busy desk"
     ∷ row refusedTaken (isBusy m d)
@@ -137,7 +150,8 @@ stepRows m tray d =
     ∷ row refusedUnsound (isUnsound m)
     -- "desk above 11"
     ∷ row refusedNoClient (noClient d)
-    -- "the called desk is not idle and its kind, query, step or list length is out of range"; "a .. held count above 2,048 is 3" (S-1)
+    -- "the called desk is not idle and its kind, query, step or list length is out of range"; "a .. held count above 2,048 is 3" (S-1);
+    -- "a held range that a begin would refuse is 3" (S-3)
     ∷ row refusedUnsound (isThere d && isBad (form m) (shape m) (client m d))
     -- "step or abandon at an idle desk"
     ∷ row refusedIdle (isThere d && isIdle (form m) (client m d))
@@ -161,7 +175,8 @@ abandonRows m d =
     ∷ row refusedUnsound (isUnsound m)
     -- "desk above 11"
     ∷ row refusedNoClient (noClient d)
-    -- "the called desk is not idle and its kind, query, step or list length is out of range"; "a .. held count above 2,048 is 3" (S-1)
+    -- "the called desk is not idle and its kind, query, step or list length is out of range"; "a .. held count above 2,048 is 3" (S-1);
+    -- "a held range that a begin would refuse is 3" (S-3)
     ∷ row refusedUnsound (isThere d && isBad (form m) (shape m) (client m d))
     -- "step or abandon at an idle desk"
     ∷ row refusedIdle (isThere d && isIdle (form m) (client m d))
@@ -229,9 +244,23 @@ pub record RefusalRows : Type 0 where
   pub opening : (m : Mem) (k : ℕ) → Gives (openRows m k) [] (number (openResult m k .out))
   pub calls : (m : Mem) (c : Call) → Gives (rowsOf m c) (endsOf m c) (number (callResult m c .out))
 
--- "The smallest number that applies is given": the order of the rows is never against it, though 3 stands behind 4, 6 and 7 too
+-- "The smallest number that applies is given": the order of the rows is never against it, though 3 stands behind 4, 6 and 7 too; but for
+-- "14 .., tested right after 2" (S-3), which goes before 3, 4 and 5: where 14 is given, what applies besides is above 2
 abbrev pub Smallest : List Row → ℕ → Type 0
-Smallest rows n = (r : Row) → In r rows → r .applies ≡ true → n ≤ r .number
+Smallest rows n = (r : Row) → In r rows → r .applies ≡ true → (n ≤ r .number) ⊎ ((n ≡ refusedReversed) × (refusedColumns < r .number))
+
+-- 14 is given to a begin of a read whose range is reversed, and to no other call
+abbrev pub IsReversedBegin : Call → Type 0
+IsReversedBegin (begin d r) = hasReversed r ≡ true
+IsReversedBegin (step d tray) = ⊥
+IsReversedBegin (abandon d) = ⊥
+IsReversedBegin (evictAnswer i) = ⊥
+IsReversedBegin (evictNode i) = ⊥
+IsReversedBegin renew = ⊥
+
+pub record OnlyReversed : Type 0 where
+  pub opening : (m : Mem) (k : ℕ) → number (openResult m k .out) ≡ refusedReversed → ⊥
+  pub calls : (m : Mem) (c : Call) → number (callResult m c .out) ≡ refusedReversed → IsReversedBegin c
 
 pub record SmallestGiven : Type 0 where
   pub opening : (m : Mem) (k : ℕ) → Smallest (openRows m k) (number (openResult m k .out))

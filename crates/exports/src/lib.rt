@@ -1,10 +1,11 @@
-// The calls for programs in C and Rust: each of the ten public calls over plain slices and numbers, under a name of its own. Nothing is decided
+// The calls for programs in C and Rust: each of the twelve public calls over plain slices and numbers, under a name of its own. Nothing is decided
 // here: an export makes one call of the library and turns its outcome into three numbers. Leans on calls; specs/Reply.antt
 // says what is sent back.
 use hall::Hall;
 use rules::Outcome;
 ghost use mathlib.Core.Path.{_≡_};
 ghost use mathlib.Core.Bool.{true, false};
+ghost use Rattle.query.specs.declared.Range.the-variants.{None, Between};
 ghost use Rattle.rules.specs.Work.{readOf, insertOf, deleteOf};
 ghost use Rattle.rules.specs.Memory.{mem};
 ghost use Rattle.rules.specs.Calls.{openResult, beginResult, stepResult, abandonResult, evictAnswerResult, evictNodeResult, renewResult};
@@ -13,7 +14,7 @@ ghost use Rattle.exports.specs.Reply.{replied, replyOf, sent, sentBy, se
 // What a caller in another language gets. Its memories hold the rest.
 #[repr(C)]
 pub struct Reply {
-    // 0 accepted, 1 to 11 refused, 12 long, 13 full.
+    // 0 accepted, 1 to 11 and 14 refused, 12 long, 13 full.
     pub number: u32,
     // How many records lie in the tray, or a count.
     pub count: u32,
@@ -81,7 +82,7 @@ pub extern "C" fn mondzafeky_begin_read(
     client: u32,
     query: &[u32],
 ) -> Reply
-    ensures { λ r. ⌜ sent r (mem (now (table .exit)) (now (nodes .exit)) (now (answers .exit)) (now (clients .exit))) ≡ sentBy (beginResult (mem (now (table .entry)) (now (nodes .entry)) (now (answers .entry)) (now (clients .entry))) client (readOf false (now (query .entry)))) ⌝ }
+    ensures { λ r. ⌜ sent r (mem (now (table .exit)) (now (nodes .exit)) (now (answers .exit)) (now (clients .exit))) ≡ sentBy (beginResult (mem (now (table .entry)) (now (nodes .entry)) (now (answers .entry)) (now (clients .entry))) client (readOf false None (now (query .entry)))) ⌝ }
 {
     let out = calls::begins::begin_read(table, nodes, answers, clients, client, query);
     reply_of(out)
@@ -97,9 +98,68 @@ pub extern "C" fn mondzafeky_begin_count(
     client: u32,
     query: &[u32],
 ) -> Reply
-    ensures { λ r. ⌜ sent r (mem (now (table .exit)) (now (nodes .exit)) (now (answers .exit)) (now (clients .exit))) ≡ sentBy (beginResult (mem (now (table .entry)) (now (nodes .entry)) (now (answers .entry)) (now (clients .entry))) client (readOf true (now (query .entry)))) ⌝ }
+    ensures { λ r. ⌜ sent r (mem (now (table .exit)) (now (nodes .exit)) (now (answers .exit)) (now (clients .exit))) ≡ sentBy (beginResult (mem (now (table .entry)) (now (nodes .entry)) (now (answers .entry)) (now (clients .entry))) client (readOf true None (now (query .entry)))) ⌝ }
 {
     let out = calls::begins::begin_count(table, nodes, answers, clients, client, query);
+    reply_of(out)
+}
+
+// Begins a read of the records that fit the query and whose value in one column, which is given by its number from 0, is the lowest to the
+// highest, both included.
+#[no_mangle]
+pub extern "C" fn mondzafeky_begin_read_within(
+    table: &mut [u32],
+    nodes: &mut [u32],
+    answers: &mut [u32],
+    clients: &mut [u32],
+    client: u32,
+    query: &[u32],
+    column: u32,
+    lowest: u32,
+    highest: u32,
+) -> Reply
+    ensures { λ r. ⌜ sent r (mem (now (table .exit)) (now (nodes .exit)) (now (answers .exit)) (now (clients .exit))) ≡ sentBy (beginResult (mem (now (table .entry)) (now (nodes .entry)) (now (answers .entry)) (now (clients .entry))) client (readOf false (Between column lowest highest) (now (query .entry)))) ⌝ }
+{
+    let out = calls::begins::begin_read_within(
+        table,
+        nodes,
+        answers,
+        clients,
+        client,
+        query,
+        column,
+        lowest,
+        highest,
+    );
+    reply_of(out)
+}
+
+// Begins a read that wants only how many these are.
+#[no_mangle]
+pub extern "C" fn mondzafeky_begin_count_within(
+    table: &mut [u32],
+    nodes: &mut [u32],
+    answers: &mut [u32],
+    clients: &mut [u32],
+    client: u32,
+    query: &[u32],
+    column: u32,
+    lowest: u32,
+    highest: u32,
+) -> Reply
+    ensures { λ r. ⌜ sent r (mem (now (table .exit)) (now (nodes .exit)) (now (answers .exit)) (now (clients .exit))) ≡ sentBy (beginResult (mem (now (table .entry)) (now (nodes .entry)) (now (answers .entry)) (now (clients .entry))) client (readOf true (Between column lowest highest) (now (query .entry)))) ⌝ }
+{
+    let out = calls::begins::begin_count_within(
+        table,
+        nodes,
+        answers,
+        clients,
+        client,
+        query,
+        column,
+        lowest,
+        highest,
+    );
     reply_of(out)
 }
 

@@ -81,11 +81,18 @@ impl Hall {
     // ---- A label and a key.
     pub const LABEL_WIDTH: usize = 1 + Hall::COLUMN_SLOTS;
 
-    // Two numbers are kept for a range.
+    // Two numbers are a range's ends.
     pub const KEY_WIDTH: usize = 1 + Hall::COLUMN_SLOTS + 2;
+
+    pub const LOWEST_OFFSET: usize = 1 + Hall::COLUMN_SLOTS;
+
+    pub const HIGHEST_OFFSET: usize = Hall::LOWEST_OFFSET + 1;
 
     // Bit 4 of a key's first number, above the marks: 1 for a count.
     pub const COUNT_BIT: u32 = 16;
+
+    // From bit 5 on: the ranged column's number plus 1, or 0.
+    pub const RANGE_UNIT: u32 = 32;
 
     // ---- A node.
     pub const PENDING_OFFSET: usize = Hall::LABEL_WIDTH;
@@ -163,6 +170,9 @@ impl Hall {
     pub const ENDED_LONG: u32 = 12;
 
     pub const ENDED_FULL: u32 = 13;
+
+    // 14 reversed turns a begin down.
+    pub const REFUSED_REVERSED: u32 = 14;
 
     // The sizes are the rules'. The least lengths of the four memories are so by the functions below.
     fn limits() -> Limits

@@ -11,20 +11,22 @@ use lib.ListN.{length, getD, take, drop, length-drop, length-take}
 use lib.Seq.{take-all, length-take-le}
 use borrow.Author.Tests.{le-leb, lt-leb, leb-false, not-true, not-false}
 use borrow.Rule.Slice.PartMut.{putMid}
-use Rattle.lists.specs.Lists.{written, flat}
+use Rattle.lists.specs.Lists.{written, flat, keep}
 use Rattle.laws.proofs.ListLaws.{keep-le}
 use Rattle.laws.proofs.WrittenLaws.{written-nil, mid-written, length-written, getD-before, written-self}
-use Rattle.laws.proofs.RowLaws.{length-flat, wide-take}
+use Rattle.laws.proofs.RowLaws.{Wide, length-flat, wide-take, wide-keep}
 use Rattle.query.specs.declared.Column.{Column}
-use Rattle.query.specs.Query.{Record, lies}
+use Rattle.query.specs.declared.Range.{Range}
+use Rattle.query.specs.Query.{Query, Record, lies}
+use Rattle.query.specs.Range.{within}
 use Rattle.query.specs.Shape.{Shape, shapeOf, narrow}
 use Rattle.columns.specs.ColumnContracts.{four}
 use Rattle.rules.specs.declared.Outcome.{Outcome}
 use Rattle.rules.specs.declared.Outcome.the-variants.{Accepted, Answered, Long}
 use Rattle.rules.specs.Table.{listOf}
-use Rattle.rules.specs.Work.{Value, ofRecords, ofNumber, valueOf, mayAnswer, askIn}
+use Rattle.rules.specs.Work.{Value, ofRecords, ofNumber, listWithin, valueOf, mayAnswer, askIn}
 use Rattle.rules.specs.Answers.{lengthIn, isCount, listIn, isLong}
-use Rattle.rules.specs.Client.{Client, steps, sawPending, entryOf, idle, queryAt, askAt, holding}
+use Rattle.rules.specs.Client.{Client, steps, sawPending, entryOf, idle, queryAt, rangeAt, askAt, holding}
 use Rattle.rules.specs.Memory.{mem, shapeIn, clientIn, withClient, recordsIn}
 use Rattle.rules.specs.Outcome.{resultWith}
 use Rattle.rules.specs.Refusals.{client}
@@ -75,19 +77,23 @@ over l n e h = go (leb (length l) maxList) refl e
     go false q g = leb-false (length l) maxList q
 
 -- the list that the step takes
-abbrev pub listFor : List ℕ → List ℕ → ℕ → ℕ → List Record
-listFor s clients d k = listOf (queryAt (shapeIn clients) (clientIn narrow clients d)) (recordsIn k s)
+abbrev pub listFor : Range → List ℕ → List ℕ → ℕ → ℕ → List Record
+listFor g s clients d k = listWithin g (queryAt (shapeIn clients) (clientIn narrow clients d)) (recordsIn k s)
+
+wide-within : (k : ℕ) (s : List ℕ) (q : Query) (g : Range) → table.Fit k s → Wide k (listWithin g q (recordsIn k s))
+unfolding listWithin
+wide-within k s q g f = wide-keep k (within g) (listOf q (recordsIn k s)) (wide-list k s q f)
 
 -- what the read gets: of a count the number alone
-module _ (s clients : List ℕ) (d k : ℕ) where
+module _ (s clients : List ℕ) (d k : ℕ) (g : Range) (is : g ≡ rangeAt (clientIn narrow clients d)) where
   value-list : askedAt clients d .counts ≡ false
-      → valueOf (askedAt clients d) (recordsIn k s) ≡ record { count = length (listFor s clients d k); numbers = flat (listFor s clients d k) }
-  unfolding valueOf ofRecords askAt askIn queryAt
-  value-list e = rw e
+      → valueOf (askedAt clients d) (recordsIn k s) ≡ record { count = length (listFor g s clients d k); numbers = flat (listFor g s clients d k) }
+  unfolding valueOf ofRecords askAt askIn queryAt rangeAt
+  value-list e = rw (is, e)
 
-  value-count : askedAt clients d .counts ≡ true → valueOf (askedAt clients d) (recordsIn k s) ≡ record { count = length (listFor s clients d k); numbers = [] }
-  unfolding valueOf ofNumber askAt askIn queryAt
-  value-count e = rw e
+  value-count : askedAt clients d .counts ≡ true → valueOf (askedAt clients d) (recordsIn k s) ≡ record { count = length (listFor g s clients d k); numbers = [] }
+  unfolding valueOf ofNumber askAt askIn queryAt rangeAt
+  value-count e = rw (is, e)
 
 -- and what the step then leaves
 table-at : {h : Held} {clients : List ℕ} {d : ℕ} → Reader h clients d → (s : List ℕ) (v : Value) → valueOf (askedAt clients d) (recordsIn (h .columns) s) ≡ v
@@ -101,7 +107,7 @@ table-at {h} {clients} {d} r s v e p tray ns a =
 module _ {h : Held} {clients : List ℕ} {d : ℕ} (r : Reader h clients d) (s : List ℕ) (f : table.Fit (h .columns) s) where
   -- the list, what the read gets with it, and where it stands in the client
   abbrev list : List Record
-  list = listFor s clients d (h .columns)
+  list = listFor (rangeAt (clientIn narrow clients d)) s clients d (h .columns)
 
   abbrev got : Value
   got = record { count = length list; numbers = flat list }
@@ -112,24 +118,24 @@ module _ {h : Held} {clients : List ℕ} {d : ℕ} (r : Reader h clients d) (s :
   list-short : length (flat (take maxList list)) ≤ listRoom
   list-short =
       let k : ℕ = h .columns in
-      let a : length (flat (take maxList list)) ≡ length (take maxList list) * k = length-flat k (take maxList list) (wide-take k maxList list (wide-list k s (queryAt (shapeIn clients) (clientIn narrow clients d)) f)) in
+      let a : length (flat (take maxList list)) ≡ length (take maxList list) * k = length-flat k (take maxList list) (wide-take k maxList list (wide-within k s (queryAt (shapeIn clients) (clientIn narrow clients d)) (rangeAt (clientIn narrow clients d)) f)) in
       let b : length (take maxList list) ≤ maxList = rw length-take (omega arith) in
       rw a (list-room (length (take maxList list)) k b (at-few r))
 
   list-wide : length (flat list) ≡ length list * h .columns
-  list-wide = length-flat (h .columns) list (wide-list (h .columns) s (queryAt (shapeIn clients) (clientIn narrow clients d)) f)
+  list-wide = length-flat (h .columns) list (wide-within (h .columns) s (queryAt (shapeIn clients) (clientIn narrow clients d)) (rangeAt (clientIn narrow clients d)) f)
 
   -- what the gathering leaves, cols being the columns that the code made; at: where the client's list stands
-  pub gather-left : (cols : List Column) (t : List ℕ) (at : ℕ) → at ≡ clientOffset narrow d + offset → cols ≡ four (heldQuery h)
-      → t ≡ written (take (at + listRoom - at) (drop at clients)) 0 (flat (take maxList (listOf (take (h .columns) cols) (recordsIn (h .columns) s))))
+  pub gather-left : (cols : List Column) (g : Range) (t : List ℕ) (at : ℕ) → at ≡ clientOffset narrow d + offset → cols ≡ four (heldQuery h)
+      → g ≡ rangeAt (clientIn narrow clients d) → t ≡ written (take (at + listRoom - at) (drop at clients)) 0 (flat (take maxList (listWithin g (take (h .columns) cols) (recordsIn (h .columns) s))))
       → putMid at (at + listRoom - at) clients t ≡ written clients (clientOffset narrow d + offset) (flat (take maxList list))
-  gather-left cols t at a e g =
+  gather-left cols g t at a e is o =
       let l = r .fit .long in
       let b = r .fit .below in
-      rw a (part-written clients (clientOffset narrow d + offset) listRoom (flat (take maxList list)) t ((rw a at g) ∙ rw (read-columns r cols e)) list-short (omega arith))
+      rw a (part-written clients (clientOffset narrow d + offset) listRoom (flat (take maxList list)) t ((rw a at o) ∙ rw (is, read-columns r cols e)) list-short (omega arith))
 
-  pub gather-count : (cols : List Column) (n : ℕ) → cols ≡ four (heldQuery h) → n ≡ gathered (listOf (take (h .columns) cols) (recordsIn (h .columns) s)) → n ≡ gathered list
-  gather-count cols n e g = g ∙ rw (read-columns r cols e)
+  pub gather-count : (cols : List Column) (g : Range) (n : ℕ) → cols ≡ four (heldQuery h) → g ≡ rangeAt (clientIn narrow clients d) → n ≡ gathered (listWithin g (take (h .columns) cols) (recordsIn (h .columns) s)) → n ≡ gathered list
+  gather-count cols g n e is o = o ∙ rw (is, read-columns r cols e)
 
   -- n, clients₁: what the gathering gives and leaves
   module _ (n : ℕ) (clients₁ : List ℕ) (e : n ≡ gathered list) (g : clients₁ ≡ written clients (clientOffset narrow d + offset) (flat (take maxList list))) where
@@ -166,7 +172,7 @@ module _ {h : Held} {clients : List ℕ} {d : ℕ} (r : Reader h clients d) (s :
 
       list-at : made clients d ≡ looks clients d + 1 → (tray ns a : List ℕ)
           → readResult (mem s ns a clients) tray d (askedAt clients d) (made clients d) ≡ tableResult (mem s ns a clients) tray d (askedAt clients d) got
-      list-at = table-at r s got (value-list s clients d (h .columns) wants-list)
+      list-at = table-at r s got (value-list s clients d (h .columns) (rangeAt (clientIn narrow clients d)) refl wants-list)
 
       pub table-long : (clients₂ : List ℕ) → maxList < n → clients₂ ≡ withClient narrow clients₁ d (idle narrow) → made clients d ≡ looks clients d + 1 → (tray ns a : List ℕ)
           → resultWith Long (mem s ns a clients₂) tray ≡ readResult (mem s ns a clients) tray d (askedAt clients d) (made clients d)
@@ -236,12 +242,13 @@ module _ {h : Held} {clients : List ℕ} {d : ℕ} (r : Reader h clients d) (s :
               rw (list-at p tray ns a, wants-list, not-long, ← q, not-false b x, v, held-length, t, held-list, z)
 
 -- ---- a count: n, by the columns that the code made
-module _ {h : Held} {clients : List ℕ} {d : ℕ} (r : Reader h clients d) (s : List ℕ) (f : table.Fit (h .columns) s) (cols : List Column) (n : ℕ) (e : cols ≡ four (heldQuery h))
-    (g : n ≡ length (listOf (take (h .columns) cols) (recordsIn (h .columns) s))) where
+module _ {h : Held} {clients : List ℕ} {d : ℕ} (r : Reader h clients d) (s : List ℕ) (f : table.Fit (h .columns) s) (cols : List Column) (x : Range) (n : ℕ) (e : cols ≡ four (heldQuery h))
+    (is : x ≡ rangeAt (clientIn narrow clients d)) (g : n ≡ length (listWithin x (take (h .columns) cols) (recordsIn (h .columns) s))) where
   pub count-most : n ≤ maxRecords
-  unfolding listOf
+  unfolding listOf listWithin
   count-most =
       let a = keep-le (lies (take (h .columns) cols)) (recordsIn (h .columns) s) in
+      let c = keep-le (within x) (keep (lies (take (h .columns) cols)) (recordsIn (h .columns) s)) in
       let b = length-records (h .columns) s in
       let l = f .few in
       omega arith
@@ -254,8 +261,8 @@ module _ {h : Held} {clients : List ℕ} {d : ℕ} (r : Reader h clients d) (s :
     counted-at : readResult (mem s ns a clients) tray d (askedAt clients d) (made clients d)
         ≡ tableResult (mem s ns a clients) tray d (askedAt clients d) (record { count = n; numbers = [] })
     counted-at =
-        let m : length (listFor s clients d (h .columns)) ≡ n = sym (g ∙ rw (read-columns r cols e)) in
-        table-at r s (record { count = n; numbers = [] }) (value-count s clients d (h .columns) wants-count ∙ rw m) p tray ns a
+        let m : length (listFor (rangeAt (clientIn narrow clients d)) s clients d (h .columns)) ≡ n = sym (g ∙ rw (is, read-columns r cols e)) in
+        table-at r s (record { count = n; numbers = [] }) (value-count s clients d (h .columns) (rangeAt (clientIn narrow clients d)) refl wants-count ∙ rw m) p tray ns a
 
     -- the client holds it
     pub count-held : b ≡ false → ((sh : Shape) → clients₂ ≡ withClient narrow clients d (valueSet n 0 sh (clientIn narrow clients d)))

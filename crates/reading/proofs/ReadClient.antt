@@ -6,19 +6,22 @@ use native.Mathlib.Omega.{arith}
 use lib.ListN.{length, getD, take}
 use borrow.Author.Tests.{lt-ltb, le-ltb, eq-eqb, ne-eqb}
 use Rattle.query.specs.declared.Column.{Column}
+use Rattle.query.specs.declared.Range.{Range}
 use Rattle.query.proofs.EncodingLaws.{columns-length}
 use Rattle.columns.specs.ColumnContracts.{four}
 use Rattle.columns.proofs.ColumnLoops.{four-back}
-use Rattle.rules.specs.Work.{Ask, valueOf, readLabels, stepsInAll}
+use Rattle.rules.specs.Work.{Ask, valueOf, readLabels, askIn, workFault, stepsInAll}
+use Rattle.rules.proofs.WorkLaws.{fault-none}
+use Rattle.table.specs.TableContracts.{RangeFits}
 use Rattle.rules.specs.Nodes.{ensured}
 use Rattle.rules.specs.Answers.{fetchPlace}
-use Rattle.rules.specs.Client.{entryOf, queryAt}
+use Rattle.rules.specs.Client.{entryOf, queryAt, rangeAt, askAt}
 use Rattle.query.specs.Shape.{narrow}
 use Rattle.rules.specs.Memory.{Mem, shapeIn, clientIn, storeIn, answersIn, recordsIn}
 use Rattle.rules.specs.Refusals.{columns, client}
 use Rattle.rules.specs.Steps.{lookResult, fetchResult, tableResult, fileResult, readResult}
 use Rattle.clients.specs.declared.Held.{Held}
-use Rattle.clients.specs.ClientContracts.{Reader, heldQuery}
+use Rattle.clients.specs.ClientContracts.{Reader, askedAt, heldQuery}
 use Rattle.clients.proofs.HeldLaws.{at-query}
 use Rattle.reading.specs.ReadContracts.{looks, made}
 
@@ -31,6 +34,13 @@ module _ {h : Held} {clients : List ℕ} {d : ℕ} (r : Reader h clients d) wher
   -- the columns that the code makes of what was read
   pub read-columns : (cols : List Column) → cols ≡ four (heldQuery h) → take (h .columns) cols ≡ queryAt (shapeIn clients) (clientIn narrow clients d)
   read-columns cols e = ap (take (h .columns)) e ∙ four-back (h .columns) (heldQuery h) (columns-length (h .columns) (h .marks) (h .values)) ∙ at-query r
+
+  -- and the range beside them is one that a begin takes
+  pub read-range : (cols : List Column) → cols ≡ four (heldQuery h) → (g : Range) → g ≡ rangeAt (clientIn narrow clients d) → RangeFits (h .columns) (take (h .columns) cols) g
+  unfolding workFault askAt askIn queryAt rangeAt
+  read-range cols e g a =
+      let f = fault-none (askedAt clients d) (r .busy .fault) in
+      record { there = rw (read-columns cols e, a, r .held .columns) (f .0); ordered = rw a (f .1) }
 
 -- ---- which step it is
 module _ (m : Mem) (y : List ℕ) (d : ℕ) (x : Ask) (i : ℕ) where

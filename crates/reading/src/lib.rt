@@ -13,8 +13,8 @@ ghost use Rattle.query.specs.Shape.{shapeOf, narrow};
 ghost use Rattle.rules.specs.declared.Outcome.the-variants.{Answered};
 ghost use Rattle.rules.specs.Layout.{maxList, clientOffset, heldListOffset};
 ghost use Rattle.rules.specs.Answers.{lengthIn, listIn};
-ghost use Rattle.rules.specs.Table.{listOf};
-ghost use Rattle.rules.specs.Client.{entryOf, idle, queryAt};
+ghost use Rattle.rules.specs.Work.{listWithin};
+ghost use Rattle.rules.specs.Client.{entryOf, idle, queryAt, rangeAt};
 ghost use Rattle.rules.specs.Memory.{mem, shapeIn, clientIn, withClient, recordsIn};
 ghost use Rattle.rules.specs.Outcome.{resultWith};
 ghost use Rattle.rules.specs.Steps.{readResult};
@@ -72,18 +72,20 @@ fn fetch_step(answers: &[u32], clients: &mut [u32], tray: &mut [u32], d: usize, 
     }
 }
 
-// Writes the query's list, at most 32 records, into the client's place for it, and says how many there are, or 33 of more than 32.
+// Writes the query's list, of which the records within the client's range, at most 32, into the client's place for it, and says how many there
+// are, or 33 of more than 32.
 fn gather_list(table: &[u32], clients: &mut [u32], d: usize, h: Held) -> usize
     requires { ⌜ Gathers (now table) (now clients) d h ⌝ }
-    ensures { λ r. ⌜ r ≡ gathered (listOf (queryAt (shapeIn (now (clients .entry))) (clientIn narrow (now (clients .entry)) d)) (recordsIn (h .columns) (now (table .entry)))) ⌝ }
-    ensures { λ _. ⌜ now (clients .exit) ≡ written (now (clients .entry)) (clientOffset narrow d + heldListOffset narrow (shapeOf (h .columns))) (flat (take maxList (listOf (queryAt (shapeIn (now (clients .entry))) (clientIn narrow (now (clients .entry)) d)) (recordsIn (h .columns) (now (table .entry)))))) ⌝ }
+    ensures { λ r. ⌜ r ≡ gathered (listWithin (rangeAt (clientIn narrow (now (clients .entry)) d)) (queryAt (shapeIn (now (clients .entry))) (clientIn narrow (now (clients .entry)) d)) (recordsIn (h .columns) (now (table .entry)))) ⌝ }
+    ensures { λ _. ⌜ now (clients .exit) ≡ written (now (clients .entry)) (clientOffset narrow d + heldListOffset narrow (shapeOf (h .columns))) (flat (take maxList (listWithin (rangeAt (clientIn narrow (now (clients .entry)) d)) (queryAt (shapeIn (now (clients .entry))) (clientIn narrow (now (clients .entry)) d)) (recordsIn (h .columns) (now (table .entry)))))) ⌝ }
 {
     let k = h.columns;
     let values = h.values;
     let cols = columns::keys::columns_in(k, h.marks, &values);
+    let range = clients::range(clients, d);
     let at = clients::list_at(d, k);
     let end = at + Hall::LIST_WIDTH;
-    table::gather(table, k, cols, &mut clients[at..end])
+    table::gather(table, k, cols, range, &mut clients[at..end])
 }
 
 // Answers with what the client holds: a list goes to the tray's start, and the client is idle.
@@ -101,8 +103,8 @@ fn answer_held(clients: &mut [u32], tray: &mut [u32], d: usize, k: usize) -> Out
     }
 }
 
-// The table step of a count: the records in the query's subspace are counted, and the client holds the count. Where a look saw a mark it is
-// answered with and not filed. It is lent no tray: whatever that holds stays.
+// The table step of a count: the records in the query's subspace and within the client's range are counted, and the client holds the count.
+// Where a look saw a mark it is answered with and not filed. It is lent no tray: whatever that holds stays.
 fn count_step(table: &[u32], clients: &mut [u32], d: usize, h: Held) -> Outcome
     requires { ⌜ Counts (now table) (now clients) d h ⌝ }
     ensures { λ r. ⌜ ((n a y : List ℕ) → resultWith r (mem (now (table .entry)) n a (now (clients .exit))) y ≡ readResult (mem (now (table .entry)) n a (now (clients .entry))) y d (askedAt (now (clients .entry)) d) (made (now (clients .entry)) d)) ⌝ }
@@ -110,7 +112,8 @@ fn count_step(table: &[u32], clients: &mut [u32], d: usize, h: Held) -> Outcome
     let k = h.columns;
     let values = h.values;
     let cols = columns::keys::columns_in(k, h.marks, &values);
-    let n = table::count(table, k, cols);
+    let range = clients::range(clients, d);
+    let n = table::count(table, k, cols, range);
     let saw = clients::saw_pending(clients, d);
     if saw {
         clients::set_idle(clients, d);

@@ -1,4 +1,4 @@
--- What a list, an insert and a delete are as sets of records (source document 002, definition 5), and that a write reported as no change
+-- What an insert and a delete are as sets of records (source document 002, definition 5), and that a write reported as no change
 -- is none. About the definitions alone. Leans on the definitions of lists, query and rules, and on RecordWrites. Assumes nothing.
 use mathlib.Core.Path.{_≡_, refl, sym, ap, _∙_}
 use mathlib.Core.Logic.{⊎-elim}
@@ -14,7 +14,7 @@ use Rattle.laws.proofs.ListLaws.{true-false, same-eq, eq-same, keep-le, and-lef
 use Rattle.laws.proofs.TestLaws.{byTest, or-left, or-right}
 use Rattle.query.specs.Query.{Query, Record, lies}
 use Rattle.rules.specs.Layout.{maxRecords}
-use Rattle.rules.specs.Table.{Table, listOf, has, putIn, Change, insert, delete, isFull, outside, effect, noRoom, changes}
+use Rattle.rules.specs.Table.{Table, has, putIn, Change, insert, delete, isFull, outside, effect, noRoom, changes}
 use Rattle.records.proofs.RecordWrites.{length-put, effect-there, effect-full, effect-put, effect-cases, effect-delete}
 
 -- ---- `has` is membership
@@ -48,16 +48,10 @@ has-keep x p (s ∷ t) = go (p s) refl (same s x) refl (has-keep x p t)
     go false f true e r = r ∙ rw (meets false e f) (and-false (has x t))
     go false f false e r = r
 
-module _ (x : Record) (q : Query) (t : Table) where
-  -- a record is in a query's list exactly if it is in the table and in the query's subspace
-  pub has-list : has x (listOf q t) ≡ has x t && lies q x
-  unfolding listOf
-  has-list = has-keep x (lies q) t
-
-  -- a record is left by a delete exactly if it was in the table and is not in the query's subspace
-  pub has-delete : has x (effect (delete q) t) ≡ has x t && not (lies q x)
-  unfolding outside
-  has-delete = ap (has x) (effect-delete q t) ∙ has-keep x (outside q) t
+-- a record is left by a delete exactly if it was in the table and is not in the query's subspace
+pub has-delete : (x : Record) (q : Query) (t : Table) → has x (effect (delete q) t) ≡ has x t && not (lies q x)
+unfolding outside
+has-delete x q t = ap (has x) (effect-delete q t) ∙ has-keep x (outside q) t
 
 -- ---- INSERT: the table's and the record
 has-put : (x r : Record) (t : Table) → has x (putIn r t) ≡ has x t || same r x

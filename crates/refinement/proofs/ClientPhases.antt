@@ -17,7 +17,7 @@ use Rattle.query.proofs.EncodingLaws.{query-in-key, query-in-length, key-words-
 use Rattle.rules.specs.Layout.{maxRecords, maxList, clientWidth, reads}
 use Rattle.rules.specs.Table.{Change, insert, delete, target}
 use Rattle.rules.specs.Work.{Ask, readLabels, askKey, askIn, Write, writeLabels, Work, asking, writing, changeKind, kindOf, keyOf, changeIn, writeIn}
-use Rattle.rules.specs.Work.{workIn, stepsInAll}
+use Rattle.rules.specs.Work.{workIn, workFault, stepsInAll}
 use Rattle.rules.specs.Answers.{Entry, keyIn, isCount, mostIn, isLong, valueIn}
 use Rattle.rules.specs.Client.{Client, kind, steps, sawPending, didChange, foundFull, entryOf, isIdle, askAt, workAt, isBad, begun}
 use Rattle.rules.specs.Client as rules
@@ -69,12 +69,17 @@ pub asking-at : (sh : Shape) (c : Client) → kind c ≡ reads → workAt sh c �
 unfolding workAt workIn askAt
 asking-at sh c r = rw (eq-eqb (kind c) reads r)
 
--- it is of the hall
-pub fits-at : (sh : Shape) (c : Client) {w : Work} → workAt sh c ≡ w → WorkFits sh w
-unfolding workAt workIn askIn writeIn
-fits-at sh c r = rw (← r) (byTest (eqb (kind c) reads)
-    (λ e. rw e (record { shape = refl; columns = query-in-length sh (bareKey (keyIn (entryOf c))) }))
-    (λ e. rw e (record { shape = refl; columns = target-length sh (kind c) (keyIn (entryOf c)) })))
+-- work of a kind and a key is of the hall, with a range that a begin takes
+fits-in : (sh : Shape) (kind : ℕ) (key : List ℕ) → workFault (workIn sh kind key) ≡ 0 → WorkFits sh (workIn sh kind key)
+unfolding workIn workFault askIn writeIn
+fits-in sh kind key = byTest (eqb kind reads)
+    (λ e. rw e (λ g. record { shape = refl; columns = query-in-length sh (bareKey key); range = g }))
+    (λ e. rw e (λ g. record { shape = refl; columns = target-length sh kind key }))
+
+-- so a sound client's is
+pub fits-at : {sh : Shape} {c : Client} {w : Work} → Busy narrow sh c w → WorkFits sh w
+unfolding workAt
+fits-at {sh} {c} {w} b = rw (← b .work) (fits-in sh (kind c) (keyIn (entryOf c)) (rw (b .work) (b .fault)))
 
 -- ---- A busy client's desk
 pub busy-phase : {sh : Shape} {c : Client} {w : Work} → Busy narrow sh c w → phaseOf sh c ≡ busyPhase sh c w
@@ -114,6 +119,7 @@ next-busy n b h s = record {
   work = rw (n .kinds, n .keys) (b .work);
   kind = n .kinds ∙ b .kind;
   key = n .keys ∙ b .key;
+  fault = b .fault;
   going = rw (n .one) h;
   short = s;
 }
@@ -154,6 +160,12 @@ unfolding keyOf
 key-wide sh (asking x) f few = ask-key-length x (let z = f .columns in omega arith)
 key-wide sh (writing w) f few = key-words-length (target (w .change)) (let z = f .columns in omega arith)
 
+-- its range is one that a begin takes
+range-good : (sh : Shape) (x : Work) → WorkFits sh x → workFault x ≡ 0
+unfolding workFault
+range-good sh (asking x) f = f .range
+range-good sh (writing w) f = refl
+
 -- no list is too long that has no records
 none-long : (b : Bool) → ltb (cond b maxRecords maxList) 0 ≡ false
 none-long true = refl
@@ -183,6 +195,7 @@ module _ (sh : Shape) (least : 1 ≤ sh .columns) (most : sh .columns ≤ maxCol
         work = rw (begun-kind x, begun-key x h) (work-kept sh x f most);
         kind = begun-kind x;
         key = begun-key x h;
+        fault = range-good sh x f;
         going = rw (begun-steps x) (steps-some x);
         short = rw (begun-length x h) (none-long (isCount (entryOf (begun narrow x))));
       }

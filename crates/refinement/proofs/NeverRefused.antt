@@ -124,7 +124,7 @@ module _ (m : Mem) (g : Lasting m) (b n : ℕ) (low : Below b (storeIn narrow (m
       let l : ℕ = length (readLabels x) in
       byTest (ltb i l)
       (λ t. let p : Words = getD (readLabels x) i [] in
-      let k = read-label-wide x i (let c = fits-at (shape m) (client m d) (y .work) .columns in let z = y .most in omega arith) (ltb-true i l t) in
+      let k = read-label-wide x i (let c = fits-at y .columns in let z = y .most in omega arith) (ltb-true i l t) in
       rw t (look-goes tray d i p _ (ensured-goes m g p) (ensured-ok p (nodesOf m) k (once m g) (rows-held m (g .fits))) (ensured-bound b p (nodesOf m) k low)))
       (λ t. rw t (byTest (eqb i l)
       (λ u. rw u (fetch-goes tray d _))
@@ -164,7 +164,7 @@ module _ (m : Mem) (g : Lasting m) (b : ℕ) (low : Below b (storeIn narrow (m .
   unfolding stateOf
   mark-goes n z =
       let p : Words = getD (writeLabels w) (stepsAt m d) [] in
-      let five = write-label-wide w (stepsAt m d) (let c : WriteFits (shape m) w = fits-at (shape m) (client m d) (y .work) in let e = c .columns in let z = y .most in omega arith) z in
+      let five = write-label-wide w (stepsAt m d) (let c : WriteFits (shape m) w = fits-at y in let e = c .columns in let z = y .most in omega arith) z in
       let once = once m g in
       let rows = rows-held m (g .fits) in
       announce-goes m g b n low tray d p _

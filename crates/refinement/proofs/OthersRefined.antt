@@ -1,5 +1,6 @@
 -- Begins, abandonings, puttings out and renewals are steps of the machine. Leans on StepFrame, RefusedCalls and AnswersRefined. Assumes nothing.
 use mathlib.Core.Path.{_≡_, refl, ap, _∙_}
+use mathlib.Core.Logic.{inl}
 use mathlib.Core.Bool.{Bool, true, false}
 use mathlib.Core.List.{List, []}
 use Prim.Native.Nat.{ℕ, _+_, _<_}
@@ -42,7 +43,7 @@ use Rattle.refinement.proofs.Abstraction.{ansOf, readerOf, busyPhase, p
 use Rattle.refinement.proofs.ClientPhases.{busy-phase, idle-at, begun-left, startOf}
 use Rattle.refinement.proofs.MemoryReads.{length-nodes, length-answers, rows-held, answers-held}
 use Rattle.refinement.proofs.StatesAfter.{After, Simulated, simulated, as-it-was, at-store, at-filed, then-now, then-idle}
-use Rattle.refinement.proofs.RefusedCalls.{refused-simulated, unless-simulated, begin-low, abandon-low, evict-answer-low, evict-node-low}
+use Rattle.refinement.proofs.RefusedCalls.{refused-simulated, unless-simulated, begin-coded, abandon-low, evict-answer-low, evict-node-low}
 use Rattle.refinement.proofs.RefusedCalls.{renew-low}
 use Rattle.refinement.proofs.AnswersRefined.{map-without, in-without}
 use Rattle.refinement.proofs.StepFrame.{stepsAt, entryAt, client-at, by-retired, announcing-at}
@@ -51,7 +52,8 @@ use Rattle.refinement.proofs.StepFrame.{stepsAt, entryAt, client-at, by
 -- what a request asks or writes is of the hall
 pub request-fits : (sh : Shape) (r : Request) → faultOf sh r ≡ 0 → WorkFits sh (workOf sh r)
 unfolding workOf askOf
-request-fits sh (readOf counts a) e = record { shape = refl; columns = is-query-length sh a (read-good sh counts a e) }
+request-fits sh (readOf counts range a) e =
+    let k = read-good sh counts range a e in record { shape = refl; columns = is-query-length sh a (k .0); range = k .1 }
 request-fits sh (insertOf a) e =
     let k = insert-good sh a e in record { shape = refl; columns = ap length (target-insert (queryOf a) (k .1)) ∙ is-query-length sh a (k .0) }
 request-fits sh (deleteOf a) e = record { shape = refl; columns = ap length (target-delete (queryOf a)) ∙ is-query-length sh a (delete-good sh a e) }
@@ -59,13 +61,13 @@ request-fits sh (deleteOf a) e = record { shape = refl; columns = ap length (tar
 started : (m : Mem) (d : ℕ) (r : Request) → Begins m d r → stateOf m .clients d ≡ idle
     → steps-of.Transition (stateOf m) (begin d (workOf (shape m) r)) went (at-client (stateOf m) d (startOf (workOf (shape m) r)))
 unfolding workOf isWrite stateOf
-started m d (readOf counts a) b i = steps-of.began (b .below) i (request-fits (shape m) (readOf counts a) (b .good))
+started m d (readOf counts range a) b i = steps-of.began (b .below) i (request-fits (shape m) (readOf counts range a) (b .good))
 started m d (insertOf a) b i = steps-of.began-write (b .below) i (request-fits (shape m) (insertOf a) (b .good)) (b .fresh refl)
 started m d (deleteOf a) b i = steps-of.began-write (b .below) i (request-fits (shape m) (deleteOf a) (b .good)) (b .fresh refl)
 
 pub begin-simulated : (m : Mem) (d : ℕ) (r : Request) → Fits m → Simulated m (begin d (workOf (shape m) r)) (untrayed (beginResult m d r))
 unfolding beginResult untrayed responseIn
-begin-simulated m d r f = unless-simulated m _ (beginCode m d r) _ f (begin-low m d r) (λ e.
+begin-simulated m d r f = unless-simulated m _ (beginCode m d r) _ f (begin-coded m d r) (λ e.
     let b = begin-passed m d r e in
     simulated Accepted []
     (then-now (as-it-was m f) d (b .below) (begun-left (shape m) (f .some) (f .few) (workOf (shape m) r) (request-fits (shape m) r (b .good))))
@@ -88,13 +90,13 @@ module _ (m : Mem) (f : Fits m) (once : NoDup (storeIn narrow (m .nodes) .nodes)
   abandoned-simulated (asking x) b e = simulated Accepted [] (then-idle (as-it-was m f) d low) (steps-of.abandoned-read low (reader-at b))
   abandoned-simulated (writing w) b e =
       by-retired m f once false (take (stepsAt m d) (writeLabels w)) (λ o. Simulated m (abandon d) (untrayed (releaseResult m d o)))
-      (refused-simulated m (abandon d) 3 [] f (omega arith) (λ z. omega arith))
+      (refused-simulated m (abandon d) 3 [] f (inl (omega arith)) (λ z. omega arith))
       (λ t k a. simulated Accepted [] (then-idle a d low)
       (steps-of.abandoned-write low (announcing-at m d low b (steps-before m d w b e)) k))
 
 pub abandon-simulated : (m : Mem) (d : ℕ) → Fits m → NoDup (storeIn narrow (m .nodes) .nodes) → Simulated m (abandon d) (untrayed (abandonResult m d))
 unfolding abandonResult abandoned
-abandon-simulated m d f once = unless-simulated m _ (abandonCode m d) _ f (abandon-low m d) (λ e.
+abandon-simulated m d f once = unless-simulated m _ (abandonCode m d) _ f (inl (abandon-low m d)) (λ e.
     let t = abandon-passed m d e in abandoned-simulated m f once d (t .0 .1) _ (t .0 .2) (t .1))
 
 -- ---- Puttings out
@@ -113,11 +115,11 @@ evicted-simulated m i f h =
 
 pub evict-answer-simulated : (m : Mem) (i : ℕ) → Fits m → Simulated m (evict-answer i) (untrayed (evictAnswerResult m i))
 unfolding evictAnswerResult
-evict-answer-simulated m i f = unless-simulated m _ (evictAnswerCode m i) _ f (evict-answer-low m i) (λ e. evicted-simulated m i f (evict-answer-passed m i e .1))
+evict-answer-simulated m i f = unless-simulated m _ (evictAnswerCode m i) _ f (inl (evict-answer-low m i)) (λ e. evicted-simulated m i f (evict-answer-passed m i e .1))
 
 pub evict-node-simulated : (m : Mem) (i : ℕ) → Fits m → NoDup (storeIn narrow (m .nodes) .nodes) → Simulated m (evict-node i) (untrayed (evictNodeResult m i))
 unfolding evictNodeResult untrayed responseIn stateOf
-evict-node-simulated m i f once = unless-simulated m _ (evictNodeCode m i) _ f (evict-node-low m i) (λ e.
+evict-node-simulated m i f once = unless-simulated m _ (evictNodeCode m i) _ f (inl (evict-node-low m i)) (λ e.
     let t = evict-node-passed m i e in
     let n = length-nodes (m .nodes) in
     let a = t .1 in
@@ -138,5 +140,5 @@ renewed-after m f =
 
 pub renew-simulated : (m : Mem) → Fits m → Simulated m renew (untrayed (renewResult m))
 unfolding renewResult untrayed responseIn
-renew-simulated m f = unless-simulated m _ (renewCode m) _ f (renew-low m) (λ e.
+renew-simulated m f = unless-simulated m _ (renewCode m) _ f (inl (renew-low m)) (λ e.
     simulated Accepted [] (renewed-after m f) (steps-of.renewed (all-idle m (renew-passed m e .1))))

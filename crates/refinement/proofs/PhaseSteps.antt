@@ -49,7 +49,7 @@ value-room sh false v few e short = let z = list-room (v .count) (sh .columns) s
 module _ {sh : Shape} {c : Client} {x : Ask} (b : Busy narrow sh c (asking x)) where
   -- an entry has room for the revisions of its looks
   looks-most : length (readLabels x) ≤ lookRoom
-  looks-most = read-few sh x (fits-at sh c (b .work)) (b .most)
+  looks-most = read-few sh x (fits-at b) (b .most)
 
   -- as many are read there as were noted
   pub noted-count : (i : ℕ) → i ≤ length (readLabels x) → length (revisionsIn i (entryOf c)) ≡ i

@@ -11,15 +11,12 @@ use lib.ListN.{length, getD}
 use borrow.Author.Tests.{ltb-true, ltb-false, eqb-true, eqb-false, leb-true}
 use Rattle.lists.specs.Lists.{In, place}
 use Rattle.laws.proofs.TestLaws.{byTest}
-use Rattle.laws.proofs.ListLaws.{keep-le}
-use Rattle.laws.proofs.RowLaws.{wide-keep, length-flat}
 use Rattle.laws.proofs.SearchLaws.{place-at, place-before}
 use Rattle.laws.proofs.Members.{in-at, in-place}
-use Rattle.query.specs.Query.{Record, lies}
+use Rattle.query.specs.Query.{Record}
 use Rattle.query.specs.Shape.{narrow}
 use Rattle.rules.specs.Layout.{maxRecords, maxList, maxClients, entryWidth}
 use Rattle.rules.specs.declared.Outcome.the-variants.{Accepted, Long}
-use Rattle.rules.specs.Table.{listOf}
 use Rattle.rules.specs.Nodes.{Words, Store, nodeOf, revision, pending}
 use Rattle.rules.specs.Answers.{Entry, keyIn, isCount, isLong, serves, fetchPlace, filed, valueIn}
 use Rattle.rules.specs.Client.{sawPending, stepped, noted, askAt}
@@ -27,11 +24,12 @@ use Rattle.rules.specs.Memory.{Mem, withFiled, recordsIn, storeIn, answersIn, w
 use Rattle.rules.specs.Refusals.{columns, client, shape}
 use Rattle.rules.specs.Outcome.{resultWith}
 use Rattle.rules.specs.Steps.{nowAt, answered, lookResult, fetchResult, tableResult, fileResult, readResult}
-use Rattle.rules.specs.Work.{Ask, valueOf, mayAnswer, readLabels, Value, asking, ofRecords, ofNumber, askIn}
+use Rattle.rules.specs.Work.{Ask, valueOf, mayAnswer, readLabels, Value, asking, ofRecords, ofNumber, valueFor, listWithin, askIn}
 use Rattle.rules.specs.Sound.{Busy}
 use Rattle.rules.proofs.WorkLaws.{read-label-wide}
 use Rattle.rules.proofs.ClientLaws.{asks-at, asked-counts, busy-ask}
 use Rattle.rules.proofs.HoldingLaws.{Whole}
+use Rattle.records.proofs.RecordLists.{list-numbers, list-few}
 use Rattle.revisions.specs.EffectiveRevision.{NoDup, has, effective, pendingOf}
 use Rattle.revisions.proofs.NodeOperations.{EnsuredOk, ensured-ok, node-effective, node-pending-of}
 use Rattle.machine.specs.Machine.{looking, tabling, Ans, step, node, with-filed, holds-for, filed-in}
@@ -93,7 +91,7 @@ module _ (m : Mem) (f : Fits m) (once : NoDup (storeIn narrow (m .nodes) .nodes)
   look-simulated : (p : Words) (o : Option Store) → p ≡ node x (length seen) → stepsAt m d < looks → EnsuredOk p (storeIn narrow (m .nodes)) o
       → Simulated m (step d) (lookResult m tray d (stepsAt m d) p o)
   unfolding lookResult responseIn stateOf
-  look-simulated p none e h k = refused-simulated m (step d) 3 tray f (omega arith) (λ z. omega arith)
+  look-simulated p none e h k = refused-simulated m (step d) 3 tray f (inl (omega arith)) (λ z. omega arith)
   look-simulated p (some t) e h k =
       let n = noted-count b (stepsAt m d) (omega arith) in
       simulated Accepted tray
@@ -167,12 +165,12 @@ module _ (m : Mem) (f : Fits m) (once : NoDup (storeIn narrow (m .nodes) .nodes)
   listed = valueOf x (stateOf m .tab)
 
   abbrev matching : List Record
-  matching = listOf (x .query) (recordsIn (columns m) (m .table))
+  matching = listWithin (x .range) (x .query) (recordsIn (columns m) (m .table))
 
-  whole-of : (counts : Bool) → Whole (shape m) counts (cond counts (ofNumber matching) (ofRecords matching))
-  unfolding ofNumber ofRecords listOf
+  whole-of : (counts : Bool) → Whole (shape m) counts (valueFor counts matching)
+  unfolding ofNumber ofRecords
   whole-of true = refl
-  whole-of false = length-flat (columns m) _ (wide-keep (columns m) (lies (x .query)) (recordsIn (columns m) (m .table)) (records-held m f))
+  whole-of false = list-numbers (x .range) (x .query) (recordsIn (columns m) (m .table)) (columns m) (records-held m f)
 
   whole-listed : Whole (shape m) (x .counts) listed
   unfolding valueOf stateOf
@@ -180,15 +178,14 @@ module _ (m : Mem) (f : Fits m) (once : NoDup (storeIn narrow (m .nodes) .nodes)
 
   -- no more than the table has, and of a list no more than may be answered
   few-records : length matching ≤ maxRecords
-  unfolding listOf
   few-records =
-      let a = keep-le (lies (x .query)) (recordsIn (columns m) (m .table)) in
+      let a = list-few (x .range) (x .query) (recordsIn (columns m) (m .table)) in
       let b = length-records (columns m) (m .table) in
       let c = f .records in
       omega arith
 
-  short-of : (counts : Bool) → counts || leb (cond counts (ofNumber matching) (ofRecords matching) .count) maxList ≡ true
-      → cond counts (ofNumber matching) (ofRecords matching) .count ≤ cond counts maxRecords maxList
+  short-of : (counts : Bool) → counts || leb (valueFor counts matching .count) maxList ≡ true
+      → valueFor counts matching .count ≤ cond counts maxRecords maxList
   unfolding ofNumber ofRecords
   short-of true e = few-records
   short-of false e = leb-true _ _ e
@@ -249,7 +246,7 @@ module _ (m : Mem) (f : Fits m) (once : NoDup (storeIn narrow (m .nodes) .nodes)
       let i : ℕ = stepsAt m d in
       byTest (ltb i looks)
       (λ t. let z = ltb-true i looks t in
-      let k = read-label-wide x i (let c = fits-at (shape m) (client m d) (b .work) .columns in let y = b .most in omega arith) z in
+      let k = read-label-wide x i (let c = fits-at b .columns in let y = b .most in omega arith) z in
       rw t (look-simulated _ _ (look-label z) z (ensured-ok _ (storeIn narrow (m .nodes)) k once (rows-held m f))))
       (λ t. let z = ltb-false i looks t in rw t (byTest (eqb i looks)
       (λ u. rw u (fetch-simulated (eqb-true i looks u)))

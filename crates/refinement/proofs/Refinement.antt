@@ -1,6 +1,7 @@
 -- Every call on memories that fit is a step of the machine, and leaves memories that fit, with the same shape. Leans on ReadRefined, WriteRefined and
 -- OthersRefined. Assumes nothing.
 use mathlib.Core.Path.{_≡_, refl}
+use mathlib.Core.Logic.{inl}
 use mathlib.Core.Bool.{Bool}
 use mathlib.Core.List.{List}
 use Prim.Native.Nat.{ℕ, _<_}
@@ -42,7 +43,7 @@ unfolding stepResult progress
 step-simulated m tray d f once =
     byTest (eqb (stepCode m tray d) 0)
     (λ t. let s = step-passed m tray d (eqb-true (stepCode m tray d) 0 t) in rw t (progress-simulated m f once tray d (s .1 .1) _ (s .1 .2)))
-    (λ t. rw t (refused-simulated m (machine.step d) (stepCode m tray d) tray f (step-low m tray d) (eqb-false (stepCode m tray d) 0 t)))
+    (λ t. rw t (refused-simulated m (machine.step d) (stepCode m tray d) tray f (inl (step-low m tray d)) (eqb-false (stepCode m tray d) 0 t)))
 
 -- ---- Every call
 pub call-simulated : (m : Mem) (c : Call) → Fits m → NoDup (storeIn narrow (m .nodes) .nodes) → Simulated m (callOf (shape m) c) (callResult m c)

@@ -1,5 +1,5 @@
--- On memories that fit no call's code is 3, and that of a step at a busy desk is 0. Leans on Abstraction and rules' Refusals.
--- Assumes nothing.
+-- On memories that fit no call's code is 3, and that of a step at a busy desk is 0. Leans on Abstraction, on RefusedCalls and on rules'
+-- Refusals. Assumes nothing.
 use mathlib.Core.Path.{_≡_, refl}
 use mathlib.Core.Bool.{Bool, true, false, cond, not, _&&_, _||_}
 use mathlib.Core.List.{List, []}
@@ -11,7 +11,6 @@ use borrow.Author.Tests.{le-ltb, lt-leb, leb-false, ne-eqb}
 use Rattle.laws.proofs.TestLaws.{clash}
 use Rattle.laws.proofs.SearchLaws.{place-all}
 use Rattle.laws.proofs.Members.{in-at}
-use Rattle.query.specs.Encoding.{isQuery, namesAll, queryOf}
 use Rattle.query.specs.Shape.{narrow, Shape, maxColumns}
 use Rattle.rules.specs.Layout.{maxRecords, maxNodes, maxAnswers, maxClients, trayLeast, tableLeast, nodesLeast, answersLeast, clientsLeast}
 use Rattle.rules.specs.Layout.{recordCountOffset, nodeCountOffset, answerCountOffset}
@@ -21,8 +20,9 @@ use Rattle.rules.specs.Client.{isIdle, isBad}
 use Rattle.rules.specs.Memory.{Mem, storeIn, answersIn}
 use Rattle.rules.specs.Refusals.{columns, client, isShort, badColumns, isUnsound, noClient, isCommitted, allIdle, atClient, beginCode, stepCode, abandonCode}
 use Rattle.rules.specs.Refusals.{evictAnswerCode, evictNodeCode, renewCode, shape}
-use Rattle.rules.specs.Work.{deleteOf, insertOf, readOf, Request, faultOf, isWrite}
+use Rattle.rules.specs.Work.{Request, faultOf, isWrite}
 use Rattle.refinement.proofs.Abstraction.{Fits}
+use Rattle.refinement.proofs.RefusedCalls.{fault-code}
 
 -- ---- No test is met but those of the call itself
 module _ (m : Mem) (f : Fits m) where
@@ -70,10 +70,7 @@ unmet : (b : Bool) (n rest : ℕ) → b ≡ false → (rest ≡ 3 → ⊥) → c
 unmet b n rest e k = no-three b n rest (λ t. clash t e) (λ t. k)
 
 fault-sound : (sh : Shape) (r : Request) → faultOf sh r ≡ 3 → ⊥
-unfolding faultOf
-fault-sound sh (readOf counts a) = other (isQuery sh a) 0 2 (λ e. omega arith) (λ e. omega arith)
-fault-sound sh (insertOf a) = other (isQuery sh a && namesAll (queryOf a)) 0 2 (λ e. omega arith) (λ e. omega arith)
-fault-sound sh (deleteOf a) = other (isQuery sh a) 0 2 (λ e. omega arith) (λ e. omega arith)
+fault-sound = fault-code (λ n. n ≡ 3 → ⊥) (λ e. omega arith) (λ e. omega arith) (λ e. omega arith)
 
 -- a desk of the hall is sound
 desk-sound : (m : Mem) → Fits m → (d rest : ℕ) → (rest ≡ 3 → ⊥) → cond (noClient d) 4 (cond (isBad narrow (shape m) (client m d)) 3 rest) ≡ 3 → ⊥

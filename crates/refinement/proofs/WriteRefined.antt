@@ -1,5 +1,6 @@
 -- Each step of a write is a step of the machine: mark, table, raise. Leans on StepFrame and PhaseSteps. Assumes nothing.
 use mathlib.Core.Path.{_≡_, refl, _∙_}
+use mathlib.Core.Logic.{inl}
 use mathlib.Core.Option.{Option, none, some}
 use mathlib.Core.Bool.{Bool, true, false}
 use mathlib.Core.List.{List, [], _∷_}
@@ -38,7 +39,7 @@ module _ (m : Mem) (f : Fits m) (once : NoDup (storeIn narrow (m .nodes) .nodes)
     {w : Write} (b : Busy narrow (shape m) (client m d) (writing w)) where
   -- what it writes is of the hall
   fits : WriteFits (shape m) w
-  fits = fits-at (shape m) (client m d) (b .work)
+  fits = fits-at b
 
   -- how many nodes it has, and how many raises it has made
   abbrev labels : ℕ
@@ -51,7 +52,7 @@ module _ (m : Mem) (f : Fits m) (once : NoDup (storeIn narrow (m .nodes) .nodes)
   announce-simulated : (o : Option Store) → stepsAt m d < labels → AnnouncedOk (getD (writeLabels w) (stepsAt m d) []) (storeIn narrow (m .nodes)) o
       → Simulated m (step d) (announceResult m tray d o)
   unfolding announceResult responseIn stateOf
-  announce-simulated none h k = refused-simulated m (step d) 3 tray f (omega arith) (λ z. omega arith)
+  announce-simulated none h k = refused-simulated m (step d) 3 tray f (inl (omega arith)) (λ z. omega arith)
   announce-simulated (some t) h k =
       simulated Accepted tray
       (then-now (at-store m f t (k .1) (k .2)) d low (announced-left b h))
@@ -100,7 +101,7 @@ module _ (m : Mem) (f : Fits m) (once : NoDup (storeIn narrow (m .nodes) .nodes)
       → Simulated m (step d) (raiseResult m tray d isLast (retired narrow true (getD (writeLabels w) raises [] ∷ []) (storeIn narrow (m .nodes))))
   raise-simulated isLast h l =
       by-retired m f once true (getD (writeLabels w) raises [] ∷ []) (λ o. Simulated m (step d) (raiseResult m tray d isLast o))
-      (unfold raiseResult in refused-simulated m (step d) 3 tray f (omega arith) (λ z. omega arith))
+      (unfold raiseResult in refused-simulated m (step d) 3 tray f (inl (omega arith)) (λ z. omega arith))
       (λ t k a. raised-simulated isLast t h l k a)
 
   -- ---- A step of a write

@@ -1,4 +1,4 @@
--- Document 01, "On each side of a line": cases 1 to 12 as rows of one table, and S-1's counts beside case 10, with one computed test. Rows
+-- Document 01, "On each side of a line": cases 1 to 12 as rows of one table, S-1's counts beside case 10 and S-3's ranges, with one computed test. Rows
 -- 1 to 5 are those that query states about nodes; 6 to 12 are played on memories of full size that held other numbers before the opening.
 -- Leans on the rules' definitions. Assumes nothing.
 use mathlib.Core.Bool.{Bool, true, false, not, _&&_}
@@ -9,12 +9,15 @@ use lib.ListN.{length, getD, take, drop, set, replicate}
 use Rattle.lists.specs.Lists.{same, before, keep, place, without, allBelow, listed, padded, written, rows, flat, entriesIn, withEntries}
 use Rattle.query.specs.Query.{admits, lies, naming, pick, readNode, writeNode, named, readCount, writeCount, readNodes, writeNodes, value, Label}
 use Rattle.query.specs.Sheet.{turned, looks, sheetEntry, wildcardsIn, wildcardsOf}
-use Rattle.query.specs.Encoding.{columnOf, queryOf, wellMarked, isQuery, namesAll, recordOf, termValue, columnValue, tag, tags, labelWords, marks, keyWords, columnsIn, queryIn, countsIn, countKey, bareKey}
+use Rattle.query.specs.Encoding.{columnOf, queryOf, wellMarked, isQuery, namesAll, recordOf, termValue, columnValue, tag, tags, labelWords, marks, keyWords, columnsIn, queryIn, countsIn, countKey, rangeOf, rangeIn, rangeKey, wantedKey, unranged, bareKey}
+use Rattle.query.specs.declared.Range.the-variants.{None, Between}
+use Rattle.query.specs.Range as range
+use Rattle.query.specs.Range.{isNamed, isRange, isReversed}
 use Rattle.query.proofs.NodeCases as nodes
 use Rattle.rules.specs.declared.Outcome.{Outcome}
 use Rattle.rules.specs.declared.Outcome.the-variants.{Refused, Accepted, Answered, Long, Ended, Full}
 use Rattle.rules.specs.Table.{listOf, has, putIn, target, isFull, outside, effect, noRoom, changes}
-use Rattle.rules.specs.Work.{readOf, insertOf, ofRecords, ofNumber, valueOf, mayAnswer, readLabels, askKey, askIn, writeLabels, changeKind, kindOf, keyOf, changeIn, writeIn, workIn, stepsInAll, isWrite, askOf, workOf, faultOf}
+use Rattle.rules.specs.Work.{readOf, insertOf, ofRecords, ofNumber, askFault, listWithin, valueOf, mayAnswer, readLabels, askKey, askIn, writeLabels, changeKind, kindOf, keyOf, changeIn, writeIn, workIn, workFault, stepsInAll, isWrite, askOf, workOf, faultOf}
 use Rattle.rules.specs.Nodes.{labelIn, pending, revision, withPending, withRevision, hasLabel, nodePlace, isPresent, nodeOf, withNode, evictNode, added, isFree, oldestFree, makeRoom, addedIn, ensured, announcedIn, announced, isPending, released, lifted, mayRetire, retired, isHigh, isWorn}
 use Rattle.rules.specs.Answers.{keyIn, lengthIn, revisionIn, isCount, mostIn, listIn, valueIn, hasKeyOf, atLeast, serves, fetchPlace, keyPlace, filed, isLong, someLong}
 use Rattle.rules.specs.Client.{kind, steps, sawPending, didChange, foundFull, entryOf, idle, isIdle, begun, workAt, isBad, stepped, flag, noted, holding, wrote}
@@ -150,7 +153,7 @@ abbrev one : ℕ → List ℕ
 one v = 1 ∷ v ∷ []
 
 abbrev read5 : ℕ → Line
-read5 d = does (begin d (readOf false (one 5))) goesOn
+read5 d = does (begin d (readOf false None (one 5))) goesOn
 
 abbrev inserts5 : ℕ → Bool → List Line
 inserts5 d changed = does (begin d (insertOf (one 5))) goesOn ∷ going d 4 ++ (does (step d tray) (ends changed) ∷ [])
@@ -192,7 +195,7 @@ abbrev numbers : ℕ → List ℕ
 numbers n = listed (λ i. i) 0 n
 
 abbrev readAll : Line
-readAll = does (begin 0 (readOf false (0 ∷ 0 ∷ []))) goesOn
+readAll = does (begin 0 (readOf false None (0 ∷ 0 ∷ []))) goesOn
 
 abbrev case-10-at : Row
 case-10-at = from (stocked (numbers 32)) ((readAll ∷ going 0 3) ++ (does (step 0 tray) (answers (numbers 32) false) ∷ []))
@@ -203,7 +206,7 @@ case-10-above = from (stocked (numbers 33)) ((readAll ∷ going 0 2) ++ (does (s
 -- S-1, "counts past 32 without giving 12, and is filed like a list .. a count never serves a list, nor a list a count": of 33 records; and
 -- of 32, where a count is filed and the list goes to the table, a list is filed and the count does, and each is used from file after that
 abbrev countAll : Line
-countAll = does (begin 0 (readOf true (0 ∷ 0 ∷ []))) goesOn
+countAll = does (begin 0 (readOf true None (0 ∷ 0 ∷ []))) goesOn
 
 abbrev case-count-above : Row
 case-count-above = from (stocked (numbers 33))
@@ -221,6 +224,33 @@ abbrev case-list-beside : Row
 case-list-beside = from (stocked (numbers 32))
     ((readAll ∷ going 0 3) ++ (does (step 0 tray) (answers (numbers 32) false) ∷ countAll ∷ going 0 3) ++ (does (step 0 tray) (counts 32 false) ∷ []) ++ used-from-file)
 
+-- S-3, "a lowest and a highest value, both included": of the records 0 to 9 those from 4 to 9, at the fourth step, and at the second when
+-- they are filed. A range over all numbers is not the plain read, and one with equal ends is not the named value: each goes to the table, and
+-- is used from file after that
+abbrev within : ℕ → ℕ → Line
+within low high = does (begin 0 (readOf false (Between 0 low high) (0 ∷ 0 ∷ []))) goesOn
+
+abbrev case-range : Row
+case-range = from (stocked (numbers 10))
+    ((within 4 9 ∷ going 0 3) ++ (does (step 0 tray) (answers (listed (λ i. i) 4 6) false) ∷ within 4 9 ∷ going 0 1)
+    ++ (does (step 0 tray) (answers (listed (λ i. i) 4 6) true) ∷ within 5 8 ∷ going 0 3) ++ (does (step 0 tray) (answers (listed (λ i. i) 5 4) false) ∷ []))
+
+abbrev case-range-whole : Row
+case-range-whole = from (stocked (numbers 10))
+    ((readAll ∷ going 0 3) ++ (does (step 0 tray) (answers (numbers 10) false) ∷ within 0 4294967295 ∷ going 0 3)
+    ++ (does (step 0 tray) (answers (numbers 10) false) ∷ filed-count 2 ∷ readAll ∷ going 0 1)
+    ++ (does (step 0 tray) (answers (numbers 10) true) ∷ within 0 4294967295 ∷ going 0 1) ++ (does (step 0 tray) (answers (numbers 10) true) ∷ []))
+
+abbrev case-range-equal : Row
+case-range-equal = from (stocked (numbers 10))
+    ((read5 0 ∷ going 0 4) ++ (does (step 0 tray) (answers (5 ∷ []) false) ∷ within 5 5 ∷ going 0 3) ++ (does (step 0 tray) (answers (5 ∷ []) false) ∷ filed-count 2 ∷ []))
+
+-- "14 reversed, the lowest above the highest, tested right after 2; a ranged column that is also named, or whose number is not below k, is 2"
+abbrev case-range-refused : Row
+case-range-refused = from (fresh 1)
+    (does (begin 12 (readOf false (Between 0 9 4) (0 ∷ 0 ∷ []))) (refuses 14) ∷ does (begin 12 (readOf false (Between 1 9 4) (0 ∷ 0 ∷ []))) (refuses 2)
+    ∷ does (begin 12 (readOf true (Between 0 9 4) (one 5))) (refuses 2) ∷ does (begin 12 (readOf true (Between 0 4 9) (0 ∷ 0 ∷ []))) (refuses 4) ∷ [])
+
 -- 11. Table of 2,048: inserting one already there ends unchanged; a new one gives 13.
 abbrev case-11 : Row
 case-11 = from (stocked (numbers 2048))
@@ -231,7 +261,7 @@ abbrev case-12-at : Row
 case-12-at = from (raisedTo 4294967103) (does (begin 0 (insertOf (one 5))) goesOn ∷ [])
 
 abbrev case-12-above : Row
-case-12-above = from (raisedTo 4294967104) (does (begin 0 (insertOf (one 5))) (refuses 10) ∷ does (begin 0 (readOf false (one 5))) goesOn ∷ [])
+case-12-above = from (raisedTo 4294967104) (does (begin 0 (insertOf (one 5))) (refuses 10) ∷ does (begin 0 (readOf false None (one 5))) goesOn ∷ [])
 
 abbrev case-12-floor : List Row
 case-12-floor =
@@ -241,8 +271,8 @@ case-12-floor =
 abbrev pub cases : List Row
 cases =
     stated nodes.cases
-    ++ (case-6 ∷ case-7 ∷ case-8 ∷ case-9 ∷ case-10-at ∷ case-10-above ∷ case-count-above ∷ case-count-beside ∷ case-list-beside ∷ case-11 ∷ case-12-at ∷ case-12-above ∷ case-12-floor)
+    ++ (case-6 ∷ case-7 ∷ case-8 ∷ case-9 ∷ case-10-at ∷ case-10-above ∷ case-count-above ∷ case-count-beside ∷ case-list-beside ∷ case-range ∷ case-range-whole ∷ case-range-equal ∷ case-range-refused ∷ case-11 ∷ case-12-at ∷ case-12-above ∷ case-12-floor)
 
 pub cases-1-to-12 : T (all cases)
-unfolding readNodes writeNodes sheetEntry turned looks wildcardsOf wildcardsIn same keep place without allBelow listed padded written rows flat entriesIn withEntries admits lies naming pick readNode writeNode named readCount writeCount columnOf queryOf wellMarked isQuery namesAll recordOf termValue columnValue tag tags labelWords marks keyWords columnsIn queryIn countsIn countKey bareKey listOf before has putIn target isFull outside effect noRoom changes labelIn pending revision withPending withRevision hasLabel nodePlace isPresent nodeOf withNode evictNode added isFree oldestFree makeRoom addedIn ensured announcedIn announced isPending released lifted mayRetire retired isHigh isWorn keyIn lengthIn revisionIn isCount mostIn listIn valueIn hasKeyOf atLeast serves fetchPlace keyPlace filed isLong someLong kind steps sawPending didChange foundFull entryOf idle isIdle begun workAt isBad stepped flag noted holding wrote recordsIn withRecords storeIn withStore answersIn withAnswers clientIn withClient cleared opened renewed columns client isShort badColumns isUnsound noClient isCommitted allIdle openCode beginCode atClient stepCode abandonCode evictAnswerCode evictNodeCode renewCode nowAt storeBack answered lookResult fetchResult tableResult fileResult readResult announceResult writeTableResult endOf raiseResult writeResult progressOf progress unless openResult beginResult stepResult releaseResult abandonedOf abandoned abandonResult evictAnswerResult evictNodeResult renewResult untrayed callResult ofRecords ofNumber valueOf mayAnswer readLabels askKey askIn writeLabels changeKind kindOf keyOf changeIn writeIn workIn stepsInAll isWrite askOf workOf faultOf
+unfolding readNodes writeNodes sheetEntry turned looks wildcardsOf wildcardsIn same keep place without allBelow listed padded written rows flat entriesIn withEntries admits lies naming pick readNode writeNode named readCount writeCount columnOf queryOf wellMarked isQuery namesAll recordOf termValue columnValue tag tags labelWords marks keyWords columnsIn queryIn countsIn countKey rangeOf rangeIn rangeKey wantedKey unranged bareKey range.within isNamed isRange isReversed listOf before has putIn target isFull outside effect noRoom changes labelIn pending revision withPending withRevision hasLabel nodePlace isPresent nodeOf withNode evictNode added isFree oldestFree makeRoom addedIn ensured announcedIn announced isPending released lifted mayRetire retired isHigh isWorn keyIn lengthIn revisionIn isCount mostIn listIn valueIn hasKeyOf atLeast serves fetchPlace keyPlace filed isLong someLong kind steps sawPending didChange foundFull entryOf idle isIdle begun workAt isBad stepped flag noted holding wrote recordsIn withRecords storeIn withStore answersIn withAnswers clientIn withClient cleared opened renewed columns client isShort badColumns isUnsound noClient isCommitted allIdle openCode beginCode atClient stepCode abandonCode evictAnswerCode evictNodeCode renewCode nowAt storeBack answered lookResult fetchResult tableResult fileResult readResult announceResult writeTableResult endOf raiseResult writeResult progressOf progress unless openResult beginResult stepResult releaseResult abandonedOf abandoned abandonResult evictAnswerResult evictNodeResult renewResult untrayed callResult ofRecords ofNumber askFault listWithin valueOf mayAnswer readLabels askKey askIn writeLabels changeKind kindOf keyOf changeIn writeIn workIn workFault stepsInAll isWrite askOf workOf faultOf
 cases-1-to-12 = tt

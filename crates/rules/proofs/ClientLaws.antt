@@ -14,17 +14,19 @@ use Rattle.lists.specs.Lists.{same, written}
 use Rattle.laws.proofs.ListLaws.{same-refl, same-eq}
 use Rattle.laws.proofs.TestLaws.{byTest, or-false}
 use Rattle.laws.proofs.WrittenLaws.{drop-take, take-written, drop-written, drop-of-written, getD-before, length-written}
-use Rattle.query.specs.Encoding.{queryIn, isKey, namesAll, labelWords, countsIn, bareKey}
+use Rattle.query.specs.Encoding.{keyWidth, queryIn, isKey, namesAll, labelWords, bareKey}
+use Rattle.query.specs.Range.{isRanged}
 use Rattle.query.specs.Shape.{Shape, maxColumns, narrow}
-use Rattle.rules.specs.Layout.{maxList, columnsOffset, listRoom, clientWidth, clientOffset, reads, inserts, deletes}
+use Rattle.rules.specs.Layout.{maxList, columnsOffset, listRoom, entryOffset, clientWidth, clientOffset, reads, inserts, deletes}
 use Rattle.rules.specs.Answers.{keyIn, lengthIn, isCount, mostIn, isLong}
-use Rattle.rules.specs.Client.{Client, kind, steps, entryOf, queryAt, askAt, writeAt, workAt, isIdle, isBad}
+use Rattle.rules.specs.Client.{Client, kind, steps, entryOf, queryAt, rangeAt, askAt, writeAt, workAt, isIdle, isBad}
 use Rattle.rules.specs.Sound.{Busy}
 use Rattle.rules.specs.Table.{Change, insert, delete, target}
-use Rattle.rules.specs.Work.{Ask, askIn, isAskKey, readLabels, Write, writeIn, writeLabels, Work, asking, writing, changeKind, kindOf, changeIn, workIn, keyOf, stepsInAll}
+use Rattle.rules.specs.Work.{Ask, askIn, isAskKey, readLabels, Write, writeIn, writeLabels, Work, asking, writing, changeKind, kindOf, changeIn, workIn, keyOf, workFault, stepsInAll}
 use Rattle.rules.proofs.WorkLaws.{key-same, ask-key-bare, length-readLabels, length-writeLabels, read-label-at, write-label-at, target-length}
 use Rattle.query.specs.Query.{Query, readNode, writeNode, readCount, writeCount}
-use Rattle.query.proofs.EncodingLaws.{query-in-key, query-in-length, bare-plain}
+use Rattle.query.proofs.EncodingLaws.{query-in-key, query-in-length}
+use Rattle.query.proofs.KeyLaws.{plain-bare}
 use Rattle.rules.specs.Memory.{shapeIn, clientIn, withClient}
 
 -- ---- A sound client's kind
@@ -58,13 +60,18 @@ unfolding workAt
 kind-at sh c low high = kind-back sh (kind c) (keyIn (entryOf c)) low high
 
 -- ---- A sound, busy client
+-- its key is seven numbers
+pub key-wide : (c : Client) → length c ≡ clientWidth narrow → length (keyIn (entryOf c)) ≡ keyWidth
+unfolding keyIn entryOf
+key-wide c h = length-take-le keyWidth (drop entryOffset c) (rw length-drop (omega arith))
+
 -- the key's part of the test, as the three tests that it stands for
-pub key-tests : (sh : Shape) (c : Client) → sh .columns ≤ maxColumns
+pub key-tests : (sh : Shape) (c : Client) → length c ≡ clientWidth narrow → sh .columns ≤ maxColumns
     → not (same (keyIn (entryOf c)) (keyOf (workAt sh c)))
     ≡ not (isKey sh (bareKey (keyIn (entryOf c))))
-    || ((not (eqb (kind c) reads) && countsIn (keyIn (entryOf c))) || (eqb (kind c) inserts && not (namesAll (queryAt sh c))))
-unfolding workAt queryAt
-key-tests sh c h = key-same sh (kind c) (keyIn (entryOf c)) h
+    || ((not (eqb (kind c) reads) && (isCount (entryOf c) || isRanged (rangeAt c))) || (eqb (kind c) inserts && not (namesAll (queryAt sh c))))
+unfolding workAt queryAt rangeAt isCount
+key-tests sh c w h = key-same sh (kind c) (keyIn (entryOf c)) (key-wide c w) h
 
 pub busy-of : (sh : Shape) (c : Client) → 1 ≤ sh .columns → sh .columns ≤ maxColumns → length c ≡ clientWidth narrow
     → isBad narrow sh c ≡ false → isIdle narrow c ≡ false → Busy narrow sh c (workAt sh c)
@@ -73,7 +80,8 @@ busy-of sh c least most wide h e =
     let a = or-false _ _ (rw e at h) in
     let b = or-false _ _ (a .0) in
     let y = or-false _ _ (a .1) in
-    let w = or-false _ _ (y .1) in
+    let g = or-false _ _ (y .1) in
+    let w = or-false _ _ (g .1) in
     let n = eqb-false (kind c) 0 (b .0) in
     record {
       least = least;
@@ -82,6 +90,7 @@ busy-of sh c least most wide h e =
       work = refl;
       kind = sym (kind-at sh c (omega arith) (ltb-false deletes (kind c) (b .1)));
       key = same-eq _ _ (not-false _ (y .0));
+      fault = eqb-true _ 0 (not-false _ (g .0));
       going = leb-false _ _ (w .0);
       short = w .1;
     }
@@ -97,20 +106,21 @@ busy-sound {sh} {c} {w} b =
       b .work,
       b .key,
       same-refl (keyOf w),
+      eq-eqb (workFault w) 0 (b .fault),
       lt-leb _ _ (b .going),
       b .short,
     )
     (and-false (not (isIdle narrow c)))
 
--- its key is that of a query of the hall, but for the bit that says "count"
+-- its key is that of a query of the hall, but for what is wanted and the range
 pub busy-key : {sh : Shape} {c : Client} {w : Work} → Busy narrow sh c w → isKey sh (bareKey (keyIn (entryOf c))) ≡ true
 busy-key {sh} {c} {w} b =
     let e : not (same (keyIn (entryOf c)) (keyOf (workAt sh c))) ≡ false = rw (b .work, b .key, same-refl (keyOf w)) in
-    not-false _ (or-false _ _ (sym (key-tests sh c (b .most)) ∙ e) .0)
+    not-false _ (or-false _ _ (sym (key-tests sh c (b .wide) (b .most)) ∙ e) .0)
 
 -- and a reader's is that of an ask
 pub busy-ask : {sh : Shape} {c : Client} {w : Work} → Busy narrow sh c w → isAskKey sh (keyIn (entryOf c)) ≡ true
-busy-ask {sh} {c} b = ask-key-bare sh (keyIn (entryOf c)) ∙ busy-key b
+busy-ask {sh} {c} b = ask-key-bare sh (keyIn (entryOf c)) (key-wide c (b .wide)) (b .most) ∙ busy-key b
 
 -- a list's entry that is not long has room for its records
 pub list-short : (e : List ℕ) → isCount e ≡ false → isLong e ≡ false → lengthIn e ≤ maxList
@@ -131,10 +141,14 @@ pub writes-at : {sh : Shape} {c : Client} {w : Write} → Busy narrow sh c (writ
 unfolding workAt workIn writeAt
 writes-at {sh} {c} {w} b = let z = (rw (ne-eqb (kind c) reads (no-reader b)) at (b .work)) in cc
 
--- what its key says is what it wants; the query of its key is the one that it reads, or whose subspace it changes
+-- what its key says is what it wants, and its range; the query of its key is the one that it reads, or whose subspace it changes
 pub asked-counts : {sh : Shape} {c : Client} {x : Ask} → Busy narrow sh c (asking x) → isCount (entryOf c) ≡ x .counts
 unfolding askAt askIn isCount
 asked-counts b = ap (λ (y : Ask). y .counts) (asks-at b)
+
+pub asked-range : {sh : Shape} {c : Client} {x : Ask} → Busy narrow sh c (asking x) → rangeAt c ≡ x .range
+unfolding askAt askIn rangeAt
+asked-range b = ap (λ (y : Ask). y .range) (asks-at b)
 
 pub asked-query : {sh : Shape} {c : Client} {x : Ask} → Busy narrow sh c (asking x) → queryAt sh c ≡ x .query
 unfolding askAt askIn queryAt
@@ -144,7 +158,7 @@ pub written-query : {sh : Shape} {c : Client} {w : Write} → Busy narrow sh c (
 unfolding queryAt keyOf writeAt writeIn
 written-query {sh} {c} {w} b =
     let l : length (target (w .change)) ≡ sh .columns = rw (← writes-at b) (target-length sh (kind c) (keyIn (entryOf c))) in
-    ap (queryIn sh) (ap bareKey (b .key) ∙ bare-plain (target (w .change)) (let z = b .most in omega arith)) ∙ query-in-key sh (target (w .change)) l
+    ap (queryIn sh) (ap bareKey (b .key) ∙ plain-bare (target (w .change)) (let z = b .most in omega arith)) ∙ query-in-key sh (target (w .change)) l
 
 -- ---- Its work, by the query of its key
 -- how many nodes it has

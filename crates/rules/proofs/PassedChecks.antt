@@ -11,11 +11,12 @@ use lib.ListN.{length, getD}
 use Rattle.laws.proofs.ListLaws.{below-at, and-left, and-right}
 use Rattle.laws.proofs.TestLaws.{or-false, passed}
 use Rattle.query.specs.Encoding.{queryOf, isQuery, namesAll}
+use Rattle.query.specs.declared.Range.{Range}
 use Rattle.rules.specs.Layout.{recordCountOffset, nodeCountOffset, answerCountOffset, maxRecords, maxNodes, maxAnswers, maxClients, tableLeast, nodesLeast, answersLeast, clientsLeast, trayLeast}
 use Rattle.rules.specs.Nodes.{isWorn, pending}
 use Rattle.rules.specs.Answers.{someLong}
 use Rattle.rules.specs.Client.{kind, steps, isIdle, isBad, writeAt, workAt}
-use Rattle.rules.specs.Work.{Write, writing, writeLabels, Request, readOf, insertOf, deleteOf, isWrite, faultOf}
+use Rattle.rules.specs.Work.{Write, writing, writeLabels, Request, readOf, insertOf, deleteOf, askFault, askOf, isWrite, faultOf}
 use Rattle.rules.specs.Layout.{reads, refusedColumns}
 use Rattle.rules.specs.Memory.{Mem, storeIn, answersIn}
 use Rattle.query.specs.Shape.{Shape, narrow, shapeOf, maxColumns}
@@ -132,14 +133,19 @@ pub record Begins (m : Mem) (d : ℕ) (r : Request) : Type 0 where
   pub rests : isIdle narrow (client m d) ≡ true
   pub fresh : isWrite r ≡ true → isWorn narrow (shape m) (storeIn narrow (m .nodes)) ≡ false
 
--- what arrives at such a begin is a query of the hall, and of an insert one that names every column
+-- what arrives at such a begin is a query of the hall, of a read with a range that it takes, and of an insert one that names every column
 query-good : (b : Bool) → cond b 0 refusedColumns ≡ 0 → b ≡ true
 query-good true e = refl
 query-good false e = absurd (omega arith)
 
-pub read-good : (sh : Shape) (counts : Bool) (a : List ℕ) → faultOf sh (readOf counts a) ≡ 0 → isQuery sh a ≡ true
+range-good : (b : Bool) (n : ℕ) → cond b n refusedColumns ≡ 0 → (b ≡ true) × (n ≡ 0)
+range-good true n e = (refl, e)
+range-good false n e = absurd (omega arith)
+
+pub read-good : (sh : Shape) (counts : Bool) (range : Range) (a : List ℕ) → faultOf sh (readOf counts range a) ≡ 0
+    → (isQuery sh a ≡ true) × (askFault (askOf sh counts range a) ≡ 0)
 unfolding faultOf
-read-good sh counts a e = query-good (isQuery sh a) e
+read-good sh counts range a e = range-good (isQuery sh a) (askFault (askOf sh counts range a)) e
 
 pub insert-good : (sh : Shape) (a : List ℕ) → faultOf sh (insertOf a) ≡ 0 → (isQuery sh a ≡ true) × (namesAll (queryOf a) ≡ true)
 unfolding faultOf

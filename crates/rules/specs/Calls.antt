@@ -18,7 +18,7 @@ use Rattle.rules.specs.Outcome.{Result, result, StepResult, resultWith}
 use Rattle.rules.specs.Refusals.{form, shape, client, openCode, beginCode, stepCode, abandonCode, evictAnswerCode, evictNodeCode, renewCode}
 use Rattle.rules.specs.Steps.{nowAt, storeBack, progress}
 
--- "1 to 11 .. alter no memory": where the code is not 0 it is returned, and the memories are as they were
+-- "1 to 11, and any number that a later request adds to a call, alter no memory": where the code is not 0 it is returned, and the memories are as they were
 unfoldable pub unless : ℕ → Mem → Result → Result
 unless code m x = cond (eqb code 0) x (result (Refused code) m)
 

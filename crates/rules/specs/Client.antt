@@ -10,8 +10,9 @@ use Rattle.query.specs.Shape.{Form, Shape}
 use Rattle.rules.specs.Layout.{kindOffset, stepsOffset, sawOffset, changedOffset, fullOffset, entryOffset, clientWidth, listWidth}
 use Rattle.rules.specs.Layout.{heldLengthOffset, notedOffset, heldListOffset, deletes}
 use Rattle.query.specs.Query.{Query}
-use Rattle.query.specs.Encoding.{queryIn, bareKey}
-use Rattle.rules.specs.Work.{Ask, Value, Write, Work, askIn, writeIn, workIn, kindOf, keyOf, stepsInAll}
+use Rattle.query.specs.declared.Range.{Range}
+use Rattle.query.specs.Encoding.{queryIn, rangeIn, bareKey}
+use Rattle.rules.specs.Work.{Ask, Value, Write, Work, askIn, writeIn, workIn, kindOf, keyOf, workFault, stepsInAll}
 use Rattle.rules.specs.Answers.{Entry, keyIn, isLong}
 
 -- kind, step, whether a look saw a mark, whether the table changed, whether it was full; then an entry as in the answers memory
@@ -48,9 +49,12 @@ isIdle f c = same c (idle f)
 unfoldable pub begun : Form → Work → Client
 begun f x = padded (clientWidth f) (kindOf x ∷ 0 ∷ 0 ∷ 0 ∷ 0 ∷ keyOf x)
 
--- the query that its key has, and what a reader asks: for contracts and proofs
+-- the query and the range that its key has, and what a reader asks: for contracts and proofs
 unfoldable pub queryAt : Shape → Client → Query
 queryAt sh c = queryIn sh (bareKey (keyIn (entryOf c)))
+
+unfoldable pub rangeAt : Client → Range
+rangeAt c = rangeIn (keyIn (entryOf c))
 
 unfoldable pub askAt : Shape → Client → Ask
 askAt sh c = askIn sh (keyIn (entryOf c))
@@ -64,13 +68,15 @@ workAt sh c = workIn sh (kind c) (keyIn (entryOf c))
 
 -- "the called desk is not idle and its kind, query, step or list length is out of range" (3): a query is in range if its numbers are
 -- those that the work read from them would be kept as. So an insert's has no star: its record's key has a mark in every column; and a
--- write's does not say "count". "a .. held count above 2,048 is 3" (S-1) stands in `isLong`
+-- write's does not say "count" and has no range. "a held range that a begin would refuse is 3" (S-3): `workFault`. "a .. held count above
+-- 2,048 is 3" (S-1) stands in `isLong`
 unfoldable pub isBad : Form → Shape → Client → Bool
 isBad f sh c =
     not (isIdle f c)
     && ((eqb (kind c) 0 || ltb deletes (kind c))
     || (not (same (keyIn (entryOf c)) (keyOf (workAt sh c)))
-    || (leb (stepsInAll (workAt sh c)) (steps c) || isLong (entryOf c))))
+    || (not (eqb (workFault (workAt sh c)) 0)
+    || (leb (stepsInAll (workAt sh c)) (steps c) || isLong (entryOf c)))))
 
 -- one step more
 unfoldable pub stepped : Client → Client

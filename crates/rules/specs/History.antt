@@ -38,7 +38,8 @@ callResult m renew = untrayed (renewResult m)
 unfoldable pub isAccepted : ℕ → Bool
 isAccepted n = eqb n 0 || (eqb n endedLong || eqb n endedFull)
 
--- what the plain table notes at a desk: "the kind, the query and 0 steps"; of a read what it wants too, which nothing here asks for
+-- what the plain table notes at a desk: "the kind, the query and 0 steps"; of a read what it wants and its range too, which nothing
+-- here asks for
 pub data Note : Type 0 where
   nothing : Note
   doing : Work → ℕ → Note

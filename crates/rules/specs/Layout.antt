@@ -229,3 +229,7 @@ endedLong = 12
 
 abbrev pub endedFull : ℕ
 endedFull = 13
+
+-- 14 reversed (S-3): it turns a begin down, and alters nothing, as 1 to 11 do
+abbrev pub refusedReversed : ℕ
+refusedReversed = 14

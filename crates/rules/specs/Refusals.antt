@@ -1,4 +1,5 @@
--- Document 01, "What the controller turns down": the smallest number that applies, or 0. Leans on Memory. Definitions only.
+-- Document 01, "What the controller turns down": the first number that applies, in the order 1, 2, 14, 3, 4 and so on
+-- (the smallest, but for 14), or 0. Leans on Memory. Definitions only.
 -- Assumes nothing. 3 that only a step or an abandoning can find (a node missing, unmarked, ..) stands in Steps
 -- and Calls.
 use mathlib.Core.Bool.{Bool, cond, not, _&&_, _||_}

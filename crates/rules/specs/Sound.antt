@@ -8,7 +8,7 @@ use lib.ListN.{length, getD}
 use Rattle.query.specs.Shape.{Form, Shape, maxColumns}
 use Rattle.rules.specs.Layout.{maxRecords, maxNodes, maxAnswers, tableLeast, nodesLeast, answersLeast, clientsLeast, clientWidth}
 use Rattle.rules.specs.Layout.{recordCountOffset, nodeCountOffset, answerCountOffset}
-use Rattle.rules.specs.Work.{Work, kindOf, keyOf, stepsInAll}
+use Rattle.rules.specs.Work.{Work, kindOf, keyOf, workFault, stepsInAll}
 use Rattle.rules.specs.Answers.{keyIn, isLong, someLong}
 use Rattle.rules.specs.Client.{Client, kind, steps, entryOf, workAt}
 use Rattle.rules.specs.Memory.{Mem, answersIn}
@@ -32,7 +32,8 @@ pub record Sound (m : Mem) : Type 0 where
   pub lists : someLong (answersIn (form m) (m .answers)) ≡ false
 
 -- A sound, busy client: c, in a hall of this form and shape, is busy with w, and neither "its kind, query, step or list length is out of
--- range" (3). It is a reader where w is `asking` what it reads, and a writer where w is `writing` its change.
+-- range" nor is there "a held range that a begin would refuse" (3). It is a reader where w is `asking` what it reads, and a writer where w is
+-- `writing` its change.
 pub record Busy (f : Form) (sh : Shape) (c : Client) (w : Work) : Type 0 where
   pub least : 1 ≤ sh .columns
   pub most : sh .columns ≤ maxColumns
@@ -40,5 +41,6 @@ pub record Busy (f : Form) (sh : Shape) (c : Client) (w : Work) : Type 0 where
   pub work : workAt sh c ≡ w
   pub kind : kind c ≡ kindOf w
   pub key : keyIn (entryOf c) ≡ keyOf w
+  pub fault : workFault w ≡ 0
   pub going : steps c < stepsInAll w
   pub short : isLong (entryOf c) ≡ false

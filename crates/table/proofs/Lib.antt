@@ -4,6 +4,6 @@ pub mod Passing
 pub mod Skipping
 pub mod Counting
 pub mod Listing
-pub mod Widths
+pub mod Stretches
 pub mod Seeking
 pub mod Deleting

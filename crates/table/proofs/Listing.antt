@@ -15,11 +15,10 @@ use Rattle.lists.specs.Lists.{written, flat, keep, rows}
 use Rattle.laws.proofs.TestLaws.{byTest}
 use Rattle.laws.proofs.WrittenLaws.{written-nil, written-front, written-over, drop-of-written, length-written}
 use Rattle.laws.proofs.RowLaws.{flat-snoc, flat-append, length-flat, wide-rows, wide-keep, wide-take, keep-row, skip-row}
-use Rattle.query.specs.Query.{Record, lies}
-use Rattle.columns.specs.MaskContracts.{queryUnder}
+use Rattle.query.specs.Query.{Record}
 use Rattle.rules.specs.Layout.{maxList, listRoom}
 use Rattle.rules.specs.Table.{Table}
-use Rattle.table.specs.TableContracts.{Stretch, upTo}
+use Rattle.table.specs.TableContracts.{Stretch, testOf, upTo}
 use Rattle.table.proofs.Skipping.{Passed}
 use Rattle.table.proofs.Passing.{Passing, pass-on, pass-one, answer-is, pass-room, pass-end, length-part, record-part, rows-part, to-end, keep-add}
 
@@ -134,27 +133,27 @@ pub list-end : (p : Record → Bool) (k : ℕ) (s out₀ : List ℕ) (had : ℕ)
 list-end p k s out₀ had out j to at a g h n e = listed-all p k s out₀ had out j to n (pass-end k s at _ a n g h e)
 
 -- ---- a turn of the loop over a block: r is the test's answer, made on the part
-module _ (l s out₀ : List ℕ) (k had : ℕ) (out : List ℕ) (j to at : ℕ) (t : Stretch k s) (h : at < length s) (r : Bool)
-    (a : Passing k s at (Listed (lies (queryUnder k l)) k s out₀ had out j to)) (y : r ≡ lies (queryUnder (length (take (at + k - at) (drop at s))) l) (take (at + k - at) (drop at s))) where
+module _ (g : Bool) (l s out₀ : List ℕ) (k had : ℕ) (out : List ℕ) (j to at : ℕ) (t : Stretch k s) (h : at < length s) (r : Bool)
+    (a : Passing k s at (Listed (testOf g k l) k s out₀ had out j to)) (y : r ≡ testOf g (length (take (at + k - at) (drop at s))) l (take (at + k - at) (drop at s))) where
   long-part : length (take (at + k - at) (drop at s)) ≡ k
   long-part = length-part s at (at + k) (omega arith) (pass-room k s at _ a t h) ∙ (let z : at + k - at ≡ k = omega arith in z)
 
   pub list-found : r ≡ true → (j ≡ maxList → ⊥) → length out₀ ≡ listRoom → (out′ : List ℕ) → out′ ≡ written out to (take (at + k - at) (drop at s))
-      → Passing k s (at + k) (Listed (lies (queryUnder k l)) k s out₀ had out′ (j + boolByte r) (to + boolByte r * k))
+      → Passing k s (at + k) (Listed (testOf g k l) k s out₀ had out′ (j + boolByte r) (to + boolByte r * k))
   list-found e m n out′ o =
-      pass-one l s k at t h r _ a y _
+      pass-one g l s k at t h r _ a y _
       (λ i u v b. let w : take (at + k - at) (drop at s) ≡ take k (drop (i * k) s) = record-part k s i at u in
       rw e (found _ k s out₀ had out j to i b m (t .columns .1) n (ap length (sym w) ∙ long-part) (sym v ∙ e) out′ (o ∙ ap (written out to) w)))
 
-  pub list-other : r ≡ false → (out′ : List ℕ) → out′ ≡ out → Passing k s (at + k) (Listed (lies (queryUnder k l)) k s out₀ had out′ (j + boolByte r) (to + boolByte r * k))
-  list-other e out′ o = pass-one l s k at t h r _ a y _ (λ i u v b. rw e (other _ k s out₀ had out j to i b (sym v ∙ e) out′ o))
+  pub list-other : r ≡ false → (out′ : List ℕ) → out′ ≡ out → Passing k s (at + k) (Listed (testOf g k l) k s out₀ had out′ (j + boolByte r) (to + boolByte r * k))
+  list-other e out′ o = pass-one g l s k at t h r _ a y _ (λ i u v b. rw e (other _ k s out₀ had out j to i b (sym v ∙ e) out′ o))
 
   pub list-full : r ≡ true → j ≡ maxList → (n : ℕ) → length s ≡ n * k
-      → (maxList + 1 ≡ upTo (had + length (keep (lies (queryUnder k l)) (rows k n s)))) × (out ≡ written out₀ (had * k) (flat (take (maxList - had) (keep (lies (queryUnder k l)) (rows k n s)))))
+      → (maxList + 1 ≡ upTo (had + length (keep (testOf g k l) (rows k n s)))) × (out ≡ written out₀ (had * k) (flat (take (maxList - had) (keep (testOf g k l) (rows k n s)))))
   list-full e z n q =
       let b : a .i * k < n * k = omega (arith, a .at-is) in
       let c : a .i < n = lt-of-mul-lt-mul-right k b in
-      full _ k s out₀ had out j to (a .i) (a .holds) n (n - (a .i + 1)) (omega arith) (sym (answer-is l s k at t h r _ a y (a .i) (a .at-is)) ∙ e) z
+      full _ k s out₀ had out j to (a .i) (a .holds) n (n - (a .i + 1)) (omega arith) (sym (answer-is g l s k at t h r _ a y (a .i) (a .at-is)) ∙ e) z
 
   pub list-room : (j ≡ maxList → ⊥) → length out₀ ≡ listRoom → to + length (take (at + k - at) (drop at s)) ≤ length out
   list-room m n = let w = long-part in omega (arith, out-room _ k s out₀ had out j to (a .i) (a .holds) m (t .columns .1) n)

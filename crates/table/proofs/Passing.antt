@@ -1,5 +1,5 @@
 -- Laws of a pass over a stretch of records: where a loop stands in it, a step of some records, its end; and what is kept of the records passed.
--- Leans on the laws of lists and Rows, and on columns' masks. Assumes nothing.
+-- Leans on the laws of lists and Rows. Assumes nothing.
 use mathlib.Core.Path.{_≡_, refl, sym, ap, _∙_, subst}
 use mathlib.Core.Bool.{Bool, true, false, cond, _||_, or-false, or-assoc}
 use mathlib.Core.List.{List, [], _∷_, _++_}
@@ -12,10 +12,9 @@ use lib.Seq.{length-take-le, drop-drop}
 use Rattle.lists.specs.Lists.{rows, keep}
 use Rattle.laws.proofs.ListLaws.{keep-append}
 use Rattle.laws.proofs.RowLaws.{slot, slot-left, rows-snoc, rows-front, keep-row, skip-row}
-use Rattle.query.specs.Query.{Record, lies}
-use Rattle.columns.specs.MaskContracts.{queryUnder}
+use Rattle.query.specs.Query.{Record}
 use Rattle.rules.specs.Table.{Table}
-use Rattle.table.specs.TableContracts.{Stretch, some}
+use Rattle.table.specs.TableContracts.{Stretch, testOf, some}
 
 -- ---- where a loop stands: before record i, or behind the last; P says what holds of the records before it
 pub record Passing (k : ℕ) (s : List ℕ) (at : ℕ) (P : ℕ → Type 0) : Type 0 where
@@ -140,14 +139,14 @@ kept-more p k i s true e = ap length (keep-row p k i s (sym e)) ∙ length-appen
 kept-more p k i s false e = ap length (skip-row p k i s (sym e)) ∙ sym (add-zero _)
 
 -- ---- the record test, made on the part where a loop stands
-module _ (l s : List ℕ) (k at : ℕ) (t : Stretch k s) (h : at < length s) (r : Bool) where
+module _ (g : Bool) (l s : List ℕ) (k at : ℕ) (t : Stretch k s) (h : at < length s) (r : Bool) where
   abbrev part : List ℕ
   part = take (at + k - at) (drop at s)
 
   abbrev p : Record → Bool
-  p = lies (queryUnder k l)
+  p = testOf g k l
 
-  module _ (P : ℕ → Type 0) (a : Passing k s at P) (x : r ≡ lies (queryUnder (length part) l) part) where
+  module _ (P : ℕ → Type 0) (a : Passing k s at P) (x : r ≡ testOf g (length part) l part) where
     pub answer-is : (i : ℕ) → at ≡ i * k → r ≡ p (take k (drop (i * k) s))
     answer-is i e =
         let g : at + k ≤ length s = pass-room k s at P a t h in
@@ -157,10 +156,22 @@ module _ (l s : List ℕ) (k at : ℕ) (t : Stretch k s) (h : at < length s) (r 
     pub pass-one : (Q : ℕ → Type 0) → ((i : ℕ) → at ≡ i * k → r ≡ p (take k (drop (i * k) s)) → P i → Q (i + 1)) → Passing k s (at + k) Q
     pass-one Q f = pass-on k s at P a Q 1 (at + k) (omega (arith, one-mul k)) (pass-room k s at P a t h) (λ i e y. f i e (answer-is i e) y)
 
-  pub some-turn : (b : Bool) (a : Passing k s at (λ i. b ≡ some p (rows k i s))) → r ≡ lies (queryUnder (length part) l) part
+  pub some-turn : (b : Bool) (a : Passing k s at (λ i. b ≡ some p (rows k i s))) → r ≡ testOf g (length part) l part
       → Passing k s (at + k) (λ i. b || r ≡ some p (rows k i s))
   some-turn b a x = pass-one _ a x _ (λ i _ e y. rw (some-row p k i s, ← e, ← y))
 
-  pub count-turn : (j : ℕ) → Passing k s at (λ i. (j ≤ i) × (j ≡ length (keep p (rows k i s)))) → r ≡ lies (queryUnder (length part) l) part
+  pub count-turn : (j : ℕ) → Passing k s at (λ i. (j ≤ i) × (j ≡ length (keep p (rows k i s)))) → r ≡ testOf g (length part) l part
       → Passing k s (at + k) (λ i. (j + boolByte r ≤ i) × (j + boolByte r ≡ length (keep p (rows k i s))))
   count-turn j a x = pass-one _ a x _ (λ i _ e y. (omega (arith, bit-most r, y .0), ap (λ (n : ℕ). n + boolByte r) (y .1) ∙ sym (kept-more p k i s r e)))
+
+-- ---- a pass for c columns is one for k, where these are the same
+module _ (k c : ℕ) (s : List ℕ) (e : k ≡ c) where
+  pub stretch-for : Stretch k s → Stretch c s
+  stretch-for t = subst (λ (m : ℕ). Stretch m s) e t
+
+  pub given-for : {A : Type 0} (l : ℕ → ℕ → A) (r : A) → ((n : ℕ) → length s ≡ n * c → r ≡ l c n) → (n : ℕ) → length s ≡ n * k → r ≡ l k n
+  given-for l r x = subst (λ (m : ℕ). (n : ℕ) → length s ≡ n * m → r ≡ l m n) (sym e) x
+
+-- what is neither 4 nor 3 nor 2
+pub width-one : (k : ℕ) → (1 ≤ k) × (k ≤ 4) → (k ≡ 4 → ⊥) → (k ≡ 3 → ⊥) → (k ≡ 2 → ⊥) → k ≡ 1
+width-one k h a b d = omega (arith, h .0, h .1)

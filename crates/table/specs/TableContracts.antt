@@ -5,11 +5,14 @@ use mathlib.Core.Bool.{Bool, true, false, cond, _||_}
 use mathlib.Core.List.{List, [], _∷_}
 use Prim.Native.Nat.{ℕ, _-_, _*_, _≤_, suc}
 use lib.Dec.{leb}
-use lib.ListN.{length, getD}
+use lib.ListN.{length, getD, take, drop}
 use Rattle.lists.specs.Lists.{before, place, keep, rows}
 use Rattle.query.specs.Query.{Query, Record, lies}
-use Rattle.query.specs.Shape.{maxColumns}
-use Rattle.columns.specs.MaskContracts.{queryUnder}
+use Rattle.query.specs.declared.Range.{Range}
+use Rattle.query.specs.Shape.{shapeOf, maxColumns}
+use Rattle.query.specs.Range.{isRange, isReversed}
+use Rattle.columns.specs.MaskContracts.{queryUnder, Masked}
+use Rattle.columns.specs.BoundContracts.{bounded}
 use Rattle.rules.specs.Layout.{maxRecords, maxList, tableLeast, recordCountOffset}
 use Rattle.rules.specs.Table.{Table, delete, has, effect}
 use Rattle.table.specs.declared.Inserted.{Inserted}
@@ -39,9 +42,22 @@ pub record Stretch (k : ℕ) (s : List ℕ) : Type 0 where
   pub whole : length s ≡ n * k
   pub few : n ≤ maxRecords
 
--- of its first n records those in the subspace of a query that comes as masks and values; `listOf` says it of a table
-abbrev pub fitting : ℕ → List ℕ → ℕ → List ℕ → Table
-fitting k query n s = keep (lies (queryUnder k query)) (rows k n s)
+-- a range that a begin takes beside a query of k columns
+pub record RangeFits (k : ℕ) (q : Query) (range : Range) : Type 0 where
+  pub there : isRange (shapeOf k) q range ≡ true
+  pub ordered : isReversed range ≡ false
+
+-- the record test by the numbers that it takes: shifts and limits where there is a range, else masks and values
+unfoldable pub testOf : Bool → ℕ → List ℕ → Record → Bool
+testOf ranged k query r = cond ranged (bounded (take maxColumns query) (drop maxColumns query) r) (lies (queryUnder k query) r)
+
+pub record Tested (ranged : Bool) (query : List ℕ) : Type 0 where
+  pub long : length query ≡ 8
+  pub masked : ranged ≡ false → Masked query
+
+-- of its first n records those that pass the test; `listOf` and rules' `listWithin` say it of a table
+abbrev pub fitting : Bool → ℕ → List ℕ → ℕ → List ℕ → Table
+fitting ranged k query n s = keep (testOf ranged k query) (rows k n s)
 
 -- a record of them passes the test
 unfoldable pub some : (Record → Bool) → Table → Bool

@@ -4,16 +4,19 @@ ghost use mathlib.Core.Path.{_≡_};
 ghost use Prim.Native.Nat.{_+_, _≤_};
 ghost use lib.ListN.{length, take, drop};
 ghost use Rattle.lists.specs.Lists.{written, flat};
-ghost use Rattle.rules.specs.Table.{insert, delete, effect, listOf};
+ghost use Rattle.rules.specs.Table.{insert, delete, effect};
+ghost use Rattle.rules.specs.Work.{listWithin};
 ghost use Rattle.rules.specs.Memory.{recordsIn, withRecords};
 ghost use Rattle.columns.specs.MaskContracts.{Masked, queryUnder};
-ghost use Rattle.table.specs.TableContracts.{Fit, gathered, spotOf, insertedAs, gone};
+ghost use Rattle.table.specs.TableContracts.{Fit, RangeFits, gathered, spotOf, insertedAs, gone};
 use hall::Hall;
 use query::Column;
+use query::Range;
 use words::Order;
 ghost use Rattle.rules.specs.Layout.{maxList, listRoom};
 
 mod passes; // passes.rt: passes over records
+mod widths; // widths.rt: the passes for each width
 
 // The most records that a table holds.
 const RECORDS: usize = Hall::RECORDS as usize;
@@ -35,50 +38,54 @@ enum Spot {
     At(usize),
 }
 
-// Writes the records in the query's subspace, at most 32, to `out`, and says how many there are, or 33 of more than 32.
-pub fn gather(table: &[u32], k: usize, cols: [Column; Hall::COLUMN_SLOTS], out: &mut [u32]) -> usize
-    requires { ⌜ Fit k (now table) ⌝ }
+// Writes the records in the query's subspace and within the range, at most 32, to `out`, and says how many there are, or 33 of more than 32.
+pub fn gather(
+    table: &[u32],
+    k: usize,
+    cols: [Column; Hall::COLUMN_SLOTS],
+    range: Range,
+    out: &mut [u32],
+) -> usize
+    requires { ⌜ Fit k (now table) × RangeFits k (take k cols) range ⌝ }
     requires { ⌜ length (now out) ≡ listRoom ⌝ }
-    ensures { λ r. ⌜ r ≡ gathered (listOf (take k cols) (recordsIn k (now (table .entry)))) ⌝ }
-    ensures { λ _. ⌜ now (out .exit) ≡ written (now (out .entry)) 0 (flat (take maxList (listOf (take k cols) (recordsIn k (now (table .entry)))))) ⌝ }
+    ensures { λ r. ⌜ r ≡ gathered (listWithin range (take k cols) (recordsIn k (now (table .entry)))) ⌝ }
+    ensures { λ _. ⌜ now (out .exit) ≡ written (now (out .entry)) 0 (flat (take maxList (listWithin range (take k cols) (recordsIn k (now (table .entry)))))) ⌝ }
 {
-    let query = columns::masks::mask_words(cols, k);
     let n = table[Hall::RECORD_COUNT_OFFSET] as usize;
     let end = Hall::HEADER + n * k;
     let recs = &table[Hall::HEADER..end];
-    // For each width as many records at once as the compiler makes the fastest code of (docs/PERFORMANCE.md).
-    if k == 4 {
-        return passes::list_in(recs, 4, 3, &query, out);
-    }
-    if k == 3 {
-        return passes::list_in(recs, 3, 8, &query, out);
-    }
-    if k == 2 {
-        return passes::list_in(recs, 2, 8, &query, out);
-    }
-    passes::list_in(recs, 1, 16, &query, out)
+    let Range::Between {
+        column,
+        lowest,
+        highest,
+    } = range
+    else {
+        let query = columns::masks::mask_words(cols, k);
+        return widths::list_plain(recs, k, &query, out);
+    };
+    let query = columns::bounds::bound_words(cols, k, column, lowest, highest);
+    widths::list_ranged(recs, k, &query, out)
 }
 
-// How many records lie in the query's subspace, be they more than a read lists. One pass, and nothing is copied.
-pub fn count(table: &[u32], k: usize, cols: [Column; Hall::COLUMN_SLOTS]) -> usize
-    requires { ⌜ Fit k (now table) ⌝ }
-    ensures { λ r. ⌜ r ≡ length (listOf (take k cols) (recordsIn k (now (table .entry)))) ⌝ }
+// How many records lie in the query's subspace and within the range, be they more than a read lists. One pass, and nothing is copied.
+pub fn count(table: &[u32], k: usize, cols: [Column; Hall::COLUMN_SLOTS], range: Range) -> usize
+    requires { ⌜ Fit k (now table) × RangeFits k (take k cols) range ⌝ }
+    ensures { λ r. ⌜ r ≡ length (listWithin range (take k cols) (recordsIn k (now (table .entry)))) ⌝ }
 {
-    let query = columns::masks::mask_words(cols, k);
     let n = table[Hall::RECORD_COUNT_OFFSET] as usize;
     let end = Hall::HEADER + n * k;
     let recs = &table[Hall::HEADER..end];
-    // Of four columns the compiler makes faster code for passing blocks than for counting.
-    if k == 4 {
-        return passes::skip_and_count(recs, 4, 3, &query) as usize;
-    }
-    if k == 3 {
-        return passes::count_in(recs, 3, &query) as usize;
-    }
-    if k == 2 {
-        return passes::count_in(recs, 2, &query) as usize;
-    }
-    passes::count_in(recs, 1, &query) as usize
+    let Range::Between {
+        column,
+        lowest,
+        highest,
+    } = range
+    else {
+        let query = columns::masks::mask_words(cols, k);
+        return widths::count_plain(recs, k, &query) as usize;
+    };
+    let query = columns::bounds::bound_words(cols, k, column, lowest, highest);
+    widths::count_ranged(recs, k, &query) as usize
 }
 
 // One scan: whether the record is there, anywhere, and if not the place of the first greater one.

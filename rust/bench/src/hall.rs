@@ -177,7 +177,7 @@ fn foreign_query(k: usize, rng: &mut Rng) -> Query {
     for (c, value) in values.iter_mut().enumerate().take(k) {
         *value = if named >> c & 1 == 1 { FOREIGN + rng.below(4096) } else { 0 };
     }
-    Query { k, named, values, counts: false }
+    Query { k, named, values, counts: false, range: None }
 }
 
 /// Labels that reads of foreign queries leave behind, each once and none of `own`.

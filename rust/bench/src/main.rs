@@ -8,6 +8,7 @@
 mod hall;
 mod mixes;
 mod plot;
+mod ranges;
 mod report;
 mod rng;
 mod rows;
@@ -60,7 +61,7 @@ fn run(options: &Options) -> Result<(), String> {
     let effort = Effort { pairs: if options.quick { 15 } else { 1001 }, batch: Duration::from_micros(if options.quick { 20 } else { 50 }) };
     let clock = Clock::new();
     let load_before = report::load();
-    let rows: Vec<Row> = rows::calls().into_iter().chain(rows::wholes()).collect();
+    let rows: Vec<Row> = rows::calls().into_iter().chain(ranges::rows()).chain(rows::wholes()).collect();
     let wanted = |row: &&Row| options.only.as_ref().is_none_or(|text| format!("{}: {}", row.group, row.name).contains(text.as_str()));
     let timed: Vec<Timed> = rows.iter().filter(wanted).map(|row| time(row, effort, &clock)).collect();
     summary(&timed);
@@ -90,11 +91,14 @@ fn time(row: &Row, effort: Effort, clock: &Clock) -> Timed {
     let sqlite = sqlite_time(row, effort, clock);
     let shown = sqlite.map_or(String::new(), |time| format!("  SQLite {:9.0}", time.median));
     let (left, right, ratio) = (measured.library.median, measured.twin.median, &measured.ratio);
-    println!("{:14} {:42} {left:9.0} {right:9.0} ns  {:5.2} ({:.2} to {:.2}){shown}", row.group, row.name, ratio.median, ratio.low, ratio.high);
+    println!("{:18} {:42} {left:9.0} {right:9.0} ns  {:5.2} ({:.2} to {:.2}){shown}", row.group, row.name, ratio.median, ratio.low, ratio.high);
     Timed { group: row.group, name: row.name.clone(), measured, sqlite }
 }
 
 fn summary(timed: &[Timed]) {
+    for (row, [library, twin]) in report::ranged_by_plain(timed) {
+        println!("{:18} {:42} by plain: library {library:.2}, twin {twin:.2}", row.group, row.name);
+    }
     let slow = timed.iter().filter(|row| row.measured.ratio.median > 1.2).count();
     let less = timed.iter().filter(|row| row.measured.ratio.median <= 1.0).count();
     println!("{} rows: {less} at a ratio of 1 or less, {slow} above 1.2", timed.len());

@@ -55,6 +55,8 @@ pub fn markdown(place: &Place, timed: &[Timed], mixed: &[Mixed]) -> String {
     text += "## Library and twin, call by call\n\n";
     text += "| call | case | library | twin | ratio | quartiles of the ratio |\n|---|---|---|---|---|---|\n";
     timed.iter().filter(|row| !row.group.starts_with("whole")).for_each(|row| call_line(&mut text, row));
+    text += "\n## Ranged by plain\n\n| call | case | library | twin |\n|---|---|---|---|\n";
+    ranged_by_plain(timed).iter().for_each(|(row, by)| range_line(&mut text, row, by));
     text += "\n## Whole reads and writes\n\nSQLite: ";
     let _ = writeln!(text, "{}.\n", place.sqlite);
     text += "| | case | library | twin | ratio | quartiles of the ratio | SQLite | SQLite by library |\n|---|---|---|---|---|---|---|---|\n";
@@ -77,6 +79,25 @@ fn whole_line(text: &mut String, row: &Timed) {
         None => ("-".to_string(), "-".to_string()),
     };
     let _ = writeln!(text, " {time} | {by} |");
+}
+
+/// Each ranged row beside which a plain one of the same name was timed, and the time of the ranged
+/// one by that of the plain one: of the library and of the twin. Both rows are of one run, but not
+/// of the same moments.
+pub fn ranged_by_plain(timed: &[Timed]) -> Vec<(&Timed, [f64; 2])> {
+    let beside = |row: &Timed| {
+        let group = row.group.strip_prefix("ranged ")?;
+        timed.iter().find(|plain| plain.group == group && plain.name == row.name)
+    };
+    let by = |row: &Timed, plain: &Timed| {
+        let (row, plain) = (&row.measured, &plain.measured);
+        [row.library.median / plain.library.median, row.twin.median / plain.twin.median]
+    };
+    timed.iter().filter_map(|row| beside(row).map(|plain| (row, by(row, plain)))).collect()
+}
+
+fn range_line(text: &mut String, row: &Timed, [library, twin]: &[f64; 2]) {
+    let _ = writeln!(text, "| {} | {} | {library:.2} | {twin:.2} |", row.group, row.name);
 }
 
 fn percent(ratio: f64) -> String {

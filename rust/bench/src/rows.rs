@@ -1,6 +1,7 @@
-//! What is timed: one row for each call and each kind of step, with the hall that it starts from and the reply that it must give, and one for
-//! the table's plain reading.
-//! Rows of single calls have four columns, the most there can be; counts, and whole reads and writes, have one to four. Leans on hall and side.
+//! What is timed: one row for each call and each kind of step, with the hall that it starts from
+//! and the reply that it must give, and one for the table's plain reading. Rows of single calls
+//! have four columns, the most there can be; counts, and whole reads and writes, have one to four.
+//! Those with a range are in ranges. Leans on hall and side.
 
 use crate::hall::{read_labels, write_labels, Hall};
 use crate::rng::Rng;
@@ -18,7 +19,7 @@ pub struct Row {
 }
 
 /// The desk of every row.
-const CLIENT: u32 = 5;
+pub const CLIENT: u32 = 5;
 /// The record that queries of the rows take their values from.
 const MIDDLE: usize = 1024;
 
@@ -29,7 +30,7 @@ fn refused(number: u32) -> Reply {
     Reply { number, count: 0, ending: 0 }
 }
 
-fn from_file(count: u32) -> Reply {
+pub fn from_file(count: u32) -> Reply {
     Reply { number: 0, count, ending: 1 }
 }
 
@@ -49,7 +50,7 @@ pub fn record(k: usize, i: usize) -> [u32; 4] {
 }
 
 /// Names the columns of the middle record at the 1 bits of `named`.
-fn naming(k: usize, named: u32) -> Asked {
+pub fn naming(k: usize, named: u32) -> Asked {
     let values = record(k, MIDDLE);
     let columns: Vec<Option<u32>> = (0..k).map(|c| (named >> c & 1 == 1).then_some(values[c])).collect();
     Asked::new(&columns)
@@ -64,11 +65,11 @@ fn the_record(values: [u32; 4]) -> Asked {
 }
 
 /// A hall with all its records, nodes and answers, none of them a measurement's own but the records.
-fn full(k: usize) -> Hall {
+pub fn full(k: usize) -> Hall {
     Hall::opened(k).with_records(RECORDS, |i| record(k, i)).with_nodes(NODES, &[], 0).with_answers(ANSWERS, None)
 }
 
-fn row(rows: &mut Vec<Row>, group: &'static str, name: &str, hall: Hall, act: Act, expected: Reply) {
+pub fn row(rows: &mut Vec<Row>, group: &'static str, name: &str, hall: Hall, act: Act, expected: Reply) {
     rows.push(Row { group, name: name.to_string(), hall, act, expected });
 }
 
@@ -122,13 +123,13 @@ fn looks(rows: &mut Vec<Row>) {
 }
 
 /// A full hall in which a read's nodes stand last.
-fn reading(k: usize, asked: Asked) -> Hall {
+pub fn reading(k: usize, asked: Asked) -> Hall {
     let own = read_labels(k, asked);
     full(k).with_nodes(NODES, &own, NODES - own.len())
 }
 
 /// The same before the fetch of that read, among 64 answers of which one may be its own.
-fn fetching(asked: Asked, own: Option<(usize, Entry)>) -> Hall {
+pub fn fetching(asked: Asked, own: Option<(usize, Entry)>) -> Hall {
     let looks = read_labels(4, asked).len() as u32;
     reading(4, asked).with_answers(ANSWERS, own).begun(Kind::Read, CLIENT, asked, looks)
 }

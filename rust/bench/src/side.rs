@@ -2,22 +2,30 @@
 
 use crate::hall::Hall;
 use twin::layout::{HEAD, TABLE_LEAST};
+use twin::range::Range;
 
-/// A query as a begin is given it: a mark and a value for each column.
+/// A query as a begin is given it: a mark and a value for each column; and a range, if there is
+/// one.
 #[derive(Clone, Copy, PartialEq, Eq, Debug)]
 pub struct Asked {
     words: [u32; 8],
     len: usize,
+    range: Option<Range>,
 }
 
 impl Asked {
     /// One column for each value; none is a star.
     pub fn new(columns: &[Option<u32>]) -> Asked {
-        let mut asked = Asked { words: [0; 8], len: 2 * columns.len() };
+        let mut asked = Asked { words: [0; 8], len: 2 * columns.len(), range: None };
         for (column, pair) in columns.iter().zip(asked.words.chunks_mut(2)) {
             pair.copy_from_slice(&column.map_or([0, 0], |value| [1, value]));
         }
         asked
+    }
+
+    /// The same query with a range in this column, which is a star.
+    pub fn within(self, column: usize, lowest: u32, highest: u32) -> Asked {
+        Asked { range: Some(Range { column: column as u32, lowest, highest }), ..self }
     }
 
     pub fn words(&self) -> &[u32] {
@@ -69,6 +77,7 @@ pub const ACCEPTED: Reply = Reply { number: 0, count: 0, ending: 0 };
 pub trait Side {
     fn open(h: &mut Hall, k: u32) -> Reply;
     fn begin(h: &mut Hall, kind: Kind, client: u32, query: &[u32]) -> Reply;
+    fn begin_within(h: &mut Hall, kind: Kind, client: u32, query: &[u32], range: &Range) -> Reply;
     fn step(h: &mut Hall, client: u32) -> Reply;
     fn abandon(h: &mut Hall, client: u32) -> Reply;
     fn evict_answer(h: &mut Hall, place: u32) -> Reply;
@@ -79,9 +88,10 @@ pub trait Side {
 pub struct Library;
 pub struct Twin;
 
-/// Both sides offer the same calls on types of their own.
+/// Both sides offer the same calls on types of their own; the ends of a range they take in
+/// different forms.
 macro_rules! side {
-    ($side:ident, $memories:ty) => {
+    ($side:ident, $memories:ty, ends of $range:ident: $($end:expr),+) => {
         impl Side for $side {
             #[inline(always)]
             fn open(h: &mut Hall, k: u32) -> Reply {
@@ -94,6 +104,14 @@ macro_rules! side {
                     Kind::Count => side!(h, $memories, m, m.begin_count(client, query)),
                     Kind::Insert => side!(h, $memories, m, m.begin_insert(client, query)),
                     Kind::Delete => side!(h, $memories, m, m.begin_delete(client, query)),
+                }
+            }
+            #[inline(always)]
+            fn begin_within(h: &mut Hall, kind: Kind, client: u32, query: &[u32], $range: &Range) -> Reply {
+                match kind {
+                    Kind::Read => side!(h, $memories, m, m.begin_read_within(client, query, $range.column, $($end),+)),
+                    Kind::Count => side!(h, $memories, m, m.begin_count_within(client, query, $range.column, $($end),+)),
+                    Kind::Insert | Kind::Delete => unreachable!("a write has no range"),
                 }
             }
             #[inline(always)]
@@ -154,8 +172,8 @@ impl<'a> From<Lend<'a>> for twin::Memories<'a> {
     }
 }
 
-side!(Library, mondzafeky::Memories<'_>);
-side!(Twin, twin::Memories<'_>);
+side!(Library, mondzafeky::Memories<'_>, ends of range: range.lowest..=range.highest);
+side!(Twin, twin::Memories<'_>, ends of range: range.lowest, range.highest);
 
 /// Makes the call. Never inlined, so that both sides are entered alike.
 #[inline(never)]
@@ -164,13 +182,21 @@ pub fn perform<S: Side>(h: &mut Hall, act: &Act) -> Reply {
         Act::Nothing => ACCEPTED,
         Act::ReadAll => read_all(h),
         Act::Open(k) => S::open(h, *k),
-        Act::Begin(kind, client, asked) => S::begin(h, *kind, *client, asked.words()),
+        Act::Begin(kind, client, asked) => begin::<S>(h, *kind, *client, asked),
         Act::Step(client) => S::step(h, *client),
         Act::Abandon(client) => S::abandon(h, *client),
         Act::EvictAnswer(place) => S::evict_answer(h, *place),
         Act::EvictNode(place) => S::evict_node(h, *place),
         Act::Renew => S::renew(h),
         Act::Whole(kind, client, asked) => whole::<S>(h, *kind, *client, asked),
+    }
+}
+
+#[inline(always)]
+fn begin<S: Side>(h: &mut Hall, kind: Kind, client: u32, asked: &Asked) -> Reply {
+    match &asked.range {
+        None => S::begin(h, kind, client, asked.words()),
+        Some(range) => S::begin_within(h, kind, client, asked.words(), range),
     }
 }
 
@@ -184,7 +210,7 @@ fn read_all(h: &Hall) -> Reply {
 
 /// A read or write from its begin to the step that ends it; the last reply.
 fn whole<S: Side>(h: &mut Hall, kind: Kind, client: u32, asked: &Asked) -> Reply {
-    let mut reply = S::begin(h, kind, client, asked.words());
+    let mut reply = begin::<S>(h, kind, client, asked);
     while reply == ACCEPTED {
         reply = S::step(h, client);
     }

@@ -79,7 +79,8 @@ pub fn nodes(hall: &Inspect<'_>, all: bool) -> Vec<String> {
     or_none(lines)
 }
 
-/// The filed answers, counts as such; with the records of the lists if all is asked for.
+/// The filed answers, counts as such, a range in the place of its column; with the records of the
+/// lists if all is asked for.
 pub fn answers(hall: &Inspect<'_>, all: bool) -> Vec<String> {
     let lines = hall.answers().enumerate().map(|(place, answer)| match answer {
         Ok(entry) => format!("{place}: {}", answer_line(entry, all)),
@@ -95,11 +96,12 @@ fn answer_line(entry: Entry<'_>, all: bool) -> String {
             return format!("revisions {}  {fault}", spaced(entry.revisions));
         }
     }
+    let asked = told(entry.asked());
     let value = told(entry.value.map(|value| match value {
         Value::List(records) => listed(records, all),
         Value::Count(count) => format!("count {count}"),
     }));
-    format!("{}  revisions {}  {value}", told(entry.query), spaced(entry.revisions))
+    format!("{asked}  revisions {}  {value}", spaced(entry.revisions))
 }
 
 /// A filed list: how many records, and which if all is asked for.

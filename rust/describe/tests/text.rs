@@ -185,6 +185,73 @@ fn counts_are_told_as_counts() {
     assert!(above.contains("  the count out of range: 2049, wanted 0 to 2,048") && above.contains("a step at any desk would give 3, unsound"));
 }
 
+/// Classes 3 to 10 of bench 7; classes 4 to 9 are on file as a list and, of any bench, as a count.
+/// Desk 5 is about to be answered with the list from file, desk 6 to file a count of classes 5 to
+/// 5.
+fn ranged_hall() -> Hall {
+    let mut hall = Hall::open(2).unwrap();
+    for class in 3..=10 {
+        hall.begin_insert(0, &[7, class]).unwrap();
+        assert_eq!(hall.run(0), Ok(Outcome::Changed));
+    }
+    hall.begin_count_within(6, &[Some(7), None].into(), 1, 5..=5).unwrap();
+    (0..4).for_each(|_| assert_eq!(hall.step(6), Ok(Outcome::UnderWay)));
+    hall.begin_read_within(1, &[Some(7), None].into(), 1, 4..=9).unwrap();
+    assert!(hall.run(1).unwrap().has_ended());
+    hall.begin_count_within(1, &[None, None].into(), 1, 4..=9).unwrap();
+    assert_eq!(hall.run(1), Ok(Outcome::Counted { count: 6, from_file: false }));
+    hall.begin_read_within(5, &[Some(7), None].into(), 1, 4..=9).unwrap();
+    (0..2).for_each(|_| assert_eq!(hall.step(5), Ok(Outcome::UnderWay)));
+    hall
+}
+
+#[test]
+fn ranges_are_told_in_the_place_of_their_column() {
+    let text = describe(&ranged_hall().to_bytes(), false);
+    for words in [
+        "\n  desk 5: read of (7, 4 to 9), 2 of 5 steps made, next: fetch; revisions noted: 9 1\n",
+        "\n  desk 6: count of (7, 5 to 5), 4 of 5 steps made, next: file; revisions noted: 9 1\n",
+        "\n  a step at desk 5 would give 0, accepted; the read would end with 6 records from file\n",
+        "\n  a step at desk 6 would give 0, accepted; the count would end with 1 from the table\n",
+        "\n  0: (7, 4 to 9)  revisions 9 1  6 records\n",
+        "\n  1: (*, 4 to 9)  revisions 9  count 6\n",
+    ] {
+        assert!(text.contains(words), "{words}: {text}");
+    }
+    let all = describe(&ranged_hall().to_bytes(), true);
+    assert!(all.contains("\n  0: (7, 4 to 9)  revisions 9 1  6 records: (7, 4) (7, 5) (7, 6) (7, 7) (7, 8) (7, 9)\n"), "{all}");
+}
+
+/// Ranges that no begin leaves: at a desk the step there gives 3 and it is said why, on file no
+/// call minds.
+#[test]
+fn senseless_ranges_are_told_with_the_numbers_that_calls_give() {
+    let (desk_5, filed) = (26_408 + 5 * 157, 16_408);
+    let cases = [
+        (5, 97, "the marks of the query out of range: 97, wanted a bit for each named column, 16 more for a count, 32 more for each column"),
+        (5, 33, "the marks of the query out of range: 33, wanted no mark at the ranged column"),
+        (5, 1, "the lowest value of the range out of range: 4, wanted 0 where there is no range"),
+        (10, 10, "the highest value of the range out of range: 9, wanted not below the lowest"),
+    ];
+    for (offset, number, words) in cases {
+        let altered = |place: usize| {
+            let mut numbers = saved::numbers_of(&ranged_hall().to_bytes());
+            numbers[place] = number;
+            describe(&saved::bytes_of(&numbers), false)
+        };
+        let (held, kept) = (altered(desk_5 + offset), altered(filed + offset - 5));
+        for said in [&format!("\n  desk 5: {words}"), "\n  a step at desk 5 would give 3, unsound\n", "\n  a step at desk 6 would give 0, accepted;"]
+        {
+            assert!(held.contains(said), "{said}: {held}");
+        }
+        for said in
+            [&format!("\n  0: {words}"), "  6 records\n", "\n  a step at desk 5 would give 0, accepted\n", "\n  a step at desk 6 would give 0,"]
+        {
+            assert!(kept.contains(said), "{said}: {kept}");
+        }
+    }
+}
+
 /// Twelve desks whose steps reply alike are told together only if all count or none does.
 #[test]
 fn lists_and_counts_that_reply_alike() {
@@ -206,12 +273,12 @@ fn lists_and_counts_that_reply_alike() {
 /// Random bytes of random lengths, and busy halls with random numbers put in: nothing panics, and each number told is the one that the call gives.
 #[test]
 fn bytes_of_any_kind_and_length() {
-    let (sound, mut state) = ([busy_hall().to_bytes(), counting_hall().to_bytes()], 13);
+    let (sound, mut state) = ([busy_hall(), counting_hall(), ranged_hall()].map(|hall| hall.to_bytes()), 13);
     for round in 0..300 {
         let mut bytes: Vec<u8> = match round % 3 {
             0 => (0..any(&mut state) % 120_000).map(|_| any(&mut state) as u8).collect(),
             1 => (0..saved::BYTES).map(|i| if i % 4 == 0 { (any(&mut state) % 5) as u8 } else { 0 }).collect(),
-            _ => sound[round % 2].clone(),
+            _ => sound[round / 3 % 3].clone(),
         };
         for _ in 0..any(&mut state) % 8 {
             let place = (any(&mut state) as usize % 28_400) * 4;

@@ -23,6 +23,35 @@ impl Asked {
     }
 }
 
+/// The range that a begin is given for one column, by its number from 0; sound or not.
+#[derive(Clone, Copy, PartialEq, Eq, Debug)]
+pub struct Within {
+    pub column: u32,
+    pub lowest: u32,
+    pub highest: u32,
+}
+
+/// What a read asks: its query, a count of the records or a list, and the range of one column, if it gives one.
+#[derive(Clone, Copy, PartialEq, Eq, Debug)]
+pub struct Ask {
+    pub asked: Asked,
+    pub counts: bool,
+    pub within: Option<Within>,
+}
+
+impl Ask {
+    /// The begin of a read that asks this.
+    pub fn begin(self, client: u32) -> Call {
+        let asked = self.asked;
+        match (self.counts, self.within) {
+            (false, None) => Call::BeginRead { client, asked },
+            (true, None) => Call::BeginCount { client, asked },
+            (false, Some(within)) => Call::BeginReadWithin { client, asked, within },
+            (true, Some(within)) => Call::BeginCountWithin { client, asked, within },
+        }
+    }
+}
+
 /// A call. client: the desk, 0 to 11 or any other number.
 #[derive(Clone, Copy, PartialEq, Eq, Debug)]
 pub enum Call {
@@ -36,6 +65,16 @@ pub enum Call {
     BeginCount {
         client: u32,
         asked: Asked,
+    },
+    BeginReadWithin {
+        client: u32,
+        asked: Asked,
+        within: Within,
+    },
+    BeginCountWithin {
+        client: u32,
+        asked: Asked,
+        within: Within,
     },
     BeginInsert {
         client: u32,
@@ -74,8 +113,20 @@ pub fn tray_of(length: u32, fill: u32) -> impl Iterator<Item = u32> {
     (0..length).map(move |i| fill.wrapping_add(i.wrapping_mul(0x9E37_79B1)))
 }
 
-pub const KIND_NAMES: [&str; 10] =
-    ["open", "begin_read", "begin_count", "begin_insert", "begin_delete", "step", "abandon", "evict_answer", "evict_node", "renew"];
+pub const KIND_NAMES: [&str; 12] = [
+    "open",
+    "begin_read",
+    "begin_count",
+    "begin_read_within",
+    "begin_count_within",
+    "begin_insert",
+    "begin_delete",
+    "step",
+    "abandon",
+    "evict_answer",
+    "evict_node",
+    "renew",
+];
 
 impl Call {
     /// Its place in `KIND_NAMES`; none for damage.
@@ -84,14 +135,28 @@ impl Call {
             Call::Open { .. } => Some(0),
             Call::BeginRead { .. } => Some(1),
             Call::BeginCount { .. } => Some(2),
-            Call::BeginInsert { .. } => Some(3),
-            Call::BeginDelete { .. } => Some(4),
-            Call::Step { .. } => Some(5),
-            Call::Abandon { .. } => Some(6),
-            Call::EvictAnswer { .. } => Some(7),
-            Call::EvictNode { .. } => Some(8),
-            Call::Renew => Some(9),
+            Call::BeginReadWithin { .. } => Some(3),
+            Call::BeginCountWithin { .. } => Some(4),
+            Call::BeginInsert { .. } => Some(5),
+            Call::BeginDelete { .. } => Some(6),
+            Call::Step { .. } => Some(7),
+            Call::Abandon { .. } => Some(8),
+            Call::EvictAnswer { .. } => Some(9),
+            Call::EvictNode { .. } => Some(10),
+            Call::Renew => Some(11),
             Call::Damage { .. } => None,
+        }
+    }
+
+    /// Of a begin of a read: the desk, and what it asks.
+    pub fn read(&self) -> Option<(u32, Ask)> {
+        let ask = |asked: &Asked, counts, within| Ask { asked: *asked, counts, within };
+        match self {
+            Call::BeginRead { client, asked } => Some((*client, ask(asked, false, None))),
+            Call::BeginCount { client, asked } => Some((*client, ask(asked, true, None))),
+            Call::BeginReadWithin { client, asked, within } => Some((*client, ask(asked, false, Some(*within)))),
+            Call::BeginCountWithin { client, asked, within } => Some((*client, ask(asked, true, Some(*within)))),
+            _ => None,
         }
     }
 
@@ -111,6 +176,8 @@ impl Call {
             Call::Open { k } => side.open(m, *k),
             Call::BeginRead { client, asked } => side.begin_read(m, *client, asked.words()),
             Call::BeginCount { client, asked } => side.begin_count(m, *client, asked.words()),
+            Call::BeginReadWithin { client, asked, within } => side.begin_read_within(m, *client, asked.words(), *within),
+            Call::BeginCountWithin { client, asked, within } => side.begin_count_within(m, *client, asked.words(), *within),
             Call::BeginInsert { client, asked } => side.begin_insert(m, *client, asked.words()),
             Call::BeginDelete { client, asked } => side.begin_delete(m, *client, asked.words()),
             Call::Step { client, .. } => side.step(m, tray, *client),
@@ -139,12 +206,21 @@ impl fmt::Display for Asked {
     }
 }
 
+impl fmt::Display for Within {
+    fn fmt(&self, f: &mut fmt::Formatter) -> fmt::Result {
+        write!(f, "column {} from {} to {}", self.column, self.lowest, self.highest)
+    }
+}
+
 impl fmt::Display for Call {
     fn fmt(&self, f: &mut fmt::Formatter) -> fmt::Result {
         let name = self.kind().map_or("damage", |kind| KIND_NAMES[kind]);
         match self {
             Call::Open { k } => write!(f, "{name} k {k}"),
             Call::BeginRead { client, asked } | Call::BeginCount { client, asked } => write!(f, "{name} desk {client} {asked}"),
+            Call::BeginReadWithin { client, asked, within } | Call::BeginCountWithin { client, asked, within } => {
+                write!(f, "{name} desk {client} {asked} {within}")
+            }
             Call::BeginInsert { client, asked } | Call::BeginDelete { client, asked } => write!(f, "{name} desk {client} {asked}"),
             Call::Step { client, tray, .. } if *tray < 128 => write!(f, "{name} desk {client}, tray of {tray}"),
             Call::Step { client, .. } | Call::Abandon { client } => write!(f, "{name} desk {client}"),

@@ -2,7 +2,7 @@
 //! what they returned, and keeps a plain table of its own; nothing in it leans on the library or the twin. Beside it, filing checks
 //! demand 2's last sentence.
 
-use crate::call::{tray_of, Asked, Call};
+use crate::call::{tray_of, Ask, Asked, Call, Within};
 use crate::filing::{Filing, Wrong};
 use crate::hall::Hall;
 use crate::side::Reply;
@@ -17,7 +17,7 @@ const WRITE_STEPS: u32 = 33;
 pub enum Complaint {
     /// the table memory does not hold the plain table
     Table,
-    /// an answer that was its query's list, or a count that was the list's length, at no moment of its read
+    /// an answer that was the list of what it asks, or a count that was that list's length, at no moment of its read
     Stale { client: u32 },
     /// a step of a count that has written the tray
     Tray { client: u32 },
@@ -55,19 +55,11 @@ impl fmt::Display for Complaint {
 #[derive(Clone, Copy, PartialEq, Eq)]
 enum Kind {
     Read,
-    Count,
     Insert,
     Delete,
 }
 
-impl Kind {
-    /// A count is a read.
-    fn reads(self) -> bool {
-        matches!(self, Kind::Read | Kind::Count)
-    }
-}
-
-/// What a read gets: its query's list, as the numbers of its records, or how many records that list has.
+/// What a read gets: its query's list, of those in its range if it gave one, as the numbers of its records, or how many records that list has.
 #[derive(PartialEq, Eq)]
 enum Value {
     List(Vec<u32>),
@@ -77,7 +69,8 @@ enum Value {
 /// What the plain table notes at a desk. A note that has ended stays until the next begin.
 struct Note {
     kind: Kind,
-    asked: Asked,
+    /// of a write: its query, no count and no range
+    ask: Ask,
     steps: u32,
     ended: bool,
     /// of a read: what would have been right at each moment since its begin; a list that no tray can hold is left out
@@ -96,19 +89,27 @@ pub struct Checker {
     pub answers: u64,
     /// how many of them were counts
     pub counts: u64,
+    /// how many of them were of reads with a range
+    pub ranges: u64,
     filing: Filing,
 }
 
 impl Checker {
     /// At an accepted opening.
     pub fn opened(k: u32) -> Checker {
-        Checker { k: k as usize, plain: Vec::new(), notes: [const { None }; 12], answers: 0, counts: 0, filing: Filing::opened() }
+        let (plain, filing) = (Vec::new(), Filing::opened());
+        Checker { k: k as usize, plain, notes: [const { None }; 12], answers: 0, counts: 0, ranges: 0, filing }
+    }
+
+    /// How many answers were seen, how many of them were counts, and how many of reads with a range.
+    pub fn seen(&self) -> [u64; 3] {
+        [self.answers, self.counts, self.ranges]
     }
 
     /// How many fetches were owed the filed answer by demand 2's last sentence, how many of them of reads begun before the read that
-    /// filed it, and how many of counts.
-    pub fn owed(&self) -> [u64; 3] {
-        [self.filing.owed, self.filing.owed_to_earlier, self.filing.owed_to_counts]
+    /// filed it, how many of counts, and how many of reads with a range.
+    pub fn owed(&self) -> [u64; 4] {
+        [self.filing.owed, self.filing.owed_to_earlier, self.filing.owed_to_counts, self.filing.owed_to_ranges]
     }
 
     /// Before a call of the history.
@@ -128,11 +129,13 @@ impl Checker {
     }
 
     fn feed(&mut self, call: &Call, reply: Reply, hall: &Hall) -> Option<Complaint> {
+        if let Some((client, ask)) = call.read() {
+            self.begin(client, Kind::Read, ask);
+        }
+        let written = |asked: &Asked| Ask { asked: *asked, counts: false, within: None };
         match call {
-            Call::BeginRead { client, asked } => self.begin(*client, Kind::Read, *asked),
-            Call::BeginCount { client, asked } => self.begin(*client, Kind::Count, *asked),
-            Call::BeginInsert { client, asked } => self.begin(*client, Kind::Insert, *asked),
-            Call::BeginDelete { client, asked } => self.begin(*client, Kind::Delete, *asked),
+            Call::BeginInsert { client, asked } => self.begin(*client, Kind::Insert, written(asked)),
+            Call::BeginDelete { client, asked } => self.begin(*client, Kind::Delete, written(asked)),
             Call::Step { client, tray, fill } => {
                 let kept = hall.tray().iter().copied().eq(tray_of(*tray, *fill));
                 return self.step(*client, reply, hall.tray(), kept);
@@ -143,9 +146,9 @@ impl Checker {
         None
     }
 
-    fn begin(&mut self, client: u32, kind: Kind, asked: Asked) {
-        let values = self.value(kind, &asked).into_iter().collect();
-        self.notes[client as usize] = Some(Note { kind, asked, steps: 0, ended: false, values });
+    fn begin(&mut self, client: u32, kind: Kind, ask: Ask) {
+        let values = self.value(kind, &ask).into_iter().collect();
+        self.notes[client as usize] = Some(Note { kind, ask, steps: 0, ended: false, values });
     }
 
     /// kept: the tray is as it was lent
@@ -155,21 +158,21 @@ impl Checker {
             return Some(Complaint::Ending { client });
         };
         note.steps += 1;
-        let (kind, asked, steps) = (note.kind, note.asked, note.steps);
-        if !kind.reads() && steps == (1 << k) + 1 {
-            self.take_effect(kind, asked);
+        let (kind, ask, steps) = (note.kind, note.ask, note.steps);
+        if kind != Kind::Read && steps == (1 << k) + 1 {
+            self.take_effect(kind, ask.asked);
         }
-        if kind == Kind::Count && reply.number == 12 {
+        if ask.counts && reply.number == 12 {
             return Some(Complaint::Long { client });
         }
-        let tray_written = kind == Kind::Count && !kept;
+        let tray_written = ask.counts && !kept;
         self.ending(client, reply, tray).or(tray_written.then_some(Complaint::Tray { client }))
     }
 
     fn ending(&mut self, client: u32, reply: Reply, tray: &[u32]) -> Option<Complaint> {
         let k = self.k;
         let note = self.notes[client as usize].as_mut()?;
-        let reads = note.kind.reads();
+        let reads = note.kind == Kind::Read;
         let ends_read = matches!(reply.ending, 1 | 2) || reply.number == 12;
         let ends_write = matches!(reply.ending, 3 | 4) || reply.number == 13;
         if note.ended || ends_read && !reads || ends_write && reads {
@@ -178,12 +181,11 @@ impl Checker {
         note.ended = ends_read || ends_write;
         if matches!(reply.ending, 1 | 2) {
             self.answers += 1;
-            self.counts += (note.kind == Kind::Count) as u64;
+            self.counts += note.ask.counts as u64;
+            self.ranges += note.ask.within.is_some() as u64;
             let count = reply.count as usize;
-            let got = match note.kind {
-                Kind::Count => Some(Value::Count(count)),
-                _ => tray.get(..count * k).map(|held| Value::List(held.to_vec())),
-            };
+            let list = || tray.get(..count * k).map(|held| Value::List(held.to_vec()));
+            let got = if note.ask.counts { Some(Value::Count(count)) } else { list() };
             if !got.is_some_and(|got| note.values.contains(&got)) {
                 return Some(Complaint::Stale { client });
             }
@@ -219,10 +221,10 @@ impl Checker {
     /// The table has changed: a new moment for each read under way.
     fn note_values(&mut self) {
         for client in 0..12 {
-            let Some((kind, asked)) = self.notes[client].as_ref().filter(|n| !n.ended).map(|n| (n.kind, n.asked)) else {
+            let Some((kind, ask)) = self.notes[client].as_ref().filter(|n| !n.ended).map(|n| (n.kind, n.ask)) else {
                 continue;
             };
-            let value = self.value(kind, &asked);
+            let value = self.value(kind, &ask);
             if let (Some(note), Some(value)) = (&mut self.notes[client], value) {
                 if note.values.last() != Some(&value) {
                     note.values.push(value);
@@ -232,18 +234,18 @@ impl Checker {
     }
 
     /// What is right now: nothing for a write, nor for a list that no tray can hold.
-    fn value(&self, kind: Kind, asked: &Asked) -> Option<Value> {
+    fn value(&self, kind: Kind, ask: &Ask) -> Option<Value> {
         match kind {
-            Kind::Read => self.list(asked).map(Value::List),
-            Kind::Count => Some(Value::Count(self.plain.chunks(self.k).filter(|record| lies(record, asked)).count())),
+            Kind::Read if ask.counts => Some(Value::Count(self.plain.chunks(self.k).filter(|record| belongs(record, ask)).count())),
+            Kind::Read => self.list(ask).map(Value::List),
             Kind::Insert | Kind::Delete => None,
         }
     }
 
-    /// The query's list now, unless no tray can hold it.
-    fn list(&self, asked: &Asked) -> Option<Vec<u32>> {
+    /// The list now of what a read asks, unless no tray can hold it.
+    fn list(&self, ask: &Ask) -> Option<Vec<u32>> {
         let mut list = Vec::new();
-        for record in self.plain.chunks(self.k).filter(|record| lies(record, asked)) {
+        for record in self.plain.chunks(self.k).filter(|record| belongs(record, ask)) {
             if list.len() + self.k > TRAY_MOST {
                 return None;
             }
@@ -256,6 +258,12 @@ impl Checker {
     fn holds(&self, table: &[u32]) -> bool {
         table[0] as usize == self.plain.len() / self.k && table[8..8 + self.plain.len()] == self.plain
     }
+}
+
+/// "exactly the subspace's records within": both ends are included.
+fn belongs(record: &[u32], ask: &Ask) -> bool {
+    let within = |range: Within| record.get(range.column as usize).is_some_and(|value| range.lowest <= *value && *value <= range.highest);
+    lies(record, &ask.asked) && ask.within.is_none_or(within)
 }
 
 /// The record has the named value in each named column.

@@ -2,7 +2,7 @@
 //! It looks at the memories to choose what is worth trying; what it chose is recorded with its arguments. Leans on call, hall and
 //! the twin's layout and queries.
 
-use crate::call::{Asked, Call};
+use crate::call::{Ask, Asked, Call, Within};
 use crate::hall::Hall;
 use crate::rng::Rng;
 use twin::layout::*;
@@ -21,6 +21,8 @@ pub struct Mixing {
     again: u32,
     /// of 16 other reads so many want a count
     counts: u32,
+    /// of 16 other reads so many give a range
+    ranges: u32,
     /// writes keep the table near this many records; 0: they do not care
     band: u32,
     /// of 1,000 calls
@@ -36,9 +38,10 @@ pub struct Mixing {
 
 impl Mixing {
     fn new(k: u32, values: u32, named: u32, kinds: [u32; 3]) -> Mixing {
-        let before_drain = 500;
-        let (again, counts, burst) = (3, 6, (0, 0));
-        Mixing { k, values, named, kinds, again, counts, band: 0, evictions: 20, abandonings: 15, odd: 30, burst, before_drain, draining: 0 }
+        let (again, counts, ranges, band) = (3, 6, 6, 0);
+        let (evictions, abandonings, odd) = (20, 15, 30);
+        let (burst, before_drain, draining) = ((0, 0), 500, 0);
+        Mixing { k, values, named, kinds, again, counts, ranges, band, evictions, abandonings, odd, burst, before_drain, draining }
     }
 
     /// Few values: reads and writes meet all the time.
@@ -161,8 +164,7 @@ impl Mixing {
         let roll = rng.below(reads + inserts + deletes);
         if roll < reads {
             let again = if rng.chance(self.again, 16) { asked_again(rng, hall, self.k) } else { None };
-            let (counts, asked) = again.unwrap_or_else(|| (rng.chance(self.counts, 16), self.query(rng, hall, false)));
-            return begin_read(counts, client, asked);
+            return again.unwrap_or_else(|| self.ask(rng, hall)).begin(client);
         }
         let count = hall.get(0, COUNT);
         let inserting = if self.band > 0 { count < self.band || rng.chance(1, 2) } else { roll < reads + inserts };
@@ -173,6 +175,15 @@ impl Mixing {
             return Call::BeginDelete { client, asked: record_in(rng, hall, self.k) };
         }
         Call::BeginDelete { client, asked: self.query(rng, hall, false) }
+    }
+
+    fn ask(&self, rng: &mut Rng, hall: &Hall) -> Ask {
+        let ask = Ask { counts: rng.chance(self.counts, 16), asked: self.query(rng, hall, false), within: None };
+        if rng.chance(self.ranges, 16) {
+            let ends = [self.value(rng), self.value(rng)];
+            return with_range(rng, self.k, ask, ends);
+        }
+        ask
     }
 
     /// A query that a begin accepts; some of them take up a record that is in the table.
@@ -191,21 +202,42 @@ impl Mixing {
     }
 
     fn value(&self, rng: &mut Rng) -> u32 {
-        if self.values == 0 || rng.chance(1, 256) {
-            rng.any()
-        } else {
-            rng.below(self.values)
+        match rng.below(256) {
+            0 => rng.pick(&[u32::MAX - 1, u32::MAX]),
+            1 => rng.any(),
+            _ if self.values == 0 => rng.any(),
+            _ => rng.below(self.values),
         }
     }
 }
 
-/// A read that wants a count or a list.
-pub fn begin_read(counts: bool, client: u32, asked: Asked) -> Call {
-    if counts {
-        Call::BeginCount { client, asked }
-    } else {
-        Call::BeginRead { client, asked }
-    }
+/// The read with a range between two values, mostly of a column that it does not name; now and then of one that it names or that is none, with
+/// equal ends, of all values, or reversed.
+pub fn with_range(rng: &mut Rng, k: u32, ask: Ask, [one, other]: [u32; 2]) -> Ask {
+    let column = match rng.below(32) {
+        0 => k,
+        1 => rng.pick(&[k + 1, 4, 5, 1 << 27, u32::MAX]),
+        _ => rng.below(k),
+    };
+    let (least, most) = (one.min(other), one.max(other));
+    let (lowest, highest) = match rng.below(32) {
+        0 => (one.saturating_add(1), one),
+        1 => (most, least),
+        2..5 => (one, one),
+        5..8 => (0, u32::MAX),
+        8 => (most, u32::MAX),
+        9 => (0, least),
+        _ => (least, most),
+    };
+    let asked = if rng.chance(1, 32) { ask.asked } else { starred(&ask.asked, column) };
+    Ask { asked, within: Some(Within { column, lowest, highest }), ..ask }
+}
+
+/// The query with a star in this column, if it is one of its own.
+fn starred(asked: &Asked, column: u32) -> Asked {
+    let mut words = asked.words().to_vec();
+    words.chunks_exact_mut(2).skip(column as usize).take(1).for_each(|own| own.fill(0));
+    Asked::new(&words)
 }
 
 /// A step, mostly with a tray of the least length.
@@ -224,8 +256,8 @@ fn record_in(rng: &mut Rng, hall: &Hall, k: u32) -> Asked {
     Asked::new(&words[..2 * k as usize])
 }
 
-/// The query of a filed answer or of a desk that reads, if there is one of k columns; and whether a count is wanted, mostly as it is there.
-fn asked_again(rng: &mut Rng, hall: &Hall, k: u32) -> Option<(bool, Asked)> {
+/// What a filed answer answers or a desk reads, if there is one of k columns; mostly as it is there.
+fn asked_again(rng: &mut Rng, hall: &Hall, k: u32) -> Option<Ask> {
     let (count, client) = (hall.get(2, COUNT).min(ANSWERS as u32), rng.below(12));
     let key = if rng.chance(1, 2) && hall.kind_at(client) == READ {
         hall.clients().get(HEAD + client as usize * CLIENT_WIDTH + CLIENT_ENTRY..)?
@@ -239,7 +271,25 @@ fn asked_again(rng: &mut Rng, hall: &Hall, k: u32) -> Option<(bool, Asked)> {
     for (c, column) in words.chunks_mut(2).enumerate() {
         column.copy_from_slice(&[query.names(c) as u32, query.values[c]]);
     }
-    Some((query.counts != rng.chance(1, 4), Asked::new(&words[..2 * k as usize])))
+    let asked = Asked::new(&words[..2 * k as usize]);
+    let within = query.range.map(|range| Within { column: range.column, lowest: range.lowest, highest: range.highest });
+    let ask = Ask { asked, counts: query.counts != rng.chance(1, 4), within };
+    Some(if rng.chance(1, 4) { with_another_range(rng, k, ask) } else { ask })
+}
+
+/// The same but for its range: none, one that differs in one number, or, where there is none, one of all values.
+fn with_another_range(rng: &mut Rng, k: u32, ask: Ask) -> Ask {
+    let within = match ask.within {
+        Some(range) => match rng.below(5) {
+            0 => None,
+            1 => Some(Within { lowest: range.lowest.wrapping_add(rng.pick(&[1, u32::MAX])), ..range }),
+            2 => Some(Within { highest: range.highest.wrapping_add(rng.pick(&[1, u32::MAX])), ..range }),
+            3 => Some(Within { lowest: range.highest, ..range }),
+            _ => Some(Within { column: rng.below(k), ..range }),
+        },
+        None => Some(Within { column: rng.below(k), lowest: 0, highest: u32::MAX }),
+    };
+    Ask { within, ..ask }
 }
 
 /// A place: of an entry mostly, sometimes just past the last.
@@ -286,12 +336,23 @@ fn odd_query(rng: &mut Rng, k: u32) -> Asked {
     Asked::new(&words[..len as usize])
 }
 
+/// A range that may have any flaw: of a column that is none, or reversed.
+fn odd_range(rng: &mut Rng, k: u32) -> Within {
+    let column = match rng.below(4) {
+        0 => rng.pick(&[k, k + 1, 4, 5, 1 << 27, u32::MAX]),
+        1 => k - 1,
+        _ => rng.below(k),
+    };
+    let mut end = || rng.pick(&[0, 1, 1, 2, 3, u32::MAX - 1, u32::MAX]);
+    Within { column, lowest: end(), highest: end() }
+}
+
 /// A call that is turned down more often than not.
 pub fn odd_call(rng: &mut Rng, hall: &Hall, k: u32) -> Call {
     let (client, asked) = (odd_client(rng), odd_query(rng, k));
-    match rng.below(10) {
+    match rng.below(12) {
         0 => Call::Open { k: rng.pick(&[0, 5, 6, u32::MAX]) },
-        1 => begin_read(rng.chance(1, 2), client, asked),
+        1 => Ask { asked, counts: rng.chance(1, 2), within: None }.begin(client),
         2 => Call::BeginInsert { client, asked },
         3 => Call::BeginDelete { client, asked },
         4 => Call::Step { client: rng.below(12), tray: rng.pick(&[0, 1, 127]), fill: rng.any() },
@@ -299,7 +360,10 @@ pub fn odd_call(rng: &mut Rng, hall: &Hall, k: u32) -> Call {
         6 => Call::Abandon { client },
         7 => Call::EvictAnswer { place: rng.pick(&[hall.get(2, COUNT), 64, u32::MAX]) },
         8 => Call::EvictNode { place: rng.pick(&[hall.get(1, NODE_COUNT), 1024, u32::MAX]) },
-        _ => Call::Renew,
+        9 => Call::Renew,
+        10 => Ask { asked, within: Some(odd_range(rng, k)), counts: rng.chance(1, 2) }.begin(client),
+        // here the query is sound, so that the range alone may be turned down
+        _ => Ask { asked: plain_query(rng, k, 3, 10), counts: rng.chance(1, 2), within: Some(odd_range(rng, k)) }.begin(client),
     }
 }
 
@@ -313,7 +377,7 @@ pub fn any_call(rng: &mut Rng, hall: &Hall) -> Call {
     let (client, values) = (rng.below(13), rng.pick(&[1, 3, 6]));
     match rng.below(24) {
         0 => Call::Open { k: rng.below(6) },
-        1..4 => begin_read(rng.chance(1, 2), client, plain_query(rng, k, values, 10)),
+        1..4 => any_ask(rng, k, values).begin(client),
         4..7 => Call::BeginInsert { client, asked: plain_query(rng, k, values, 16) },
         7..9 => Call::BeginDelete { client, asked: plain_query(rng, k, values, 10) },
         9 => Call::EvictAnswer { place: place(rng, hall.get(2, COUNT)) },
@@ -321,6 +385,17 @@ pub fn any_call(rng: &mut Rng, hall: &Hall) -> Call {
         11 => Call::Renew,
         12..15 => Call::Abandon { client },
         _ => step(rng, client),
+    }
+}
+
+/// What a read of a query of k columns may ask; a third of them with a range.
+pub fn any_ask(rng: &mut Rng, k: u32, values: u32) -> Ask {
+    let ask = Ask { counts: rng.chance(1, 2), asked: plain_query(rng, k, values, 10), within: None };
+    let ends = [rng.below(values), rng.below(values)];
+    if rng.chance(1, 3) {
+        with_range(rng, k, ask, ends)
+    } else {
+        ask
     }
 }
 

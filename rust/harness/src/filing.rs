@@ -9,26 +9,19 @@
 //! As the sentence is read here (docs/DECISIONS.md, R-22; crates/demands/specs/Demand2.antt): a write counts that is open at any moment from
 //! just after the earlier begin to just before the fetch, abandoned later or not; one that ends just before the earlier begin does not. "gets
 //! it" is the filing read's list, from file, and the rest of the tray as it was; of a count (S-1) the filing count's number, and all of the
-//! tray as it was. An answer is filed for what a read asks: its query and which of the two it wants. Leans on call and hall; on nothing of the
-//! library or the twin.
+//! tray as it was. An answer is filed for what a read asks: its query, which of the two it wants, and its range (S-3). A write meets a read with
+//! a range if it meets the query, in which that column is a star, whatever it writes there. Leans on call and hall; on nothing of the library or
+//! the twin.
 
-use crate::call::{tray_of, Asked, Call};
+use crate::call::{tray_of, Ask, Asked, Call};
 use crate::hall::Hall;
 use crate::side::Reply;
 use std::collections::HashSet;
 
-/// What a read asks.
-#[derive(Clone, Copy, PartialEq, Eq)]
-struct Ask {
-    asked: Asked,
-    /// a count is wanted, not a list
-    counts: bool,
-}
-
 /// What is under way at a desk: a write is open until it is taken away.
 struct Work {
     reads: bool,
-    /// of a write: its query, and no count
+    /// of a write: its query, no count and no range
     ask: Ask,
     steps: u32,
     /// which call began it
@@ -74,13 +67,15 @@ pub struct Filing {
     pub owed_to_earlier: u64,
     /// how many of them were of counts
     pub owed_to_counts: u64,
+    /// how many of them were of reads with a range
+    pub owed_to_ranges: u64,
 }
 
 impl Filing {
     /// At an accepted opening.
     pub fn opened() -> Filing {
-        let (filed, labels) = (Vec::new(), Vec::new());
-        Filing { clients: [const { None }; 12], filed, labels, finds: false, calls: 0, owed: 0, owed_to_earlier: 0, owed_to_counts: 0 }
+        let (clients, filed, labels) = ([const { None }; 12], Vec::new(), Vec::new());
+        Filing { clients, filed, labels, finds: false, calls: 0, owed: 0, owed_to_earlier: 0, owed_to_counts: 0, owed_to_ranges: 0 }
     }
 
     /// Just before a call of the history.
@@ -109,11 +104,12 @@ impl Filing {
     }
 
     fn feed(&mut self, call: &Call, reply: Reply, hall: &Hall) -> Option<(u32, Wrong)> {
+        if let Some((client, ask)) = call.read() {
+            self.begin_read(client, ask);
+        }
         match call {
-            Call::BeginRead { client, asked } => self.begin_read(*client, Ask { asked: *asked, counts: false }),
-            Call::BeginCount { client, asked } => self.begin_read(*client, Ask { asked: *asked, counts: true }),
             Call::BeginInsert { client, asked } | Call::BeginDelete { client, asked } => {
-                let ask = Ask { asked: *asked, counts: false };
+                let ask = Ask { asked: *asked, counts: false, within: None };
                 self.clients[*client as usize] = Some(Work { reads: false, ask, steps: 0, begun: self.calls, quiescent: false });
                 self.disturb(|query| meet(asked, query));
             }
@@ -155,6 +151,7 @@ impl Filing {
             self.owed += 1;
             self.owed_to_earlier += (work.begun < filed.begun) as u64;
             self.owed_to_counts += work.ask.counts as u64;
+            self.owed_to_ranges += work.ask.within.is_some() as u64;
             return (!gets_it).then_some(Wrong::NotFetched);
         }
         (reply.ending == 1 && !gets_it).then_some(Wrong::NotFiled)
@@ -223,9 +220,11 @@ fn is_node_of(label: &Label, asked: &Asked) -> bool {
 }
 
 /// The answers memory holds an entry with this key: how many at place 0, 152 numbers each from place 8 on; the key is the named columns as
-/// bits and the bit after those of four columns for a count, four values, and two numbers that are 0.
+/// bits, the bit after those of four columns for a count, and above it the column of a range plus 1; four values; the range's ends, 0
+/// without one.
 fn is_filed(answers: &[u32], ask: &Ask) -> bool {
-    let mut key = [(ask.counts as u32) << 4, 0, 0, 0, 0, 0, 0];
+    let (column, lowest, highest) = ask.within.map_or((0, 0, 0), |range| (range.column + 1, range.lowest, range.highest));
+    let mut key = [(ask.counts as u32) << 4 | column << 5, 0, 0, 0, 0, lowest, highest];
     for (c, column) in ask.asked.words().chunks(2).enumerate() {
         key[0] |= column[0] << c;
         key[1 + c] = column[1];

@@ -113,9 +113,10 @@ fn in_node(at: usize) -> String {
 
 fn in_entry(at: usize) -> String {
     match at {
-        0 => "marks of the query, what is wanted".to_string(),
+        0 => "marks of the query, what is wanted, column of a range".to_string(),
         1..=4 => format!("value of column {}", at - 1),
-        5 | 6 => "kept number of the key".to_string(),
+        KEY_LOWEST => "lowest of a range".to_string(),
+        KEY_HIGHEST => "highest of a range".to_string(),
         ENTRY_LENGTH => "list length or count".to_string(),
         ENTRY_REVISIONS..ENTRY_LIST => format!("revision {}", at - ENTRY_REVISIONS),
         _ => format!("list, number {}", at - ENTRY_LIST),

@@ -1,5 +1,6 @@
 //! The library as one side of a comparison, through the safe crate over its exported interface. Leans on side and mondzafeky.
 
+use crate::call::Within;
 use crate::side::{Lent, Reply, Side};
 use mondzafeky::Memories;
 
@@ -22,6 +23,12 @@ impl Side for Library {
     }
     fn begin_count(&self, m: Lent, client: u32, query: &[u32]) -> Reply {
         plain(over(m).begin_count(client, query))
+    }
+    fn begin_read_within(&self, m: Lent, client: u32, query: &[u32], within: Within) -> Reply {
+        plain(over(m).begin_read_within(client, query, within.column, within.lowest..=within.highest))
+    }
+    fn begin_count_within(&self, m: Lent, client: u32, query: &[u32], within: Within) -> Reply {
+        plain(over(m).begin_count_within(client, query, within.column, within.lowest..=within.highest))
     }
     fn begin_insert(&self, m: Lent, client: u32, query: &[u32]) -> Reply {
         plain(over(m).begin_insert(client, query))

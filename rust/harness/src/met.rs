@@ -6,11 +6,14 @@ use crate::run::{Tally, SORTS};
 use crate::seen::LIMITS;
 use crate::start;
 
-/// The numbers that each kind of call can return, in the order of `KIND_NAMES`: document 01, "What the controller turns down".
+/// The numbers that each kind of call can return, in the order of `KIND_NAMES`: document 01, "What the controller turns down",
+/// and document 02, S-3.
 const NUMBERS: [&[usize]; KIND_NAMES.len()] = [
     &[0, 1, 2],
     &[0, 1, 2, 3, 4, 5],
     &[0, 1, 2, 3, 4, 5],
+    &[0, 1, 2, 3, 4, 5, 14],
+    &[0, 1, 2, 3, 4, 5, 14],
     &[0, 1, 2, 3, 4, 5, 10],
     &[0, 1, 2, 3, 4, 5, 10],
     &[0, 1, 3, 4, 6, 12, 13],
@@ -22,10 +25,11 @@ const NUMBERS: [&[usize]; KIND_NAMES.len()] = [
 
 const ENDINGS: [&str; 5] = ["nothing ended", "answered from file", "answered from the table", "a write changed the table", "a write did not"];
 
-/// How many fetches a long run must have owed the filed answer, how many of them to reads begun before the filing read, how many to counts:
-/// fewer would try demand 2's last sentence too little. And how many counts the checker of demand 3 must have looked at.
-const OWED: [u64; 3] = [2000, 200, 500];
-const COUNTS: u64 = 5000;
+/// How many fetches a long run must have owed the filed answer, how many of them to reads begun before the filing read, how many to counts,
+/// how many to reads with a range: fewer would try demand 2's last sentence too little. And how many counts and how many ranges the checker of
+/// demand 3 must have looked at.
+const OWED: [u64; 4] = [2000, 200, 500, 300];
+const SEEN: [u64; 2] = [5000, 3000];
 
 /// What is not met, by name.
 pub fn unmet(tally: &Tally) -> Vec<String> {
@@ -56,9 +60,11 @@ pub fn unmet(tally: &Tally) -> Vec<String> {
     if let Some(way) = tally.ways.iter().position(|made| !made) {
         ask(false, format!("way of lengths not made, the first: {:?}", start::lengths(way)));
     }
-    for ((owed, least), whose) in tally.owed.iter().zip(OWED).zip(["", " of reads begun before the filing one", " of counts"]) {
+    for ((owed, least), whose) in tally.owed.iter().zip(OWED).zip(["", " of reads begun before the filing one", " of counts", " of ranges"]) {
         ask(*owed >= least, format!("fetches{whose} owed the filed answer: {owed}, at least {least} are asked"));
     }
-    ask(tally.checked[1] >= COUNTS, format!("counts of histories looked at: {}, at least {COUNTS} are asked", tally.checked[1]));
+    for ((seen, least), what) in tally.checked[1..].iter().zip(SEEN).zip(["counts", "ranges"]) {
+        ask(*seen >= least, format!("{what} of histories looked at: {seen}, at least {least} are asked"));
+    }
     unmet
 }

@@ -4,7 +4,7 @@ use crate::call::{Call, KIND_NAMES};
 use crate::check::Complaint;
 use crate::hall::{describe, Hall, MEMORY_NAMES};
 use crate::histories::{complaint_in, Findings};
-use crate::run::{difference_in, Difference, Failure, Tally, SORTS};
+use crate::run::{difference_in, Difference, Failure, Tally, NUMBERS, SORTS};
 use crate::seen::LIMITS;
 use crate::shrink::{shorten, Script};
 use crate::side::{Reply, Side};
@@ -36,9 +36,9 @@ pub fn print_tally(tally: &Tally, checked: bool) {
     let by_columns: Vec<String> = (1..5).map(|k| format!("k {k}: {}", grouped(tally.calls_of_columns[k]))).collect();
     println!("calls by the hall's columns: {}", by_columns.join(", "));
     println!("calls by number returned:");
-    println!("  {:<14}{}", "", (0..14).map(|n| format!("{n:>8}")).collect::<String>());
+    println!("  {:<18}{}", "", (0..NUMBERS).map(|n| format!("{n:>8}")).collect::<String>());
     for (name, row) in KIND_NAMES.iter().zip(&tally.outcomes) {
-        println!("  {name:<14}{}", row.iter().map(|count| format!("{count:>8}")).collect::<String>());
+        println!("  {name:<18}{}", row.iter().map(|count| format!("{count:>8}")).collect::<String>());
     }
     let [none, filed, table, changed, unchanged] = tally.endings.map(grouped);
     println!("endings: {filed} answered from file, {table} answered from the table, {changed} writes changed the table, {unchanged} did not,");
@@ -50,9 +50,10 @@ pub fn print_tally(tally: &Tally, checked: bool) {
     println!("  ways of lengths 0, least-1, least, least+1: {} of 256", tally.ways.iter().filter(|way| **way).count());
     println!("{} calls, {} numbers compared", grouped(tally.calls), grouped(tally.numbers));
     if checked {
-        let ([checked, counts], [owed, earlier, of_counts]) = (tally.checked.map(grouped), tally.owed.map(grouped));
-        println!("checkers: {checked} answers of histories looked at, {counts} of them counts; {owed} fetches owed the filed answer,");
-        println!("  {earlier} of them of reads begun before the read that filed it, {of_counts} of counts");
+        let ([checked, counts, ranges], [owed, earlier, of_counts, of_ranges]) = (tally.checked.map(grouped), tally.owed.map(grouped));
+        println!("checkers: {checked} answers of histories looked at, {counts} of them counts, {ranges} of reads with a range;");
+        println!("  {owed} fetches owed the filed answer, {earlier} of them of reads begun before the read that filed it, {of_counts} of counts,");
+        println!("  {of_ranges} of reads with a range");
     }
 }
 

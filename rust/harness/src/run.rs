@@ -1,6 +1,6 @@
 //! A run: scripts of five sorts, drawn from a seed, made on both sides and compared after each call. Leans on all but report.
 
-use crate::call::{Call, KIND_NAMES};
+use crate::call::{Ask, Call, KIND_NAMES};
 use crate::check::{Checker, Complaint};
 use crate::draw::{self, Mixing};
 use crate::hall::Hall;
@@ -15,6 +15,9 @@ use std::time::{Duration, Instant};
 /// The sorts of scripts, and how many of 100 calls each is given.
 pub const SORTS: [(&str, i64); 5] =
     [("histories from an opening", 50), ("halls near a limit", 18), ("noise", 12), ("damaged halls", 14), ("lengths", 6)];
+
+/// The numbers that a call can return: 0 to 14.
+pub const NUMBERS: usize = 15;
 
 /// How long a run says nothing.
 const PATIENCE: Duration = Duration::from_secs(8);
@@ -31,15 +34,16 @@ pub struct Tally {
     /// by the k that the hall has after the call
     pub calls_of_columns: [u64; 5],
     /// by kind of call and number returned
-    pub outcomes: [[u64; 14]; KIND_NAMES.len()],
+    pub outcomes: [[u64; NUMBERS]; KIND_NAMES.len()],
     pub endings: [u64; 5],
     pub limits: [u64; LIMITS.len()],
     /// ways to give the four memories lengths, of 256
     pub ways: [bool; 256],
-    /// answers that the checker has looked at, and those of them that are counts
-    pub checked: [u64; 2],
-    /// fetches that demand 2's last sentence owed the filed answer, those of them of reads begun before the filing read, those of counts
-    pub owed: [u64; 3],
+    /// answers that the checker has looked at, those of them that are counts, those of reads with a range
+    pub checked: [u64; 3],
+    /// fetches that demand 2's last sentence owed the filed answer, those of them of reads begun before the filing read, those of counts,
+    /// those of reads with a range
+    pub owed: [u64; 4],
 }
 
 impl Tally {
@@ -52,12 +56,12 @@ impl Tally {
             calls_of_sort: [0; 5],
             accepted_of_sort: [0; 5],
             calls_of_columns: [0; 5],
-            outcomes: [[0; 14]; KIND_NAMES.len()],
+            outcomes: [[0; NUMBERS]; KIND_NAMES.len()],
             endings: [0; 5],
             limits: [0; LIMITS.len()],
             ways: [false; 256],
-            checked: [0; 2],
-            owed: [0; 3],
+            checked: [0; 3],
+            owed: [0; 4],
         }
     }
 }
@@ -181,9 +185,9 @@ impl<'a> Run<'a> {
         let Some(checker) = &mut made.checker else {
             return Ok(());
         };
-        let (seen, owed) = ([checker.answers, checker.counts], checker.owed());
+        let (seen, owed) = (checker.seen(), checker.owed());
         let complaint = checker.after(call, reply, &made.left);
-        add(&mut self.tally.checked, [checker.answers, checker.counts], seen);
+        add(&mut self.tally.checked, checker.seen(), seen);
         add(&mut self.tally.owed, checker.owed(), owed);
         match complaint {
             Some(complaint) => Err(made.failure(Some(complaint))),
@@ -271,9 +275,12 @@ impl<'a> Run<'a> {
             self.make(&mut made, Call::Step { client, tray: [0, 127, 128, 129][step], fill })?;
         }
         let (client, asked) = (self.rng.below(12), draw::plain_query(&mut self.rng, k, 4, 16));
-        let counts = self.rng.chance(1, 2);
-        self.make(&mut made, draw::begin_read(counts, client, asked))?;
-        self.make(&mut made, draw::begin_read(!counts, client, asked))?;
+        let ask = Ask { asked, counts: self.rng.chance(1, 2), within: None };
+        let ranged = draw::with_range(&mut self.rng, k, ask, [1, 3]);
+        for ask in [ask, ranged] {
+            self.make(&mut made, ask.begin(client))?;
+            self.make(&mut made, Ask { counts: !ask.counts, ..ask }.begin(client))?;
+        }
         self.make(&mut made, Call::BeginInsert { client, asked })?;
         self.make(&mut made, Call::BeginDelete { client, asked })?;
         // what else would be turned down, or not: 1 goes before it

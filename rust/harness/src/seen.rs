@@ -1,14 +1,15 @@
-//! Which limits of document 01 a run has met, on which side. It looks at one hall before and after a call; the other is the same.
-//! Leans on call, hall and the twin's layout and queries.
+//! Which limits of document 01, and of S-1 and S-3 in document 02, a run has met, on which side. It looks at one hall before and after a call;
+//! the other is the same. Leans on call, hall and the twin's layout, queries and ranges.
 
-use crate::call::Call;
+use crate::call::{Asked, Call, Within};
 use crate::hall::{Hall, LEAST};
 use crate::side::Reply;
 use twin::layout::*;
 use twin::query::Query;
+use twin::range::Range;
 use twin::PLAIN;
 
-pub const LIMITS: [&str; 30] = [
+pub const LIMITS: [&str; 45] = [
     "a list of 32 records is taken",
     "33 records: 12",
     "an insert at 2,047 records goes in",
@@ -39,6 +40,21 @@ pub const LIMITS: [&str; 30] = [
     "the longest filed count is 2,049: 3",
     "the called desk holds a count of 2,048",
     "the called desk holds a count of 2,049: 3",
+    "a range, and a record one below its lowest",
+    "a range, and a record one above its highest",
+    "a range, and a record at its lowest",
+    "a range, and a record at its highest",
+    "32 records within a range are listed",
+    "33 records within a range: 12",
+    "a count within a range above 32",
+    "a range with equal ends begins",
+    "a range reversed by one: 14",
+    "a range of all values begins",
+    "a range of column k - 1 begins",
+    "a range of column k: 2",
+    "a range of a named column: 2",
+    "the called desk holds a range reversed by one: 3",
+    "the called desk holds a range of column k: 3",
 ];
 
 /// What is known before a call.
@@ -58,6 +74,15 @@ pub enum Before {
     CountTable {
         matches: usize,
     },
+    /// the table step of a read with a range: records of its subspace that stand at an edge of it, the first of the four sorts in `LIMITS`
+    RangeTable {
+        counts: bool,
+        matches: usize,
+        edge: Option<usize>,
+    },
+    /// the called desk reads and holds a range of column k, or one that is reversed by one
+    HoldsColumn,
+    HoldsReversed,
     /// the called desk holds a count of all records, or of one more
     Holds {
         count: usize,
@@ -110,8 +135,9 @@ fn before_filed(hall: &Hall) -> Before {
 
 fn before_step(client: u32, hall: &Hall) -> Before {
     let own = &hall.clients()[HEAD + client as usize * CLIENT_WIDTH..][..CLIENT_WIDTH];
-    let Some(query) = Query::kept(hall.columns() as usize, own[CLIENT_ENTRY..].first_chunk().unwrap()) else {
-        return Before::Nothing;
+    let key = own[CLIENT_ENTRY..].first_chunk().unwrap();
+    let Some(query) = Query::kept(hall.columns() as usize, key) else {
+        return if own[CLIENT_KIND] == READ { before_unsound(hall, key) } else { Before::Nothing };
     };
     let (kind, steps, nodes) = (own[CLIENT_KIND], own[CLIENT_STEPS], hall.nodes()[NODE_COUNT]);
     let node = |label| twin::nodes::find(hall.nodes(), &label).map(|place| twin::nodes::all(hall.nodes())[place]);
@@ -120,6 +146,9 @@ fn before_step(client: u32, hall: &Hall) -> Before {
     match kind {
         READ if query.counts && (length == RECORDS || length == RECORDS + 1) => Before::Holds { count: length },
         READ if steps < looks => Before::Look { missing: node(query.read_label(steps)).is_none(), nodes },
+        READ if steps == looks + 1 && query.range.is_some() => {
+            Before::RangeTable { counts: query.counts, matches: matches(hall, &query), edge: edge(hall, &query) }
+        }
         READ if steps == looks + 1 && query.counts => Before::CountTable { matches: matches(hall, &query) },
         READ if steps == looks + 1 => Before::ReadTable { matches: matches(hall, &query) },
         READ if steps == looks + 2 => Before::File { kept: hall.answers()[COUNT] },
@@ -135,10 +164,31 @@ fn before_step(client: u32, hall: &Hall) -> Before {
     }
 }
 
+/// What is wrong with a desk's range.
+fn before_unsound(hall: &Hall, key: &[u32; KEY_WIDTH]) -> Before {
+    match Range::kept(key) {
+        Some(range) if range.column == hall.columns() => Before::HoldsColumn,
+        Some(range) if range.highest.checked_add(1) == Some(range.lowest) => Before::HoldsReversed,
+        _ => Before::Nothing,
+    }
+}
+
+/// The records of the query's subspace, whatever its range.
+fn records<'a>(hall: &'a Hall, query: &'a Query) -> impl Iterator<Item = &'a [u32]> {
+    let all = hall.table()[HEAD..].chunks(query.k).take(hall.table()[COUNT] as usize);
+    all.filter(|r| (0..query.k).all(|c| !query.names(c) || r[c] == query.values[c]))
+}
+
 fn matches(hall: &Hall, query: &Query) -> usize {
-    let count = hall.table()[COUNT] as usize;
-    let records = hall.table()[HEAD..].chunks(query.k).take(count);
-    records.filter(|r| (0..query.k).all(|c| !query.names(c) || r[c] == query.values[c])).count()
+    let within = |range: Range, r: &[u32]| (range.lowest..=range.highest).contains(&r[range.column as usize]);
+    records(hall, query).filter(|r| query.range.is_none_or(|range| within(range, r))).count()
+}
+
+/// One below, one above, at the lowest, at the highest: the first that a record of the subspace is.
+fn edge(hall: &Hall, query: &Query) -> Option<usize> {
+    let range = query.range?;
+    let edges = [range.lowest.checked_sub(1), range.highest.checked_add(1), Some(range.lowest), Some(range.highest)];
+    edges.iter().position(|edge| edge.is_some_and(|value| records(hall, query).any(|r| r[range.column as usize] == value)))
 }
 
 /// Which limit the call has met, as a place in `LIMITS`.
@@ -170,7 +220,15 @@ pub fn limit_met(call: &Call, before: Before, reply: Reply, hall: &Hall) -> Opti
         (Before::Filed { count }, 3) if count == RECORDS + 1 => Some(27),
         (Before::Holds { count: RECORDS }, 0) => Some(28),
         (Before::Holds { count }, 3) if count == RECORDS + 1 => Some(29),
-        _ => by_argument(call, accepted, reply.number),
+        (Before::RangeTable { counts, matches, edge }, number) => match (counts, matches, number) {
+            (false, 32, 0) => Some(34),
+            (false, 33, 12) => Some(35),
+            (true, 33.., 0) => Some(36),
+            _ => edge.map(|edge| 30 + edge),
+        },
+        (Before::HoldsReversed, 3) => Some(43),
+        (Before::HoldsColumn, 3) => Some(44),
+        _ => by_argument(call, accepted, reply.number, hall.columns()),
     }
 }
 
@@ -181,8 +239,9 @@ fn client_of(call: &Call, hall: &Hall, at: usize) -> u32 {
     }
 }
 
-fn by_argument(call: &Call, accepted: bool, number: u32) -> Option<usize> {
+fn by_argument(call: &Call, accepted: bool, number: u32, k: u32) -> Option<usize> {
     match call {
+        Call::BeginReadWithin { asked, within, .. } | Call::BeginCountWithin { asked, within, .. } => by_range(asked, within, number, k),
         Call::Step { tray: 127, .. } if number == 1 => Some(22),
         Call::Step { client, .. } | Call::BeginRead { client, .. } | Call::BeginCount { client, .. } | Call::Abandon { client } => {
             match (client, number) {
@@ -195,6 +254,22 @@ fn by_argument(call: &Call, accepted: bool, number: u32) -> Option<usize> {
         Call::Open { k: 4 } if accepted => Some(19),
         Call::Open { k: 0 } if number == 2 => Some(20),
         Call::Open { k: 5 } if number == 2 => Some(21),
+        _ => None,
+    }
+}
+
+/// Of a begin with a query of k columns.
+fn by_range(asked: &Asked, within: &Within, number: u32, k: u32) -> Option<usize> {
+    let marks: Vec<u32> = asked.words().chunks(2).map(|column| column[0]).collect();
+    let sound = asked.words().len() as u64 == 2 * k as u64 && marks.iter().all(|mark| *mark < 2);
+    let (column, lowest, highest) = (within.column, within.lowest, within.highest);
+    match number {
+        0 if lowest == highest => Some(37),
+        14 if highest.checked_add(1) == Some(lowest) => Some(38),
+        0 if (lowest, highest) == (0, u32::MAX) => Some(39),
+        0 if column + 1 == k => Some(40),
+        2 if sound && column == k => Some(41),
+        2 if sound && marks.get(column as usize) == Some(&1) => Some(42),
         _ => None,
     }
 }

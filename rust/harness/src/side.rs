@@ -1,5 +1,6 @@
-//! One side of a comparison: the ten calls, one method each. The twin with each fault is one. Leans on the twin.
+//! One side of a comparison: the twelve calls, one method each. The twin with each fault is one. Leans on the twin, and on call for a range.
 
+use crate::call::Within;
 use twin::{Fault, Memories};
 
 pub use twin::Reply;
@@ -17,6 +18,8 @@ pub trait Side {
     fn open(&self, m: Lent, k: u32) -> Reply;
     fn begin_read(&self, m: Lent, client: u32, query: &[u32]) -> Reply;
     fn begin_count(&self, m: Lent, client: u32, query: &[u32]) -> Reply;
+    fn begin_read_within(&self, m: Lent, client: u32, query: &[u32], within: Within) -> Reply;
+    fn begin_count_within(&self, m: Lent, client: u32, query: &[u32], within: Within) -> Reply;
     fn begin_insert(&self, m: Lent, client: u32, query: &[u32]) -> Reply;
     fn begin_delete(&self, m: Lent, client: u32, query: &[u32]) -> Reply;
     fn step(&self, m: Lent, tray: &mut [u32], client: u32) -> Reply;
@@ -45,6 +48,12 @@ impl<const FAULT: u8> Side for Twin<FAULT> {
     fn begin_count(&self, m: Lent, client: u32, query: &[u32]) -> Reply {
         Self::over(m).begin_count(client, query)
     }
+    fn begin_read_within(&self, m: Lent, client: u32, query: &[u32], within: Within) -> Reply {
+        Self::over(m).begin_read_within(client, query, within.column, within.lowest, within.highest)
+    }
+    fn begin_count_within(&self, m: Lent, client: u32, query: &[u32], within: Within) -> Reply {
+        Self::over(m).begin_count_within(client, query, within.column, within.lowest, within.highest)
+    }
     fn begin_insert(&self, m: Lent, client: u32, query: &[u32]) -> Reply {
         Self::over(m).begin_insert(client, query)
     }
@@ -68,8 +77,8 @@ impl<const FAULT: u8> Side for Twin<FAULT> {
     }
 }
 
-/// The faults by name; the first five are those of document 01, the last two of counts (S-1).
-pub const FAULTS: [(&str, Fault); 8] = [
+/// The faults by name; the first five are those of document 01, the last four of counts (S-1) and of ranges (S-3).
+pub const FAULTS: [(&str, Fault); 10] = [
     ("early-raise", Fault::EarlyRaise),
     ("back-at-one", Fault::BackAtOne),
     ("one-bit", Fault::OneBit),
@@ -78,6 +87,8 @@ pub const FAULTS: [(&str, Fault); 8] = [
     ("no-marks", Fault::NoPending),
     ("one-key", Fault::OneKey),
     ("count-on-tray", Fault::CountOnTray),
+    ("plain-key", Fault::PlainKey),
+    ("wide-range", Fault::WideRange),
 ];
 
 pub fn fault_named(name: &str) -> Option<Fault> {
@@ -96,5 +107,7 @@ pub fn twin_with(fault: Fault) -> &'static dyn Side {
         Fault::NoPending => &Twin::<{ Fault::NoPending as u8 }>,
         Fault::OneKey => &Twin::<{ Fault::OneKey as u8 }>,
         Fault::CountOnTray => &Twin::<{ Fault::CountOnTray as u8 }>,
+        Fault::PlainKey => &Twin::<{ Fault::PlainKey as u8 }>,
+        Fault::WideRange => &Twin::<{ Fault::WideRange as u8 }>,
     }
 }

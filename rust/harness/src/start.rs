@@ -7,6 +7,7 @@ use crate::hall::{Hall, LEAST};
 use crate::rng::Rng;
 use twin::layout::*;
 use twin::query::{Label, Query};
+use twin::range::Range;
 use twin::PLAIN;
 
 /// Numbers at which something changes.
@@ -133,7 +134,8 @@ fn seat(rng: &mut Rng, hall: &mut Hall, client: usize) {
     let k = hall.columns();
     let kind = 1 + rng.below(3);
     let asked = plain_query(rng, k, 3, if kind == INSERT { 16 } else { 10 });
-    let query = Query { counts: kind == READ && rng.chance(1, 2), ..Query::arrived(k as usize, asked.words()) };
+    let plain = Query::arrived(k as usize, asked.words());
+    let query = if kind == READ { Query { counts: rng.chance(1, 2), range: range_for(rng, &plain), ..plain } } else { plain };
     let last = if kind == READ { query.looks() + 3 } else { 2 * query.announcements() + 1 };
     let steps = if rng.chance(1, 3) { last - 1 - rng.below(last.min(3)) } else { rng.below(last) };
     let place = HEAD + client * CLIENT_WIDTH;
@@ -154,10 +156,21 @@ fn seat(rng: &mut Rng, hall: &mut Hall, client: usize) {
     }
 }
 
-/// One number of a desk just out of range: kind, step, length, or one of the key. (A reader's that gets or loses the bit of a count may be
-/// in range still.)
+/// For some queries with a star in the column that is drawn, a range of it.
+fn range_for(rng: &mut Rng, query: &Query) -> Option<Range> {
+    let column = rng.below(query.k as u32);
+    let (lowest, highest) = (rng.below(3), rng.pick(&[2, 3, 40, u32::MAX]));
+    (!query.names(column as usize) && rng.chance(2, 3)).then_some(Range { column, lowest, highest })
+}
+
+/// One number of a desk just out of range: kind, step, length, or one of the key. (A reader's that gets or loses the bit of a count, or
+/// whose range is another, may be in range still.)
 fn spoil(rng: &mut Rng, own: &mut [u32], last: u32) {
-    let (place, value) = match rng.below(8) {
+    let (place, value) = match rng.below(14) {
+        8.. => {
+            let (at, value) = spoilt_range(rng, &own[CLIENT_ENTRY..]);
+            (CLIENT_ENTRY + at, value)
+        }
         7 => (CLIENT_ENTRY, own[CLIENT_ENTRY] ^ COUNT_BIT),
         0 => (CLIENT_KIND, rng.pick(&[0, 4])),
         6 => {
@@ -167,15 +180,31 @@ fn spoil(rng: &mut Rng, own: &mut [u32], last: u32) {
         }
         1 => (CLIENT_STEPS, last),
         2 => (CLIENT_ENTRY + ENTRY_LENGTH, most(own[CLIENT_ENTRY]) + 1),
-        3 => (CLIENT_ENTRY, own[CLIENT_ENTRY] ^ 1 << rng.below(6)),
+        3 => (CLIENT_ENTRY, own[CLIENT_ENTRY] ^ 1 << rng.below(9)),
         4 => (CLIENT_ENTRY + 1 + rng.below(4) as usize, 1 + rng.below(3)),
         _ => (CLIENT_ENTRY + 5 + rng.below(2) as usize, 1),
     };
     own[place] = value;
 }
 
+/// A number of a key that is its range's or gives it one: its place in the key, and another number, on either side of what is in range.
+fn spoilt_range(rng: &mut Rng, key: &[u32]) -> (usize, u32) {
+    let (first, lowest, highest) = (key[0], key[KEY_LOWEST], key[KEY_HIGHEST]);
+    let column = (first / RANGE_UNIT).saturating_sub(1) % 4;
+    match rng.below(8) {
+        0 => (0, first % RANGE_UNIT + RANGE_UNIT * rng.below(7)),
+        1 => (0, first.wrapping_add(RANGE_UNIT)),
+        2 => (0, first | 1 << column),
+        3 => (KEY_LOWEST, highest.wrapping_add(1)),
+        4 => (KEY_LOWEST, highest),
+        5 => (KEY_HIGHEST, lowest.wrapping_sub(1)),
+        6 => (KEY_HIGHEST, lowest),
+        _ => (0, first ^ RANGE_UNIT << rng.below(27)),
+    }
+}
+
 /// Some of a read's nodes are there, marked or not. Some reads find answers filed under their key, one or several, with revisions near those
-/// noted; or under the key of a count where a list is wanted, and the other way round.
+/// noted; or under the key of a count where a list is wanted, and the other way round; or under one whose range is another or senseless.
 fn seat_read(rng: &mut Rng, hall: &mut Hall, place: usize, query: &Query) {
     for number in 0..query.looks() {
         if rng.chance(1, 4) {
@@ -193,9 +222,9 @@ fn seat_read(rng: &mut Rng, hall: &mut Hall, place: usize, query: &Query) {
         entry[..KEY_WIDTH].copy_from_slice(&query.key());
         entry[0] ^= if rng.chance(1, 4) { COUNT_BIT } else { 0 };
         entry[ENTRY_LENGTH] = length_for(rng, entry[0]);
-        if rng.chance(1, 8) {
-            // a senseless key, which fits no read
-            entry[5 + rng.below(2) as usize] = 1;
+        if rng.chance(1, 6) {
+            let (at, value) = spoilt_range(rng, entry);
+            entry[at] = value;
         }
         for (filed, noted) in entry[ENTRY_REVISIONS..ENTRY_LIST].iter_mut().zip(&noted) {
             *filed = noted.saturating_add(rng.pick(&[0, 0, 0, 1]));
@@ -344,8 +373,10 @@ pub fn damage(rng: &mut Rng, hall: &Hall) -> Call {
         _ => HEAD as u32 + damaged_entry(rng, memory, used),
     };
     let old = hall.get(memory, place as usize);
-    let value = match rng.below(8) {
+    let value = match rng.below(10) {
         7 => old ^ COUNT_BIT,
+        8 => old.wrapping_add(RANGE_UNIT),
+        9 => old ^ RANGE_UNIT << rng.below(4),
         0 => old.wrapping_add(1),
         1 => old.wrapping_sub(1),
         2 => old ^ 1 << rng.below(32),
@@ -356,13 +387,16 @@ pub fn damage(rng: &mut Rng, hall: &Hall) -> Call {
     Call::Damage { memory: memory as u8, place, value }
 }
 
-/// A place in use; of a desk mostly one of the numbers that are not its list, of a filed answer often what it answers or its length.
+/// A place in use; of a desk mostly one of the numbers that are not its list, often of its key; of a filed answer often what it answers, its
+/// range or its length.
 fn damaged_entry(rng: &mut Rng, memory: usize, used: u32) -> u32 {
     if memory == 2 && rng.chance(1, 2) {
-        return rng.below(used / ENTRY_WIDTH as u32) * ENTRY_WIDTH as u32 + rng.pick(&[0, ENTRY_LENGTH as u32]);
+        return rng.below(used / ENTRY_WIDTH as u32) * ENTRY_WIDTH as u32 + rng.pick(&[0, 0, KEY_LOWEST, KEY_HIGHEST, ENTRY_LENGTH]) as u32;
     }
     if memory == 3 && rng.chance(3, 4) {
-        return rng.below(CLIENTS as u32) * CLIENT_WIDTH as u32 + rng.below((CLIENT_ENTRY + ENTRY_LIST) as u32);
+        let of_key = [0, KEY_LOWEST, KEY_HIGHEST].map(|at| (CLIENT_ENTRY + at) as u32);
+        let at = if rng.chance(1, 4) { rng.pick(&of_key) } else { rng.below((CLIENT_ENTRY + ENTRY_LIST) as u32) };
+        return rng.below(CLIENTS as u32) * CLIENT_WIDTH as u32 + at;
     }
     rng.below(used)
 }

@@ -1,6 +1,7 @@
 //! The plain twin with one fault of its own: no fetch finds a filed answer, and everything goes to the table. Every list is right, so
 //! demand 3 has nothing against it; demand 2's last sentence has. For trying that its checker finds this. Leans on side and hall's layout.
 
+use crate::call::Within;
 use crate::side::{twin_with, Lent, Reply, Side};
 use twin::layout::*;
 use twin::query::Query;
@@ -21,6 +22,12 @@ impl Side for WithoutFetch {
     }
     fn begin_count(&self, m: Lent, client: u32, query: &[u32]) -> Reply {
         plain().begin_count(m, client, query)
+    }
+    fn begin_read_within(&self, m: Lent, client: u32, query: &[u32], within: Within) -> Reply {
+        plain().begin_read_within(m, client, query, within)
+    }
+    fn begin_count_within(&self, m: Lent, client: u32, query: &[u32], within: Within) -> Reply {
+        plain().begin_count_within(m, client, query, within)
     }
     fn begin_insert(&self, m: Lent, client: u32, query: &[u32]) -> Reply {
         plain().begin_insert(m, client, query)

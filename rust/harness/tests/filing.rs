@@ -60,7 +60,7 @@ impl Played {
 
     /// How many fetches were owed, and how many of them to reads begun before the filing one.
     fn owed(&self) -> [u64; 2] {
-        let [owed, earlier, _] = self.checker.owed();
+        let [owed, earlier, ..] = self.checker.owed();
         [owed, earlier]
     }
 

@@ -1,7 +1,9 @@
 //! Three desks at one table, as a model for a program in Rust. An answer is filed and given again; a record is corrected, by a delete and an
 //! insert, step by step while other desks read; a refusal is met and named; a read of too many records and an insert into a full table come to
-//! their ends; a count tells how many there are. Leans on the crate alone. The C example tells the same and prints the same.
+//! their ends; a range asks for some of them; a count tells how many there are. Leans on the crate
+//! alone. The C example tells the same and prints the same.
 use mondzafeky::{number, Hall, Outcome, Query, Refusal, LIST};
+use std::ops::RangeInclusive;
 
 /// The most records of a table.
 const RECORDS: u32 = 2_048;
@@ -40,6 +42,12 @@ fn begin_delete(hall: &mut Hall, desk: u32, record: [u32; 2]) -> Result<(), Refu
 fn begin_read(hall: &mut Hall, desk: u32, bench: u32) -> Result<(), Refusal> {
     println!("desk {desk} begins to read ({bench}, *)");
     hall.begin_read(desk, &Query::from([Some(bench), None]))
+}
+
+/// The settings of a bench that lie within a range; they are in column 1.
+fn begin_read_within(hall: &mut Hall, desk: u32, bench: u32, within: RangeInclusive<u32>) -> Result<(), Refusal> {
+    println!("desk {desk} begins to read ({bench}, {} to {})", within.start(), within.end());
+    hall.begin_read_within(desk, &Query::from([Some(bench), None]), 1, within)
 }
 
 /// How many records there are, of any bench and setting.
@@ -118,7 +126,7 @@ fn main() -> Result<(), Refusal> {
     ends(&mut hall)
 }
 
-/// 12, a count, 13.
+/// 12, a range, a count, 13.
 fn ends(hall: &mut Hall) -> Result<(), Refusal> {
     println!("-- a read of more than 32 records ends with 12: read in parts");
     fill(hall, 7, LIST)?;
@@ -127,6 +135,12 @@ fn ends(hall: &mut Hall) -> Result<(), Refusal> {
     run(hall, 1);
     begin_read(hall, 1, 7)?;
     run(hall, 1);
+    println!("-- a range asks for settings 4 to 9 alone; one from 9 to 4 is refused");
+    begin_read_within(hall, 1, 7, 4..=9)?;
+    run(hall, 1);
+    let reversed = begin_read_within(hall, 1, 7, RangeInclusive::new(9, 4));
+    print!("  desk 1: ");
+    tell(reversed.map(|()| Outcome::UnderWay));
     println!("-- a count tells how many there are, past 32 too; it is filed as a list is");
     begin_count_all(hall, 1)?;
     steps(hall, &[1, 1, 1, 1]);

@@ -11,10 +11,10 @@ use crate::Memories;
 #[repr(C)]
 #[derive(Clone, Copy, Debug, PartialEq, Eq)]
 pub struct Reply {
-    /// 0 accepted, 1 to 11 refused, 12 long, 13 full: see [`crate::number`].
+    /// 0 accepted, 1 to 11 and 14 refused, 12 long, 13 full: see [`crate::number`].
     pub number: u32,
-    /// How many records were answered. Of a list, `count` times k numbers lie in the tray from its start; of a count, begun by `begin_count`, the
-    /// tray is as it was.
+    /// How many records were answered. Of a list, `count` times k numbers lie in the tray from its
+    /// start; of a count, begun by `begin_count` or `begin_count_within`, the tray is as it was.
     pub count: u32,
     /// What has ended: see [`crate::ending`].
     pub ending: u32,
@@ -22,24 +22,24 @@ pub struct Reply {
 
 /// Declares an exported call, and defines the safe function over it.
 macro_rules! call {
-    ($export:ident, $name:ident $(, mut $lent:ident)? $(, num $n:ident)? $(, read $query:ident)?) => {
+    ($export:ident, $name:ident $(, mut $lent:ident)? $(, num $n:ident)? $(, read $query:ident)? $(, then $last:ident)*) => {
         extern "C" {
             #[allow(clippy::too_many_arguments)]
             fn $export(
                 table: *mut u32, table_len: usize, nodes: *mut u32, nodes_len: usize,
                 answers: *mut u32, answers_len: usize, clients: *mut u32, clients_len: usize,
-                $($lent: *mut u32, lent_len: usize,)? $($n: u32,)? $($query: *const u32, query_len: usize,)?
+                $($lent: *mut u32, lent_len: usize,)? $($n: u32,)? $($query: *const u32, query_len: usize,)? $($last: u32,)*
             ) -> Reply;
         }
 
-        pub(crate) fn $name(m: &mut Memories<'_> $(, $lent: &mut [u32])? $(, $n: u32)? $(, $query: &[u32])?) -> Reply {
+        pub(crate) fn $name(m: &mut Memories<'_> $(, $lent: &mut [u32])? $(, $n: u32)? $(, $query: &[u32])? $(, $last: u32)*) -> Reply {
             // SAFETY: every pointer and length is that of a slice borrowed until the call returns, each mutable one by a `&mut` of its own, so they
             // are valid and do not overlap; the export asks nothing else (see the head of this file).
             unsafe {
                 $export(
                     m.table.as_mut_ptr(), m.table.len(), m.nodes.as_mut_ptr(), m.nodes.len(),
                     m.answers.as_mut_ptr(), m.answers.len(), m.clients.as_mut_ptr(), m.clients.len(),
-                    $($lent.as_mut_ptr(), $lent.len(),)? $($n,)? $($query.as_ptr(), $query.len(),)?
+                    $($lent.as_mut_ptr(), $lent.len(),)? $($n,)? $($query.as_ptr(), $query.len(),)? $($last,)*
                 )
             }
         }
@@ -49,6 +49,8 @@ macro_rules! call {
 call!(mondzafeky_open, open, num k);
 call!(mondzafeky_begin_read, begin_read, num client, read query);
 call!(mondzafeky_begin_count, begin_count, num client, read query);
+call!(mondzafeky_begin_read_within, begin_read_within, num client, read query, then column, then lowest, then highest);
+call!(mondzafeky_begin_count_within, begin_count_within, num client, read query, then column, then lowest, then highest);
 call!(mondzafeky_begin_insert, begin_insert, num client, read query);
 call!(mondzafeky_begin_delete, begin_delete, num client, read query);
 call!(mondzafeky_step, step, mut tray, num client);

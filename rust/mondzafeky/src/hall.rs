@@ -5,6 +5,7 @@ use crate::outcome::accepted;
 use crate::saved::{self, WrongLength};
 use crate::{layout, Memories, Outcome, Query, Refusal, Reply, CLIENTS, TRAY_LEAST};
 use std::fmt;
+use std::ops::RangeInclusive;
 
 /// An opened hall: one table of records of k columns, the filed answers, the revision nodes, and twelve clients, the desks, 0 to 11.
 ///
@@ -74,6 +75,41 @@ impl Hall {
     /// ```
     pub fn begin_count(&mut self, client: u32, query: &Query) -> Result<(), Refusal> {
         accepted(self.memories().begin_count(client, query.as_numbers()))
+    }
+
+    /// Begins a read with a range at `client`, the desk: of the records that match `query` those
+    /// whose value in `column`, by its number from 0, lies `within`, both ends included. That
+    /// column is a star in `query`. A read otherwise, with its steps and its promise. The range is
+    /// a part of what is asked: every value (`0..=u32::MAX`) is not the plain read, and `5..=5` not
+    /// the named 5, as far as the file goes. Refusals: `Columns`, `Reversed`, `Unsound`,
+    /// `NoClient`, `Taken`.
+    ///
+    /// ```
+    /// # fn main() -> Result<(), mondzafeky::Refusal> {
+    /// use mondzafeky::{Hall, Outcome, Query, Refusal};
+    /// let mut hall = Hall::open(2)?; // bench, class
+    /// for class in [3, 4, 9, 10] {
+    ///     hall.begin_insert(0, &[7, class])?;
+    ///     assert_eq!(hall.run(0)?, Outcome::Changed);
+    /// }
+    /// let bench_7 = Query::from([Some(7), None]);
+    /// hall.begin_read_within(1, &bench_7, 1, 4..=9)?;
+    /// match hall.run(1)? {
+    ///     Outcome::Answered { records, .. } => assert!(records.eq([[7, 4], [7, 9]])),
+    ///     other => println!("{other}"),
+    /// }
+    /// assert_eq!(hall.begin_read_within(1, &bench_7, 1, 9..=4), Err(Refusal::Reversed));
+    /// # Ok(())
+    /// # }
+    /// ```
+    pub fn begin_read_within(&mut self, client: u32, query: &Query, column: u32, within: RangeInclusive<u32>) -> Result<(), Refusal> {
+        accepted(self.memories().begin_read_within(client, query.as_numbers(), column, within))
+    }
+
+    /// Begins a count with a range at `client`, the desk: how many these are, past 32 too, told by
+    /// [`Outcome::Counted`]. Refusals: `Columns`, `Reversed`, `Unsound`, `NoClient`, `Taken`.
+    pub fn begin_count_within(&mut self, client: u32, query: &Query, column: u32, within: RangeInclusive<u32>) -> Result<(), Refusal> {
+        accepted(self.memories().begin_count_within(client, query.as_numbers(), column, within))
     }
 
     /// Begins an insert of `record`, k numbers. Refusals: `Columns`, `Unsound`, `NoClient`, `Taken`, `Worn`.

@@ -27,9 +27,12 @@ pub(crate) const TAG_ANY: u32 = 3;
 pub(crate) const ENTRY_WIDTH: usize = 152;
 /// In the key's first number, beside a bit for each named column: a count is wanted, and not a list.
 pub(crate) const COUNT_BIT: u32 = 16;
+/// From there on in the key's first number: 0 without a range, and otherwise its column plus 1.
+pub(crate) const RANGE_UNIT: u32 = 32;
 pub(crate) const KEY_VALUES: usize = 1;
-/// The key's two numbers that are kept for a range.
-pub(crate) const KEY_RANGE: usize = 5;
+/// The ends of a range; 0 and 0 where there is none.
+pub(crate) const KEY_LOWEST: usize = 5;
+pub(crate) const KEY_HIGHEST: usize = 6;
 pub(crate) const ENTRY_LENGTH: usize = 7;
 pub(crate) const ENTRY_REVISIONS: usize = 8;
 pub(crate) const MAX_LOOKS: usize = 16;
@@ -47,4 +50,9 @@ pub(crate) const CLIENT_ENTRY: usize = 5;
 /// Whether an entry is a count's, by its key's first number: this one bit says it, whatever the others are.
 pub(crate) fn is_count(first: u32) -> bool {
     first & COUNT_BIT != 0
+}
+
+/// The ranged column by a key's first number, whatever it is; none where there is no range.
+pub(crate) fn ranged_column(first: u32) -> Option<u32> {
+    (first / RANGE_UNIT).checked_sub(1)
 }

@@ -6,19 +6,25 @@
 //!
 //! # What is promised
 //!
-//! Every read is answered with a list that was true: exactly the records that matched at some moment between the read's begin and the step that
-//! answers it, whether it came from the file or from the table, and however the steps of the desks were mixed. A read that begins after a write
-//! has ended sees that write: **begin the read after the write's end to see it**. A count is a read that wants only how many records match, and is
-//! true in the same way. Every read ends within 19 steps and every write within 33. What a call does to every number of every memory is proved in
-//! the library; this crate only hands the memories over.
+//! Every read is answered with a list that was true: exactly the records that matched at some
+//! moment between the read's begin and the step that answers it, whether it came from the file or
+//! from the table, and however the steps of the desks were mixed. A read that begins after a write
+//! has ended sees that write: **begin the read after the write's end to see it**. A count is a read
+//! that wants only how many records match, and is true in the same way; so is a list or a count
+//! with a range in one column. Every read ends within 19 steps and every write within 33. What a
+//! call does to every number of every memory is proved in the library; this crate only hands the
+//! memories over.
 //!
 //! # How to call it
 //!
-//! [`Hall`] owns its memories. A call that is turned down returns a [`Refusal`], 1 to 11, and has altered nothing. **12 and 13 are ends**, not
-//! refusals: the read found more than 32 records ([`Outcome::Long`]), the insert found the table full ([`Outcome::Full`]), and the desk is idle
-//! after them as after every other end ([`Outcome::has_ended`]). How many they are is told by a count ([`Hall::begin_count`],
-//! [`Outcome::Counted`]), which never ends with 12. A correction is a delete and an insert, and between their ends neither record
-//! is there, or both are: the caller chooses by their order.
+//! [`Hall`] owns its memories. A call that is turned down returns a [`Refusal`], 1 to 11 or 14, and
+//! has altered nothing. **12 and 13 are ends**, not refusals: the read found more than 32 records
+//! ([`Outcome::Long`]), the insert found the table full ([`Outcome::Full`]), and the desk is idle
+//! after them as after every other end ([`Outcome::has_ended`]). How many they are is told by a
+//! count ([`Hall::begin_count`], [`Outcome::Counted`]), which never ends with 12; a range
+//! ([`Hall::begin_read_within`]) asks for some of them, "classes 4 to 9". A correction is a delete
+//! and an insert, and between their ends neither record is there, or both are: the caller chooses
+//! by their order.
 //!
 //! Calls are **indivisible towards each other, but not thread-safe**: steps of different desks may follow each other in any order, two calls at
 //! once on one hall may not. Where threads share a hall, put one lock (a `Mutex<Hall>`) around each call; it need not be held from a begin to
@@ -83,6 +89,7 @@ pub use hall::Hall;
 pub use outcome::{Outcome, Records};
 pub use query::Query;
 pub use refusal::{NoRefusal, Refusal};
+use std::ops::RangeInclusive;
 
 /// The least length of the table memory, in 32-bit numbers, as of all that follow.
 pub const TABLE_LEAST: usize = 8_200;
@@ -105,7 +112,8 @@ pub const CLIENTS: u32 = 12;
 /// The most records that a read lists.
 pub const LIST: u32 = 32;
 
-/// The numbers that a call returns in [`Reply::number`]. 1 to 11 are refusals: no memory is altered.
+/// The numbers that a call returns in [`Reply::number`]. 1 to 11, and 14, are refusals: no memory
+/// is altered.
 pub mod number {
     pub use crate::names::{name, sentence};
 
@@ -113,7 +121,8 @@ pub mod number {
     pub const ACCEPTED: u32 = 0;
     /// A lent memory is below its least length.
     pub const SHORT: u32 = 1;
-    /// k not 1 to 4 at opening; not a query of k columns; an insert with a star.
+    /// k not 1 to 4 at opening; not a query of k columns; an insert with a star; a range's column
+    /// that is named too or not below k.
     pub const COLUMNS: u32 = 2;
     /// k, a number of entries, a filed list's length or a filed count in memory is out of range, or what stands at the desk or at its node is, or
     /// no unmarked node can make room.
@@ -138,6 +147,8 @@ pub mod number {
     pub const LONG: u32 = 12;
     /// The insert has ended: the table held 2,048 records and not this one.
     pub const FULL: u32 = 13;
+    /// The lowest value of a range is above its highest.
+    pub const REVERSED: u32 = 14;
 }
 
 /// What has ended, in [`Reply::ending`].
@@ -184,6 +195,19 @@ impl Memories<'_> {
     /// and never with 12; its steps need a tray that is long enough, and none of them writes it. Refusals: 1 to 5.
     pub fn begin_count(&mut self, client: u32, query: &[u32]) -> Reply {
         calls::begin_count(self, client, query)
+    }
+
+    /// Begins a read with a range at `client`: of the records that match `query` those whose value
+    /// in `column`, by its number from 0, lies `within`, both ends included. That column is a star
+    /// in `query`. Refusals: 1 to 5, and 14 for a range such as `9..=4`, which goes before 3, 4 and
+    /// 5.
+    pub fn begin_read_within(&mut self, client: u32, query: &[u32], column: u32, within: RangeInclusive<u32>) -> Reply {
+        calls::begin_read_within(self, client, query, column, *within.start(), *within.end())
+    }
+
+    /// Begins a count with a range: how many these are. Refusals: 1 to 5, 14.
+    pub fn begin_count_within(&mut self, client: u32, query: &[u32], column: u32, within: RangeInclusive<u32>) -> Reply {
+        calls::begin_count_within(self, client, query, column, *within.start(), *within.end())
     }
 
     /// Begins an insert of the record that `query` names, a value in every column. Refusals: 1 to 5, 10.

@@ -1,10 +1,12 @@
-//! What a call is turned down with: the numbers 1 to 11 as an error. Leans on names and on the numbers in lib.
+//! What a call is turned down with: the numbers 1 to 11, and 14, as an error. Leans on names and on
+//! the numbers in lib.
 use crate::number;
 use std::error::Error;
 use std::fmt;
 
-/// A call was turned down and altered nothing. The smallest number that applies is given. 12 and 13 are not among these: they end a read or a
-/// write, and are [`crate::Outcome::Long`] and [`crate::Outcome::Full`].
+/// A call was turned down and altered nothing. The first number that applies is given, in the order
+/// 1, 2, 14, 3, 4 and so on. 12 and 13 are not among these: they end a read or a write, and are
+/// [`crate::Outcome::Long`] and [`crate::Outcome::Full`].
 ///
 /// ```
 /// let refusal = mondzafeky::Hall::open(5).unwrap_err();
@@ -17,7 +19,8 @@ use std::fmt;
 pub enum Refusal {
     /// 1: a lent memory is below its least length. A [`crate::Hall`] never is.
     Short = number::SHORT,
-    /// 2: k not 1 to 4 at opening; not a query of k columns; an insert of another number of columns.
+    /// 2: k not 1 to 4 at opening; not a query of k columns; an insert of another number of
+    /// columns; a range's column that is named too or not below k.
     Columns = number::COLUMNS,
     /// 3: k, a number of entries, a filed list's length or a filed count in memory is out of range, or what stands at the desk or at its node is,
     /// or no unmarked node can make room.
@@ -38,11 +41,13 @@ pub enum Refusal {
     Worn = number::WORN,
     /// 11: a renewal with a busy desk.
     Occupied = number::OCCUPIED,
+    /// 14: the lowest value of a range is above its highest, as in `9..=4`.
+    Reversed = number::REVERSED,
 }
 
 impl Refusal {
     /// All of them, by their number.
-    pub const ALL: [Refusal; 11] = [
+    pub const ALL: [Refusal; 12] = [
         Refusal::Short,
         Refusal::Columns,
         Refusal::Unsound,
@@ -54,15 +59,16 @@ impl Refusal {
         Refusal::Pending,
         Refusal::Worn,
         Refusal::Occupied,
+        Refusal::Reversed,
     ];
 
-    /// The number that the call returned, 1 to 11.
+    /// The number that the call returned, 1 to 11 or 14.
     #[must_use]
     pub fn number(self) -> u32 {
         self as u32
     }
 
-    /// Document 01's word for it.
+    /// The documents' word for it.
     #[must_use]
     pub fn name(self) -> &'static str {
         number::name(self.number())
@@ -93,13 +99,13 @@ impl TryFrom<u32> for Refusal {
     }
 }
 
-/// A number that is none of 1 to 11.
+/// A number that is none of 1 to 11, nor 14.
 #[derive(Clone, Copy, Debug, PartialEq, Eq)]
 pub struct NoRefusal(pub u32);
 
 impl fmt::Display for NoRefusal {
     fn fmt(&self, f: &mut fmt::Formatter<'_>) -> fmt::Result {
-        write!(f, "{}, {}, is no refusal: those are 1 to 11", self.0, number::name(self.0))
+        write!(f, "{}, {}, is no refusal: those are 1 to 11 and 14", self.0, number::name(self.0))
     }
 }
 

@@ -39,12 +39,15 @@ fn refused(number: u32) -> Reply {
     Reply { number, count: 0, ending: 0 }
 }
 
-/// Every call on these memories, and its reply.
-fn every_call(m: &mut Memories<'_>, tray: &mut [u32], query: &[u32], n: u32) -> [Reply; 10] {
+/// Every call on these memories, and its reply; those with a range have stars alone.
+fn every_call(m: &mut Memories<'_>, tray: &mut [u32], query: &[u32], n: u32) -> [Reply; 12] {
+    let stars = vec![0; query.len()];
     [
         m.open(n),
         m.begin_read(n, query),
         m.begin_count(n, query),
+        m.begin_read_within(n, &stars, 0, 4..=9),
+        m.begin_count_within(n, &stars, 0, n..=9),
         m.begin_insert(n, query),
         m.begin_delete(n, query),
         m.step(tray, n),
@@ -97,7 +100,8 @@ fn a_query_of_any_length_is_refused_with_2() {
     let before = owned.all();
     for query in [&Vec::new()[..], &[1], &[1, 5], &[1, 5, 1], &[1, 5, 1, 5, 1], &[2, 5, 1, 5], &[0, 5, 1, 5], &[1; 100_000]] {
         let mut m = owned.lent();
-        for reply in [m.begin_read(0, query), m.begin_count(0, query), m.begin_insert(0, query), m.begin_delete(0, query)] {
+        let ranged = [m.begin_read_within(0, query, 1, 4..=9), m.begin_count_within(0, query, 1, 4..=9)];
+        for reply in [m.begin_read(0, query), m.begin_count(0, query), m.begin_insert(0, query), m.begin_delete(0, query)].into_iter().chain(ranged) {
             assert_eq!(reply, refused(number::COLUMNS));
         }
     }

@@ -180,7 +180,7 @@ fn each_refusal_is_met_with_its_number() {
     met.push(hall.run(7).unwrap_err());
     let numbers: Vec<u32> = met.into_iter().map(Refusal::number).collect();
     assert_eq!(numbers, [2, 2, 1, 4, 6, 6, 8, 8, 5, 11, 7, 9, 10, 3]);
-    assert!((1..=11).all(|n| numbers.contains(&n)));
+    assert!((1..=11).all(|n| numbers.contains(&n)), "14 is met in tests/ranges.rs");
 }
 
 #[test]
@@ -204,19 +204,25 @@ fn refused_calls_alter_nothing() {
 
 #[test]
 fn refusals_have_numbers_words_and_sentences() {
-    let words = ["short", "columns", "unsound", "no desk", "taken", "idle", "committed", "no entry", "marked", "worn", "occupied"];
+    let words = ["short", "columns", "unsound", "no desk", "taken", "idle", "committed", "no entry", "marked", "worn", "occupied", "reversed"];
+    assert_eq!(Refusal::ALL.len(), words.len());
     for (i, refusal) in Refusal::ALL.into_iter().enumerate() {
-        let n = i as u32 + 1;
+        // 12 and 13 are ends.
+        let n = if i < 11 { i as u32 + 1 } else { 14 };
         assert_eq!((refusal.number(), Refusal::try_from(n), refusal.name()), (n, Ok(refusal), words[i]));
         assert_eq!(refusal.to_string(), format!("{n}, {}: {}", words[i], refusal.sentence()));
         assert_eq!((number::name(n), number::sentence(n)), (refusal.name(), refusal.sentence()));
         assert!(refusal.sentence().contains(';'), "what it means; what to do: {refusal}");
     }
-    for n in [0, 12, 13, 14, u32::MAX] {
+    for n in [0, 12, 13, 15, u32::MAX] {
         assert_eq!(Refusal::try_from(n), Err(NoRefusal(n)));
     }
-    assert_eq!(NoRefusal(13).to_string(), "13, full, is no refusal: those are 1 to 11");
-    assert_eq!([0, 12, 13, 14].map(number::name), ["accepted", "long", "full", "unknown"]);
+    assert_eq!(NoRefusal(13).to_string(), "13, full, is no refusal: those are 1 to 11 and 14");
+    assert_eq!([0, 12, 13, 15].map(number::name), ["accepted", "long", "full", "unknown"]);
+    assert_eq!(
+        Refusal::Reversed.to_string(),
+        "14, reversed: The lowest value of the range is above its highest; give the lower one first, and begin again."
+    );
     let error: Box<dyn std::error::Error> = Box::new(Refusal::Idle);
     assert!(error.to_string().starts_with("6, idle: "));
 }
@@ -226,7 +232,7 @@ fn replies_tell_ends_from_refusals() {
     let reply = |number, ending| Reply { number, count: 0, ending };
     assert!(!reply(number::ACCEPTED, ending::NONE).has_ended());
     assert!((1..=4).all(|end| reply(number::ACCEPTED, end).has_ended() && reply(number::ACCEPTED, end).refusal().is_none()));
-    assert!((1..=11).all(|n| !reply(n, 0).has_ended() && reply(n, 0).refusal().map(Refusal::number) == Some(n)));
+    assert!((1..=11).chain([14]).all(|n| !reply(n, 0).has_ended() && reply(n, 0).refusal().map(Refusal::number) == Some(n)));
     assert!([12, 13].into_iter().all(|n| reply(n, 0).has_ended() && reply(n, 0).refusal().is_none()));
 }
 
@@ -312,6 +318,9 @@ fn an_unopened_hall() {
     let mut zeros = vec![0; saved::NUMBERS];
     let mut m: Memories<'_> = saved::memories(&mut zeros);
     let begins = [m.begin_read(0, &[1, 5]), m.begin_count(0, &[1, 5]), m.begin_insert(0, &[1, 5]), m.begin_delete(0, &[1, 5])];
+    // No column is below its k, so no range has a column there, and no query has one either.
+    let ranged = [m.begin_read_within(0, &[], 0, 4..=9), m.begin_count_within(0, &[], 0, 9..=9), m.begin_read_within(0, &[0, 0], 0, 4..=9)];
+    assert_eq!(ranged.map(Reply::refusal), [Some(Refusal::Columns); 3]);
     let others = [m.step(&mut [0; TRAY_LEAST], 0), m.abandon(0), m.evict_answer(0), m.evict_node(0), m.renew()];
     assert_eq!(begins.map(Reply::refusal), [Some(Refusal::Columns); 4]);
     assert_eq!(others.map(Reply::refusal), [Some(Refusal::Unsound); 5]);

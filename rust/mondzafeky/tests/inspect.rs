@@ -2,7 +2,7 @@
 //! that the proved calls give on damaged halls. Nothing panics on memories of any lengths and contents.
 mod rng;
 
-use mondzafeky::inspect::{Entry, Inspect, Kind, Label, OutOfRange, Stage, Term, Value};
+use mondzafeky::inspect::{Entry, Inspect, Kind, Label, OutOfRange, Range, Stage, Term, Value};
 use mondzafeky::{saved, Hall, Memories, Outcome, Query, Refusal};
 use rng::Rng;
 
@@ -44,7 +44,8 @@ fn sizes_records_nodes_and_answers() {
     assert_eq!((answer.query, answer.revisions), (Ok(Query::from([Some(3), None])), &[3, 1][..]));
     let Ok(Value::List(list)) = answer.value else { panic!() };
     assert_eq!(list.collect::<Vec<_>>(), [[3, 40], [3, 41]]);
-    let counted = Entry { query: Ok(Query::from([Some(3), None])), revisions: &[3, 1], value: Ok(Value::Count(2)) };
+    let counted = Entry { query: Ok(Query::from([Some(3), None])), range: None, revisions: &[3, 1], value: Ok(Value::Count(2)) };
+    assert_eq!(counted.asked().as_deref(), Ok("(3, *)"));
     assert_eq!(inside.answer(1), Ok(counted));
 }
 
@@ -82,6 +83,77 @@ fn every_stage_in_its_order() {
     assert_eq!(stages([None, None].into(), Hall::begin_read), "look 1 of 1, fetch, table, file");
     let write = "mark 1 of 4, mark 2 of 4, mark 3 of 4, mark 4 of 4, table, raise 1 of 4, raise 2 of 4, raise 3 of 4, raise 4 of 4";
     assert_eq!(stages([None, Some(2)].into(), Hall::begin_delete), write);
+}
+
+/// Records (3, 4), (3, 9) and (3, 20); a list of (3, 4 to 9) and a count of (3 to 3, *) on file;
+/// the same count under way at desk 6, and a list of (8, 0 to 4294967295) at desk 11.
+fn ranged_hall() -> Hall {
+    let mut hall = Hall::open(2).unwrap();
+    for record in [[3, 4], [3, 9], [3, 20]] {
+        hall.begin_insert(0, &record).unwrap();
+        assert_eq!(hall.run(0), Ok(Outcome::Changed));
+    }
+    hall.begin_read_within(1, &[Some(3), None].into(), 1, 4..=9).unwrap();
+    assert!(hall.run(1).unwrap().has_ended());
+    hall.begin_count_within(1, &[None, None].into(), 0, 3..=3).unwrap();
+    assert!(hall.run(1).unwrap().has_ended());
+    hall.begin_count_within(6, &[None, None].into(), 0, 3..=3).unwrap();
+    hall.begin_read_within(11, &[Some(8), None].into(), 1, 0..=u32::MAX).unwrap();
+    assert_eq!(hall.step(11), Ok(Outcome::UnderWay));
+    hall
+}
+
+#[test]
+fn ranges_under_way_and_on_file() {
+    let hall = ranged_hall();
+    let inside = hall.inspect();
+    let (count, read) = (inside.work(6).unwrap().unwrap(), inside.work(11).unwrap().unwrap());
+    assert_eq!(count.to_string(), "count of (3 to 3, *), 0 of 4 steps made, next: look 1 of 1");
+    assert_eq!((count.query, count.range, count.counts), ([None, None].into(), Some(Range { column: 0, lowest: 3, highest: 3 }), true));
+    assert_eq!(read.to_string(), "read of (8, 0 to 4294967295), 1 of 5 steps made, next: look 2 of 2");
+    assert_eq!((read.query, read.range, read.counts), ([Some(8), None].into(), Some(Range { column: 1, lowest: 0, highest: u32::MAX }), false));
+    let (list, counted) = (inside.answer(0).unwrap(), inside.answer(1).unwrap());
+    assert_eq!((list.asked().as_deref(), counted.asked().as_deref()), (Ok("(3, 4 to 9)"), Ok("(3 to 3, *)")));
+    assert_eq!((list.query, list.range), (Ok([Some(3), None].into()), Some(Range { column: 1, lowest: 4, highest: 9 })));
+    assert_eq!((list.revisions.len(), counted.revisions.len(), counted.value), (2, 1, Ok(Value::Count(3))));
+    let Ok(Value::List(records)) = list.value else { panic!() };
+    assert_eq!(records.collect::<Vec<_>>(), [[3, 4], [3, 9]]);
+    // A write and a plain read have none.
+    assert!(busy_hall().inspect().work(0).unwrap().unwrap().range.is_none() && busy_hall().inspect().answer(0).unwrap().range.is_none());
+}
+
+/// The number at a place of a hall with ranges altered, and what is said of it; at a desk it is 3,
+/// on file it is not.
+#[test]
+fn ranges_that_no_begin_leaves_are_said() {
+    let desk_11 = 8 + 11 * 157;
+    let marks = "a bit for each named column, 16 more for a count, 32 more for each column up to a ranged one";
+    let cases = [
+        (5, 97, format!("the marks of the query out of range: 97, wanted {marks}")),
+        (5, u32::MAX - 14, format!("the marks of the query out of range: 4294967281, wanted {marks}")),
+        (5, 33, "the marks of the query out of range: 33, wanted no mark at the ranged column".to_string()),
+        (5, 67, "the marks of the query out of range: 67, wanted no mark at the ranged column".to_string()),
+        (7, 5, "the query's value out of range: 5, wanted 0 where no value is named".to_string()),
+        (5, 1, "the highest value of the range out of range: 4294967295, wanted 0 where there is no range".to_string()),
+        (10, 5, "the highest value of the range out of range: 3, wanted not below the lowest".to_string()),
+    ];
+    for (offset, number, words) in cases {
+        let mut hall = ranged_hall();
+        let m = hall.memories();
+        // Both are keys of a query with column 0 named and column 1 ranged.
+        let filed = 8 + offset - 5;
+        (m.clients[desk_11 + offset], m.answers[filed]) = (number, number);
+        if offset == 10 {
+            (m.clients[desk_11 + 11], m.answers[14]) = (3, 3);
+        } else if number == 1 {
+            (m.answers[13], m.answers[14]) = (0, u32::MAX);
+        }
+        let (held, entry) = (hall.inspect().work(11).unwrap_err().to_string(), hall.inspect().answer(0).unwrap());
+        let fault = entry.asked().unwrap_err().to_string();
+        assert!(held.starts_with(&words) && fault.starts_with(&words), "{words}: {held}; {fault}");
+        assert_eq!((entry.range, entry.revisions.len(), entry.value.is_ok()), (None, 16, true));
+        assert_eq!((hall.step(11).err(), hall.evict_answer(2)), (Some(Refusal::Unsound), Err(Refusal::NoEntry)));
+    }
 }
 
 /// The first thing that is out of range.
@@ -139,7 +211,7 @@ fn counts_that_no_history_leaves() {
 #[test]
 fn what_is_out_of_range_is_said() {
     let (desk_6, desk_11) = (8 + 6 * 157, 8 + 11 * 157);
-    let marks = "a bit for each named column, 16 more for a count, and nothing else";
+    let marks = "a bit for each named column, 16 more for a count, 32 more for each column up to a ranged one";
     let cases = [
         (3, 0, 5, "k out of range: 5, wanted 1 to 4 (clients memory, place 0)"),
         (0, 0, 2_049, "the number of records out of range: 2049, wanted 0 to 2,048 (table memory, place 0)"),
@@ -148,7 +220,8 @@ fn what_is_out_of_range_is_said() {
         (1, 8, 0x0401, "the label's tags out of range: 1025, wanted 1, 2 or 3 in each column's byte, 0 in the others (nodes memory, place 8)"),
         (1, 11, 1, "the label's value out of range: 1, wanted 0 where the column has none (nodes memory, place 11)"),
         (2, 8, 4, &format!("the marks of the query out of range: 4, wanted {marks} (answers memory, place 8)")),
-        (2, 160, 49, &format!("the marks of the query out of range: 49, wanted {marks} (answers memory, place 160)")),
+        (2, 160, 113, &format!("the marks of the query out of range: 113, wanted {marks} (answers memory, place 160)")),
+        (2, 160, 49, "the marks of the query out of range: 49, wanted no mark at the ranged column (answers memory, place 160)"),
         (2, 160 + 7, 2_049, "the count out of range: 2049, wanted 0 to 2,048 (answers memory, place 167)"),
         (3, desk_6 + 12, 2_049, "the count out of range: 2049, wanted 0 to 2,048 (clients memory, place 962)"),
         (3, desk_6 + 5, 20, &format!("the marks of the query out of range: 20, wanted {marks} (clients memory, place 955)")),
@@ -157,7 +230,8 @@ fn what_is_out_of_range_is_said() {
         (3, desk_11, 4, "the kind of a busy desk out of range: 4, wanted 1 to 3 (clients memory, place 1735)"),
         (3, desk_11 + 1, 5, "the number of steps made out of range: 5, wanted below the steps of this work (clients memory, place 1736)"),
         (3, desk_11 + 6, 1, "the query's value out of range: 1, wanted 0 where no value is named (clients memory, place 1741)"),
-        (3, desk_11 + 10, 1, "the query's number for a range out of range: 1, wanted 0 (clients memory, place 1745)"),
+        (3, desk_11 + 10, 1, "the lowest value of the range out of range: 1, wanted 0 where there is no range (clients memory, place 1745)"),
+        (3, desk_11 + 11, 1, "the highest value of the range out of range: 1, wanted 0 where there is no range (clients memory, place 1746)"),
         (3, desk_11 + 12, 33, "the list's length out of range: 33, wanted 0 to 32 (clients memory, place 1747)"),
         (3, 8 + 5, 1, "the query's value out of range: 9, wanted 0 where no value is named (clients memory, place 15)"),
     ];
@@ -217,7 +291,8 @@ fn memories_of_any_lengths_and_contents_do_not_panic() {
     }
 }
 
-/// A busy hall with some numbers altered: headers, filed keys and lengths, and numbers at the desks; of some only the bit of a count.
+/// A busy hall with some numbers altered: headers, filed keys and lengths, and numbers at the
+/// desks; of some only the bit of a count or one of a ranged column.
 fn damaged(rng: &mut Rng, sound: &[u32]) -> Vec<u32> {
     let mut numbers = sound.to_vec();
     for _ in 0..1 + rng.below(3) {
@@ -228,7 +303,11 @@ fn damaged(rng: &mut Rng, sound: &[u32]) -> Vec<u32> {
             3 => 26_408 + 157 * rng.below(12) + rng.below(157),
             _ => 26_408 + 157 * [0, 6, 11][rng.below(3) as usize] + rng.below(14),
         } as usize;
-        numbers[place] = if rng.below(4) == 0 { numbers[place] ^ 16 } else { rng.number() };
+        numbers[place] = match rng.below(8) {
+            0 | 1 => numbers[place] ^ 16,
+            2 => numbers[place] ^ (32 << rng.below(3)),
+            _ => rng.number(),
+        };
     }
     numbers
 }
@@ -237,16 +316,19 @@ fn damaged(rng: &mut Rng, sound: &[u32]) -> Vec<u32> {
 /// or a filed count is out of range here; and if not, a begin is accepted at a desk seen idle, 5 at one seen busy, 3 at one out of range.
 #[test]
 fn what_is_seen_agrees_with_the_numbers_of_the_calls() {
-    let sound = saved::numbers_of(&busy_hall().to_bytes());
-    let (mut rng, mut met, mut above_32) = (Rng(7), [0; 6], 0);
-    for _ in 0..2_000 {
-        let mut numbers = damaged(&mut rng, &sound);
+    let sound = [busy_hall(), ranged_hall()].map(|hall| saved::numbers_of(&hall.to_bytes()));
+    let (mut rng, mut met, mut above_32, mut ranges) = (Rng(7), [0; 6], 0, [0; 2]);
+    for round in 0..4_000 {
+        let mut numbers = damaged(&mut rng, &sound[round % 2]);
         let inside = Inspect::of_saved(&numbers);
         let counts = [inside.columns(), inside.record_count(), inside.node_count(), inside.answer_count()];
         let whole = counts.iter().all(Result::is_ok) && inside.answers().all(|entry| entry.unwrap().value.is_ok());
         above_32 += inside.answers().flatten().filter(|entry| matches!(entry.value, Ok(Value::Count(33..)))).count();
         look_at_all(inside);
-        let seen: Vec<_> = (0..12).map(|client| inside.work(client).map(|work| work.is_some())).collect();
+        let works: Vec<_> = (0..12).map(|client| inside.work(client)).collect();
+        ranges[0] += works.iter().flatten().flatten().filter(|work| work.range.is_some()).count();
+        ranges[1] += works.iter().flat_map(|work| work.as_ref().err()).filter(|fault| fault.what.ends_with("of the range")).count();
+        let seen: Vec<_> = works.into_iter().map(|work| work.map(|work| work.is_some())).collect();
         let stars = vec![0; 2 * inside.columns().unwrap_or(0) as usize];
         assert_eq!(saved::memories(&mut numbers).evict_answer(u32::MAX).number, if whole { 8 } else { 3 });
         for (client, seen) in seen.into_iter().enumerate().filter(|_| whole) {
@@ -258,4 +340,5 @@ fn what_is_seen_agrees_with_the_numbers_of_the_calls() {
     }
     assert!([0, 3, 4, 5].into_iter().all(|n| met[n] > 30), "{met:?}");
     assert!(above_32 > 5, "filed counts above 32: {above_32}");
+    assert!(ranges[0] > 1_000 && ranges[1] > 50, "held ranges, ends out of range: {ranges:?}");
 }

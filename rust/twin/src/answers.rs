@@ -24,10 +24,13 @@ pub fn most(entry: &Entry) -> usize {
     }
 }
 
-/// The same query, and the same wanted.
+/// The same query, the same wanted, and the same range or none.
 fn has_key_of<const FAULT: u8>(entry: &Entry, own: &Entry) -> bool {
     if FAULT == Fault::OneKey as u8 && entry[ENTRY_LENGTH] as usize <= LIST {
         return entry[0] | COUNT_BIT == own[0] | COUNT_BIT && entry[1..KEY_WIDTH] == own[1..KEY_WIDTH];
+    }
+    if FAULT == Fault::PlainKey as u8 {
+        return entry[0] % RANGE_UNIT == own[0] % RANGE_UNIT && entry[1..KEY_LOWEST] == own[1..KEY_LOWEST];
     }
     entry[..KEY_WIDTH] == own[..KEY_WIDTH]
 }

@@ -41,6 +41,13 @@ pub const ENTRY_LIST: usize = 24;
 pub const LIST_WIDTH: usize = 128;
 /// in a key's first number, above the marks of four columns: what is wanted is a count, not a list
 pub const COUNT_BIT: u32 = 16;
+/// below that bit in a key's first number: the marks of the columns
+pub const MARKS: u32 = 15;
+/// above that bit, in units of this: the column of a range plus 1, or 0
+pub const RANGE_UNIT: u32 = 32;
+/// the ends of a key's range, both 0 where there is none
+pub const KEY_LOWEST: usize = 5;
+pub const KEY_HIGHEST: usize = 6;
 
 /// a client, the desk: five numbers of its own, then an entry as in the answers memory
 pub const CLIENT_WIDTH: usize = 157;

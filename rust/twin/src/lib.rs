@@ -6,14 +6,17 @@ pub mod answers;
 pub mod layout;
 pub mod nodes;
 pub mod query;
+pub mod range;
 mod refusals;
 mod steps;
 pub mod table;
+mod within;
 
 use layout::*;
 use query::Query;
+use range::Range;
 
-/// Document 01, "Faults a bench would show", and three more: looks that pay no heed to marks, and two of counts.
+/// Document 01, "Faults a bench would show", and five more: looks that pay no heed to marks, two of counts and two of ranges.
 #[derive(Clone, Copy, PartialEq, Eq, Debug)]
 #[repr(u8)]
 pub enum Fault {
@@ -34,6 +37,10 @@ pub enum Fault {
     OneKey,
     /// a count's answer is written to the tray too
     CountOnTray,
+    /// a key is compared without its range: what is filed for all values of a column serves a range of them, and the other way round
+    PlainKey,
+    /// a range takes the value just above its highest too
+    WideRange,
 }
 
 /// The number for a plain twin, to be given as `Memories<'_, PLAIN>` where it is not the default.
@@ -51,7 +58,7 @@ pub struct Reply {
 impl Reply {
     const ACCEPTED: Reply = Reply::refused(0);
 
-    /// 1 to 13, which have no count; 0 where nothing ended.
+    /// 1 to 14, which have no count; 0 where nothing ended.
     const fn refused(number: u32) -> Reply {
         Reply { number, count: 0, ending: 0 }
     }
@@ -92,28 +99,38 @@ impl<const FAULT: u8> Memories<'_, FAULT> {
     }
 
     pub fn begin_read(&mut self, client: u32, query: &[u32]) -> Reply {
-        self.begin(READ, false, client, query)
+        self.begin(READ, false, client, query, None)
     }
 
     /// A read that wants how many records lie in the query's subspace.
     pub fn begin_count(&mut self, client: u32, query: &[u32]) -> Reply {
-        self.begin(READ, true, client, query)
+        self.begin(READ, true, client, query, None)
+    }
+
+    /// A read of the records whose value in this column, which the query does not name, is from lowest to highest.
+    pub fn begin_read_within(&mut self, client: u32, query: &[u32], column: u32, lowest: u32, highest: u32) -> Reply {
+        self.begin(READ, false, client, query, Some(Range { column, lowest, highest }))
+    }
+
+    /// A read that wants how many they are.
+    pub fn begin_count_within(&mut self, client: u32, query: &[u32], column: u32, lowest: u32, highest: u32) -> Reply {
+        self.begin(READ, true, client, query, Some(Range { column, lowest, highest }))
     }
 
     pub fn begin_insert(&mut self, client: u32, query: &[u32]) -> Reply {
-        self.begin(INSERT, false, client, query)
+        self.begin(INSERT, false, client, query, None)
     }
 
     pub fn begin_delete(&mut self, client: u32, query: &[u32]) -> Reply {
-        self.begin(DELETE, false, client, query)
+        self.begin(DELETE, false, client, query, None)
     }
 
-    fn begin(&mut self, kind: u32, counts: bool, client: u32, asked: &[u32]) -> Reply {
-        let refusal = self.begin_refusal(kind, client, asked);
+    fn begin(&mut self, kind: u32, counts: bool, client: u32, asked: &[u32], range: Option<Range>) -> Reply {
+        let refusal = self.begin_refusal(kind, client, asked, range);
         if refusal != 0 {
             return Reply::refused(refusal);
         }
-        let key = Query { counts, ..Query::arrived(self.clients[COLUMNS] as usize, asked) }.key();
+        let key = Query { counts, range, ..Query::arrived(self.clients[COLUMNS] as usize, asked) }.key();
         let own = self.client_mut(client);
         own[CLIENT_KIND] = kind;
         own[CLIENT_ENTRY..CLIENT_ENTRY + KEY_WIDTH].copy_from_slice(&key);

@@ -1,6 +1,7 @@
-//! Queries, their keys, and the labels of the nodes of reads and writes (document 01, "Queries and nodes"). Leans on layout.
+//! Queries, their keys, and the labels of the nodes of reads and writes (document 01, "Queries and nodes"). Leans on layout and range.
 
 use crate::layout::*;
+use crate::range::Range;
 use crate::Fault;
 
 /// A query of k columns: bit c of `named` is 1 where column c names `values[c]`, which is 0 otherwise. And what a read of it wants.
@@ -11,15 +12,17 @@ pub struct Query {
     pub values: [u32; 4],
     /// a read that wants a count, not a list; never of a write
     pub counts: bool,
+    /// of a read, for a column that is a star; never of a write
+    pub range: Option<Range>,
 }
 
 /// The five numbers of a node's label: a byte of tags for each column, then the values.
 pub type Label = [u32; LABEL_WIDTH];
 
 impl Query {
-    /// The query that a begin was given, known to have k columns, k from 1 to 4; for a list or a write.
+    /// The query that a begin was given, known to have k columns, k from 1 to 4; for a list without a range or a write.
     pub fn arrived(k: usize, asked: &[u32]) -> Query {
-        let mut q = Query { k, named: 0, values: [0; 4], counts: false };
+        let mut q = Query { k, named: 0, values: [0; 4], counts: false, range: None };
         for (c, column) in asked.chunks_exact(2).enumerate() {
             q.named |= column[0] << c;
             q.values[c] = column[1];
@@ -30,16 +33,24 @@ impl Query {
     /// The query that a desk's key holds, if it is the key of a query of k columns.
     pub fn kept(k: usize, key: &[u32; KEY_WIDTH]) -> Option<Query> {
         let counts = key[0] & COUNT_BIT != 0;
-        let q = Query { k, named: key[0] & !COUNT_BIT, values: [key[1], key[2], key[3], key[4]], counts };
-        let free = q.named < 1 << k && key[5] == 0 && key[6] == 0;
+        let q = Query { k, named: key[0] & MARKS, values: [key[1], key[2], key[3], key[4]], counts, range: Range::kept(key) };
         let zeros = (0..4).all(|c| q.names(c) || q.values[c] == 0);
-        (free && zeros).then_some(q)
+        (q.named < 1 << k && zeros && q.has_sound_range(key)).then_some(q)
+    }
+
+    /// A range that a begin would not refuse, or none and no ends.
+    fn has_sound_range(&self, key: &[u32; KEY_WIDTH]) -> bool {
+        match self.range {
+            Some(range) => range.column < self.k as u32 && !self.names(range.column as usize) && !range.is_reversed(),
+            None => key[KEY_LOWEST] == 0 && key[KEY_HIGHEST] == 0,
+        }
     }
 
     pub fn key(&self) -> [u32; KEY_WIDTH] {
         let v = self.values;
         let wanted = if self.counts { COUNT_BIT } else { 0 };
-        [self.named | wanted, v[0], v[1], v[2], v[3], 0, 0]
+        let (ranged, lowest, highest) = self.range.map_or((0, 0, 0), |range| (range.in_key(), range.lowest, range.highest));
+        [self.named | wanted | ranged, v[0], v[1], v[2], v[3], lowest, highest]
     }
 
     pub fn names(&self, column: usize) -> bool {
@@ -113,4 +124,9 @@ pub fn is_refused(k: u32, asked: &[u32], insert: bool) -> bool {
             [mark, _] => *mark != 1,
             _ => true,
         })
+}
+
+/// 2: the range's column is not below k, or the query, known to be one of k columns, names it.
+pub fn is_refused_range(k: u32, asked: &[u32], range: &Range) -> bool {
+    range.column >= k || asked[2 * range.column as usize] != 0
 }

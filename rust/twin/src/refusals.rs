@@ -1,9 +1,11 @@
-//! What the controller turns down, the smallest number that applies (document 01). Leans on layout, answers and query.
+//! What the controller turns down, the first number that applies, in the order 1, 2, 14, 3 and so on (documents 01
+//! and 02, S-3). Leans on layout, answers, query and range.
 //! What only a step or an abandoning can find at a node stands in nodes.
 
 use crate::answers::entry_of;
 use crate::layout::*;
 use crate::query::{self, Query};
+use crate::range::Range;
 use crate::{answers, nodes, Memories};
 
 impl<const FAULT: u8> Memories<'_, FAULT> {
@@ -45,7 +47,7 @@ impl<const FAULT: u8> Memories<'_, FAULT> {
         self.client(client).iter().all(|number| *number == 0)
     }
 
-    /// The query of a desk that is not idle, if its kind, query, step and length are in range. No write wants a count.
+    /// The query of a desk that is not idle, if its kind, query, step and length are in range. No write wants a count or has a range.
     fn sound_query(&self, client: u32) -> Option<Query> {
         let own = self.client(client);
         let kind = own[CLIENT_KIND];
@@ -53,19 +55,27 @@ impl<const FAULT: u8> Memories<'_, FAULT> {
         let query = Query::kept(self.clients[COLUMNS] as usize, entry.first_chunk()?)?;
         let steps = if kind == READ { query.looks() + 3 } else { 2 * query.announcements() + 1 };
         let sound = (READ..=DELETE).contains(&kind)
-            && (kind == READ || !query.counts)
+            && (kind == READ || !query.counts && query.range.is_none())
             && (kind != INSERT || query.names_all())
             && own[CLIENT_STEPS] < steps
             && entry[ENTRY_LENGTH] as usize <= answers::most(entry);
         sound.then_some(query)
     }
 
-    /// For a begin, in memories of any contents.
-    pub(crate) fn begin_refusal(&self, kind: u32, client: u32, asked: &[u32]) -> u32 {
+    /// 2, of the query or of the range's column.
+    fn refuses_columns(&self, kind: u32, asked: &[u32], range: Option<Range>) -> bool {
+        let k = self.clients[COLUMNS];
+        query::is_refused(k, asked, kind == INSERT) || range.is_some_and(|range| query::is_refused_range(k, asked, &range))
+    }
+
+    /// For a begin, in memories of any contents: 14 comes right after 2.
+    pub(crate) fn begin_refusal(&self, kind: u32, client: u32, asked: &[u32], range: Option<Range>) -> u32 {
         if self.is_short() {
             1
-        } else if query::is_refused(self.clients[COLUMNS], asked, kind == INSERT) {
+        } else if self.refuses_columns(kind, asked, range) {
             2
+        } else if range.is_some_and(|range| range.is_reversed()) {
+            14
         } else if self.is_unsound() {
             3
         } else if client as usize >= CLIENTS {

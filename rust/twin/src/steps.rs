@@ -50,7 +50,7 @@ impl<const FAULT: u8> Memories<'_, FAULT> {
 
     fn take_list(&mut self, tray: &mut [u32], client: u32, query: &Query) -> Reply {
         let mut found = [0; LIST_WIDTH];
-        let Some(count) = table::list(self.table, query, &mut found) else {
+        let Some(count) = table::list(self.table, &taken::<FAULT>(query), &mut found) else {
             self.client_mut(client).fill(0);
             return Reply::refused(12);
         };
@@ -68,7 +68,7 @@ impl<const FAULT: u8> Memories<'_, FAULT> {
 
     /// However many there are: a count never ends with 12. Nothing stands in the list's place.
     fn take_count(&mut self, tray: &mut [u32], client: u32, query: &Query) -> Reply {
-        let count = table::count(self.table, query);
+        let count = table::count(self.table, &taken::<FAULT>(query));
         let own = self.client_mut(client);
         if own[CLIENT_SAW] != 0 {
             own.fill(0);
@@ -136,6 +136,15 @@ impl<const FAULT: u8> Memories<'_, FAULT> {
         own.fill(0);
         reply
     }
+}
+
+/// What is taken from the table: what is asked; the fault: and the value just above a range.
+fn taken<const FAULT: u8>(query: &Query) -> Query {
+    let mut query = *query;
+    if FAULT == Fault::WideRange as u8 {
+        query.range.iter_mut().for_each(|range| range.highest = range.highest.saturating_add(1));
+    }
+    query
 }
 
 /// A list's records, known to be at most 32, go to the tray's start; a count leaves the tray as it is.

@@ -1,9 +1,11 @@
-//! The table memory: lists, counts, inserts, deletes (document 01, "One desk, step by step"). Leans on layout and query.
+//! The table memory: lists, counts, inserts, deletes (document 01, "One desk, step by step"). Leans on layout and query, and on within for what
+//! has a range.
 //! The count in memory is known to be at most 2,048 and the memory to be long enough: refusals come first. The records need
 //! not be ascending, so every search goes through the table from the start.
 
 use crate::layout::*;
 use crate::query::Query;
+use crate::within;
 use std::cmp::Ordering;
 
 /// What a write's table step did.
@@ -25,8 +27,9 @@ macro_rules! by_width {
         }
     };
 }
+pub(crate) use by_width;
 
-fn records<const K: usize>(table: &[u32]) -> &[[u32; K]] {
+pub(crate) fn records<const K: usize>(table: &[u32]) -> &[[u32; K]] {
     &table[HEAD..TABLE_LEAST].as_chunks().0[..table[COUNT] as usize]
 }
 
@@ -49,9 +52,13 @@ fn lies<const K: usize>(record: &[u32; K], (mask, want): &([u32; K], [u32; K])) 
     off == 0
 }
 
-/// The records in the query's subspace, in the table's order, written one after another; none if they are more than 32.
+/// The records in the query's subspace and in its range, if it has one, in the table's order, written one after another; none if they are more
+/// than 32.
 pub fn list(table: &[u32], query: &Query, out: &mut [u32; LIST_WIDTH]) -> Option<usize> {
-    by_width!(query.k, list_of(table, query, out))
+    match query.range {
+        None => by_width!(query.k, list_of(table, query, out)),
+        Some(range) => within::list(table, query, range, out),
+    }
 }
 
 fn list_of<const K: usize>(table: &[u32], query: &Query, out: &mut [u32; LIST_WIDTH]) -> Option<usize> {
@@ -70,9 +77,12 @@ fn list_of<const K: usize>(table: &[u32], query: &Query, out: &mut [u32; LIST_WI
     Some(count)
 }
 
-/// How many records lie in the query's subspace: one pass, and nothing is copied.
+/// How many records lie in the query's subspace and in its range, if it has one: one pass, and nothing is copied.
 pub fn count(table: &[u32], query: &Query) -> usize {
-    by_width!(query.k, count_of(table, query))
+    match query.range {
+        None => by_width!(query.k, count_of(table, query)),
+        Some(range) => within::count(table, query, range),
+    }
 }
 
 fn count_of<const K: usize>(table: &[u32], query: &Query) -> usize {

@@ -1,94 +1,11 @@
 //! The cases of document 01, "On each side of a line", on the twin: 1 to 5 on labels, 6 to 12 on memories; and those of a count (S-1).
 
+mod hall;
+
+use hall::*;
 use twin::layout::*;
 use twin::query::{Label, Query};
-use twin::{Memories, Reply, PLAIN};
-
-const ACCEPTED: Reply = Reply { number: 0, count: 0, ending: 0 };
-
-struct Hall {
-    table: Vec<u32>,
-    nodes: Vec<u32>,
-    answers: Vec<u32>,
-    clients: Vec<u32>,
-    tray: Vec<u32>,
-}
-
-impl Hall {
-    fn open(k: u32) -> Hall {
-        let mut hall = Hall {
-            table: vec![7; TABLE_LEAST],
-            nodes: vec![7; NODES_LEAST],
-            answers: vec![7; ANSWERS_LEAST],
-            clients: vec![7; CLIENTS_LEAST],
-            tray: vec![7; TRAY_LEAST],
-        };
-        assert_eq!(hall.lend().open(k), ACCEPTED);
-        hall
-    }
-
-    fn lend(&mut self) -> Memories<'_> {
-        Memories { table: &mut self.table, nodes: &mut self.nodes, answers: &mut self.answers, clients: &mut self.clients }
-    }
-
-    fn step(&mut self, client: u32) -> Reply {
-        let mut m: Memories<'_> = Memories { table: &mut self.table, nodes: &mut self.nodes, answers: &mut self.answers, clients: &mut self.clients };
-        m.step(&mut self.tray, client)
-    }
-
-    fn steps(&mut self, client: u32, count: u32) {
-        for _ in 0..count {
-            assert_eq!(self.step(client), ACCEPTED);
-        }
-    }
-
-    /// Steps until something ends: after how many steps, and how.
-    fn run(&mut self, client: u32) -> (u32, Reply) {
-        let mut made = 1;
-        loop {
-            let reply = self.step(client);
-            if reply != ACCEPTED {
-                return (made, reply);
-            }
-            made += 1;
-        }
-    }
-
-    fn read(&mut self, client: u32, query: &[u32]) -> (u32, Reply) {
-        assert_eq!(self.lend().begin_read(client, query), ACCEPTED);
-        self.run(client)
-    }
-
-    /// A count, whose tray keeps every number at each step.
-    fn count(&mut self, client: u32, query: &[u32]) -> (u32, Reply) {
-        assert_eq!(self.lend().begin_count(client, query), ACCEPTED);
-        let tray = self.tray.clone();
-        let ended = self.run(client);
-        assert_eq!(self.tray, tray);
-        ended
-    }
-
-    fn insert(&mut self, client: u32, query: &[u32]) -> (u32, Reply) {
-        assert_eq!(self.lend().begin_insert(client, query), ACCEPTED);
-        self.run(client)
-    }
-
-    fn node(&self, place: usize) -> &[u32] {
-        &self.nodes[HEAD + place * NODE_WIDTH..][..NODE_WIDTH]
-    }
-
-    fn filed_revisions(&self, place: usize, looks: usize) -> &[u32] {
-        &self.answers[HEAD + place * ENTRY_WIDTH + ENTRY_REVISIONS..][..looks]
-    }
-}
-
-fn from_table(count: u32) -> Reply {
-    Reply { number: 0, count, ending: 2 }
-}
-
-fn from_file(count: u32) -> Reply {
-    Reply { number: 0, count, ending: 1 }
-}
+use twin::{Reply, PLAIN};
 
 /// A column for each word: a number, * or ?.
 fn label(text: &str) -> Label {
@@ -182,16 +99,6 @@ fn case_9_a_node_leaves_and_comes_back() {
     assert_eq!(hall.node(2)[..7], [TAG_VALUE, 5, 0, 0, 0, 0, 7]);
 }
 
-/// A table of `count` records 0, 1, .., with k columns of which only the first differs.
-fn filled(k: u32, count: u32) -> Hall {
-    let mut hall = Hall::open(k);
-    hall.table[COUNT] = count;
-    for i in 0..count {
-        hall.table[HEAD + (i * k) as usize] = i;
-    }
-    hall
-}
-
 #[test]
 fn case_10_32_records_are_listed_33_are_not() {
     for k in 1..=4 {
@@ -225,8 +132,6 @@ fn case_12_worn() {
         assert_eq!(hall.lend().begin_read(2, &[1, 5]), ACCEPTED);
     }
 }
-
-const UNSOUND: Reply = Reply { number: 3, count: 0, ending: 0 };
 
 /// The first number of a count's key: the bit, and no column named.
 const STARS: u32 = COUNT_BIT;
@@ -332,15 +237,5 @@ fn no_write_wants_a_count() {
         hall.clients[HEAD + CLIENT_KIND] = kind;
         hall.clients[HEAD + CLIENT_ENTRY] |= COUNT_BIT;
         assert_eq!(hall.step(0), reply);
-    }
-}
-
-#[test]
-fn above_the_counts_bit_a_key_has_none() {
-    for bit in 5..32 {
-        let mut hall = Hall::open(4);
-        assert_eq!(hall.lend().begin_count(0, &[0; 8]), ACCEPTED);
-        hall.clients[HEAD + CLIENT_ENTRY] |= 1 << bit;
-        assert_eq!((hall.step(0), hall.lend().begin_read(0, &[0; 8])), (UNSOUND, UNSOUND));
     }
 }

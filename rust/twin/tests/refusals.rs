@@ -1,4 +1,4 @@
-//! Refusals 1 to 11 alter nothing, whatever the memories hold.
+//! Refusals 1 to 11 and 14 alter nothing, whatever the memories hold.
 
 use twin::layout::*;
 use twin::Memories;
@@ -22,9 +22,11 @@ fn refusals_alter_nothing() {
         let [table, nodes, answers, clients] = &mut after;
         let mut m: Memories = Memories { table, nodes, answers, clients };
         let (client, place) = (seed as u32 % 13, seed as u32 % 5);
-        let reply = match seed / 13 % 9 {
+        let reply = match seed / 13 % 11 {
             0 => m.begin_read(client, &[1, 2, 0, 0]),
             8 => m.begin_count(client, &[1, 2, 0, 0]),
+            9 => m.begin_read_within(client, &[1, 2, 0, 0], 1, 4, place + 2),
+            10 => m.begin_count_within(client, &[1, 2, 0, 0], 1, 4, place + 2),
             1 => m.begin_insert(client, &[1, 2, 1, 3]),
             2 => m.begin_delete(client, &[1, 2]),
             3 => m.step(&mut [0; 128], client),
@@ -33,7 +35,7 @@ fn refusals_alter_nothing() {
             6 => m.evict_node(place),
             _ => m.renew(),
         };
-        if reply.number != 0 && reply.number < 12 {
+        if ![0, 12, 13].contains(&reply.number) {
             refused += 1;
             assert!(before == after, "seed {seed}");
         }

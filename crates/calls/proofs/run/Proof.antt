@@ -21,35 +21,47 @@ begin-count-requires c κs = search needs
 enum-known-call-3 : tie.Need-enum-known-call-3
 enum-known-call-3 c = search needs
 
-begin-insert-requires : tie.Need-begin-insert-requires
-begin-insert-requires c κs = search needs
+begin-read-within-requires : tie.Need-begin-read-within-requires
+begin-read-within-requires c κs = search needs
 
 enum-known-call-4 : tie.Need-enum-known-call-4
 enum-known-call-4 c = search needs
 
-begin-delete-requires : tie.Need-begin-delete-requires
-begin-delete-requires c κs = search needs
+begin-count-within-requires : tie.Need-begin-count-within-requires
+begin-count-within-requires c κs = search needs
 
 enum-known-call-5 : tie.Need-enum-known-call-5
 enum-known-call-5 c = search needs
 
-step-requires : tie.Need-step-requires
-step-requires c κs = search needs
+begin-insert-requires : tie.Need-begin-insert-requires
+begin-insert-requires c κs = search needs
 
 enum-known-call-6 : tie.Need-enum-known-call-6
 enum-known-call-6 c = search needs
 
-abandon-requires : tie.Need-abandon-requires
-abandon-requires c κs = search needs
+begin-delete-requires : tie.Need-begin-delete-requires
+begin-delete-requires c κs = search needs
 
 enum-known-call-7 : tie.Need-enum-known-call-7
 enum-known-call-7 c = search needs
 
-evict-answer-requires : tie.Need-evict-answer-requires
-evict-answer-requires c κs = search needs
+step-requires : tie.Need-step-requires
+step-requires c κs = search needs
 
 enum-known-call-8 : tie.Need-enum-known-call-8
 enum-known-call-8 c = search needs
+
+abandon-requires : tie.Need-abandon-requires
+abandon-requires c κs = search needs
+
+enum-known-call-9 : tie.Need-enum-known-call-9
+enum-known-call-9 c = search needs
+
+evict-answer-requires : tie.Need-evict-answer-requires
+evict-answer-requires c κs = search needs
+
+enum-known-call-10 : tie.Need-enum-known-call-10
+enum-known-call-10 c = search needs
 
 evict-node-requires : tie.Need-evict-node-requires
 evict-node-requires c κs = search needs
@@ -115,7 +127,7 @@ unfolding ran withTray callOf trayAfter callResult
 returns-3 c =
     let b = c .before .before .before .before .before .before .before .before in
     let k = b .before .before .before .before .before .before in
-    rw (k .call3 .given .1) (without-tray _ (b .begin-insert .ensures))
+    rw (k .call3 .given .1) (without-tray _ (b .begin-read-within .ensures))
 
 same-length-13 : tie.Need-same-length-13
 same-length-13 c = search needs
@@ -134,7 +146,7 @@ unfolding ran withTray callOf trayAfter callResult
 returns-4 c =
     let b = c .before .before .before .before .before .before .before .before in
     let k = b .before .before .before .before .before .before in
-    rw (k .call4 .given .1) (without-tray _ (b .begin-delete .ensures))
+    rw (k .call4 .given .1) (without-tray _ (b .begin-count-within .ensures))
 
 same-length-17 : tie.Need-same-length-17
 same-length-17 c = search needs
@@ -148,16 +160,15 @@ same-length-19 c = search needs
 same-length-20 : tie.Need-same-length-20
 same-length-20 c = search needs
 
-same-length-21 : tie.Need-same-length-21
-same-length-21 c = search needs
-
 returns-5 : tie.Need-returns-5
 unfolding ran withTray callOf trayAfter callResult
 returns-5 c =
-    let t = c .before .before in
-    let b = t .before .before .before .before .before .before .before .before in
-    let k = b .before .before .before .before .before .before .before in
-    rw (k .call5 .given .1) (b .step .ensures)
+    let b = c .before .before .before .before .before .before .before .before in
+    let k = b .before .before .before .before .before .before in
+    rw (k .call5 .given .1) (without-tray _ (b .begin-insert .ensures))
+
+same-length-21 : tie.Need-same-length-21
+same-length-21 c = search needs
 
 same-length-22 : tie.Need-same-length-22
 same-length-22 c = search needs
@@ -168,15 +179,15 @@ same-length-23 c = search needs
 same-length-24 : tie.Need-same-length-24
 same-length-24 c = search needs
 
-same-length-25 : tie.Need-same-length-25
-same-length-25 c = search needs
-
 returns-6 : tie.Need-returns-6
 unfolding ran withTray callOf trayAfter callResult
 returns-6 c =
     let b = c .before .before .before .before .before .before .before .before in
     let k = b .before .before .before .before .before .before in
-    rw (k .call6 .given .1) (without-tray _ (b .abandon .ensures))
+    rw (k .call6 .given .1) (without-tray _ (b .begin-delete .ensures))
+
+same-length-25 : tie.Need-same-length-25
+same-length-25 c = search needs
 
 same-length-26 : tie.Need-same-length-26
 same-length-26 c = search needs
@@ -193,9 +204,10 @@ same-length-29 c = search needs
 returns-7 : tie.Need-returns-7
 unfolding ran withTray callOf trayAfter callResult
 returns-7 c =
-    let b = c .before .before .before .before .before .before .before .before in
-    let k = b .before .before .before .before .before .before in
-    rw (k .call7 .given .1) (without-tray _ (b .evict-answer .ensures))
+    let t = c .before .before in
+    let b = t .before .before .before .before .before .before .before .before in
+    let k = b .before .before .before .before .before .before .before in
+    rw (k .call7 .given .1) (b .step .ensures)
 
 same-length-30 : tie.Need-same-length-30
 same-length-30 c = search needs
@@ -214,7 +226,7 @@ unfolding ran withTray callOf trayAfter callResult
 returns-8 c =
     let b = c .before .before .before .before .before .before .before .before in
     let k = b .before .before .before .before .before .before in
-    rw (k .call8 .given .1) (without-tray _ (b .evict-node .ensures))
+    rw (k .call8 .given .1) (without-tray _ (b .abandon .ensures))
 
 same-length-34 : tie.Need-same-length-34
 same-length-34 c = search needs
@@ -232,6 +244,44 @@ returns-9 : tie.Need-returns-9
 unfolding ran withTray callOf trayAfter callResult
 returns-9 c =
     let b = c .before .before .before .before .before .before .before .before in
+    let k = b .before .before .before .before .before .before in
+    rw (k .call9 .given .1) (without-tray _ (b .evict-answer .ensures))
+
+same-length-38 : tie.Need-same-length-38
+same-length-38 c = search needs
+
+same-length-39 : tie.Need-same-length-39
+same-length-39 c = search needs
+
+same-length-40 : tie.Need-same-length-40
+same-length-40 c = search needs
+
+same-length-41 : tie.Need-same-length-41
+same-length-41 c = search needs
+
+returns-10 : tie.Need-returns-10
+unfolding ran withTray callOf trayAfter callResult
+returns-10 c =
+    let b = c .before .before .before .before .before .before .before .before in
+    let k = b .before .before .before .before .before .before in
+    rw (k .call10 .given .1) (without-tray _ (b .evict-node .ensures))
+
+same-length-42 : tie.Need-same-length-42
+same-length-42 c = search needs
+
+same-length-43 : tie.Need-same-length-43
+same-length-43 c = search needs
+
+same-length-44 : tie.Need-same-length-44
+same-length-44 c = search needs
+
+same-length-45 : tie.Need-same-length-45
+same-length-45 c = search needs
+
+returns-11 : tie.Need-returns-11
+unfolding ran withTray callOf trayAfter callResult
+returns-11 c =
+    let b = c .before .before .before .before .before .before .before .before in
     let k = b .before .before .before .before .before in
     rw (k .enum-told .given .1) (without-tray _ (b .renew .ensures))
 
@@ -244,16 +294,20 @@ run-spec =
     enum-known-call-2
     begin-count-requires
     enum-known-call-3
-    begin-insert-requires
+    begin-read-within-requires
     enum-known-call-4
-    begin-delete-requires
+    begin-count-within-requires
     enum-known-call-5
-    step-requires
+    begin-insert-requires
     enum-known-call-6
-    abandon-requires
+    begin-delete-requires
     enum-known-call-7
-    evict-answer-requires
+    step-requires
     enum-known-call-8
+    abandon-requires
+    enum-known-call-9
+    evict-answer-requires
+    enum-known-call-10
     evict-node-requires
     enum-told
     renew-requires
@@ -281,13 +335,13 @@ run-spec =
     same-length-18
     same-length-19
     same-length-20
-    same-length-21
     returns-5
+    same-length-21
     same-length-22
     same-length-23
     same-length-24
-    same-length-25
     returns-6
+    same-length-25
     same-length-26
     same-length-27
     same-length-28
@@ -302,4 +356,14 @@ run-spec =
     same-length-35
     same-length-36
     same-length-37
-    returns-9)
+    returns-9
+    same-length-38
+    same-length-39
+    same-length-40
+    same-length-41
+    returns-10
+    same-length-42
+    same-length-43
+    same-length-44
+    same-length-45
+    returns-11)

@@ -41,7 +41,7 @@ returns-3 c =
     let z = d .before in
     let q = z .before .before in
     let i = q .before .before in
-    begin-desk _ _ _ (sym (i .if1 .left) ∙ i .before .is-short .ensures _) (q .request-of .ensures) (omega (arith, z .if2 .left)) (d .desk-code .ensures _ _) refl
+    begin-desk _ _ _ (sym (i .if1 .left) ∙ i .before .is-short .ensures _) (q .request-of .ensures) (omega (arith, z .if2 .left)) (d .desk-code .ensures _ _ _) refl
 
 pub begin-check-spec : {M : Type 1} → statement M
 begin-check-spec =

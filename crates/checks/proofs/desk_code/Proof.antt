@@ -11,19 +11,19 @@ at-client-requires : tie.Need-at-client-requires
 at-client-requires c κs = c .before .before .before .before .pre
 
 returns : tie.Need-returns
-returns c = let f = c .before .before in λ b a. desk-busy _ _ _ _ (f .at-client .ensures .code) (c .if1 .taken)
+returns c = let f = c .before .before in λ b g a. desk-busy _ _ _ _ (f .at-client .ensures .code) (c .if1 .taken)
 
 returns-2 : tie.Need-returns-2
 returns-2 c =
     let i = c .before .before in
     let f = i .before .before in
-    λ b a. desk-other _ _ _ _ (f .at-client .ensures .code) (i .if1 .left) (c .if2 .taken)
+    λ b g a. desk-other _ _ _ _ (f .at-client .ensures .code) (i .if1 .left) (c .if2 .taken)
 
 returns-3 : tie.Need-returns-3
 returns-3 c =
     let e = c .before in
     let f = e .before .before .before .before in
-    λ b a. desk-read _ _ _ _ (f .at-client .ensures .code) (e .if2 .left) (reads-only 0 _ b a (c .if3 .taken))
+    λ b g a. desk-read _ _ _ _ (f .at-client .ensures .code) (e .if2 .left) (reads-only 0 _ b g a (c .if3 .taken))
 
 is-worn-requires : tie.Need-is-worn-requires
 is-worn-requires c κs =
@@ -37,14 +37,14 @@ returns-4 c =
     let k = c .before .before in
     let e = k .before in
     let f = e .before .before .before .before in
-    λ b a. desk-worn _ _ _ _ (f .at-client .ensures .code) (e .if2 .left) (writes-only 0 _ b a (k .if3 .left)) (sym (c .if4 .taken) ∙ c .before .is-worn .ensures _)
+    λ b g a. desk-worn _ _ _ _ (f .at-client .ensures .code) (e .if2 .left) (writes-only 0 _ b g a (k .if3 .left)) (sym (c .if4 .taken) ∙ c .before .is-worn .ensures _)
 
 returns-5 : tie.Need-returns-5
 returns-5 c =
     let k = c .before .before in
     let e = k .before in
     let f = e .before .before .before .before in
-    λ b a. desk-write _ _ _ _ (f .at-client .ensures .code) (e .if2 .left) (writes-only 0 _ b a (k .if3 .left)) (sym (c .if4 .left) ∙ c .before .is-worn .ensures _)
+    λ b g a. desk-write _ _ _ _ (f .at-client .ensures .code) (e .if2 .left) (writes-only 0 _ b g a (k .if3 .left)) (sym (c .if4 .left) ∙ c .before .is-worn .ensures _)
 
 pub desk-code-spec : {M : Type 1} → statement M
 desk-code-spec =

@@ -1,12 +1,16 @@
--- `clients::bad_key` meets its contract: the key's part of the memory behind its first number is tested with the marks. Assumes nothing.
+-- `clients::bad_key` meets its contract: the query's part of the key behind its first number is tested with the marks. Assumes nothing.
 use mathlib.Core.Path.{ap, _∙_}
 use mathlib.Core.Bool.{not}
 use mathlib.Core.List.{List, _∷_}
-use Prim.Native.Nat.{ℕ}
-use Rattle.query.specs.Encoding.{isKey}
-use Rattle.query.specs.Shape.{shapeOf}
-use Rattle.clients.proofs.ClientReads.{rest-read}
+use Prim.Native.Nat.{ℕ, _-_, _≤_}
+use native.Mathlib.Omega.{arith}
 use borrow.Author.Needs.{needs}
+use Rattle.lists.specs.Lists.{padded}
+use Rattle.query.specs.Encoding.{isKey, keyWidth}
+use Rattle.query.specs.Shape.{shapeOf}
+use Rattle.columns.proofs.KeyLoops.{query-few}
+use Rattle.clients.specs.ClientContracts.{plainKey}
+use Rattle.clients.proofs.ClientReads.{rest-read}
 use Rattle.clients.proofs.bad_key.Statement.{statement}
 use Rattle.clients.proofs.bad_key.Tie as tie
 
@@ -19,11 +23,15 @@ add-at c = search needs
 add-at-2 : tie.Need-add-at-2
 add-at-2 c = search needs
 
-add-end : tie.Need-add-end
-add-end c = search needs
+query-width-requires : tie.Need-query-width-requires
+query-width-requires c κs = search needs
 
-sub-end : tie.Need-sub-end
-sub-end c = search needs
+-- as many numbers as are the query's
+few : (c : tie.After-query-width) → c .query-width .result ≤ keyWidth - 1
+few c = query-few _ _ (c .query-width .ensures)
+
+add-end : tie.Need-add-end
+add-end c = omega (arith, few c, c .before .before .pre .0 .below)
 
 mul-is-key : tie.Need-mul-is-key
 mul-is-key c = search needs
@@ -35,15 +43,18 @@ part-is-key-start : tie.Need-part-is-key-start
 part-is-key-start c = search needs
 
 part-is-key-end : tie.Need-part-is-key-end
-part-is-key-end c = search needs
+part-is-key-end c = let f = c .before .before .pre .0 in omega (arith, few c, f .below, f .long)
 
 is-key-requires : tie.Need-is-key-requires
-is-key-requires c κs = search needs
+is-key-requires c κs = (c .before .before .before .pre .1, omega (arith, few (c .before)))
 
 returns : tie.Need-returns
+unfolding plainKey
 returns c =
-    let a = c .before .before .before .args in
-    ap not (c .is-key .ensures ∙ ap (λ (l : List ℕ). isKey (shapeOf (a .k)) (a .marks ∷ l)) (rest-read (a .clients .now) (a .d)))
+    let q = c .before .before in
+    let a = q .before .before .args in
+    ap not (c .is-key .ensures ∙ ap (λ (l : List ℕ). isKey (shapeOf (a .k)) (a .marks ∷ padded (keyWidth - 1) l))
+    (rest-read (a .clients .now) (a .d) (q .query-width .result) (few q) ∙ rw (q .query-width .ensures)))
 
 pub bad-key-spec : {M : Type 1} → statement M
 bad-key-spec =
@@ -52,8 +63,8 @@ bad-key-spec =
     mul-at
     add-at
     add-at-2
+    query-width-requires
     add-end
-    sub-end
     mul-is-key
     sub-is-key
     part-is-key-start

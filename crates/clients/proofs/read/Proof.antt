@@ -2,6 +2,7 @@
 use mathlib.Core.Path.{refl}
 use native.Mathlib.Omega.{arith}
 use Rattle.rules.specs.Client.{kind}
+use Rattle.clients.proofs.ClientMemory.{length-client}
 use Rattle.clients.proofs.ClientReads.{marks-read, counts-read, values-read}
 use borrow.Author.Needs.{needs}
 use Rattle.clients.proofs.read.Statement.{statement}
@@ -78,13 +79,15 @@ unfolding kind
 returns c =
     let w = c .before .before in
     let f = w .before .before .before .before .before .before in
+    let p = f .before .before .before .pre in
+    let l = length-client _ _ p in
     record {
       columns = refl;
       kind = w .word2 .ensures;
       steps = f .before .steps-of .ensures;
-      marks = marks-read _ _ (f .word .ensures) _ (c .before .bare-marks .ensures);
-      counts = counts-read _ _ (f .word .ensures) _ (c .is-count .ensures);
-      values = values-read _ _ _ (f .before .before .before .pre) refl;
+      marks = marks-read _ l _ (f .word .ensures) _ (c .before .bare-marks .ensures);
+      counts = counts-read _ l _ (f .word .ensures) _ (c .is-count .ensures);
+      values = values-read _ _ _ p refl;
     }
 
 pub read-spec : {M : Type 1} → statement M

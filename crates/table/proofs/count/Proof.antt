@@ -1,31 +1,24 @@
--- `table::count` meets its contract: for each width, what the pass counts. Assumes nothing.
+-- `table::count` meets its contract: what the pass counts, without a range and with one. Assumes nothing.
 use mathlib.Core.Path.{_≡_}
+use Prim.Native.Nat.{ℕ, _<_}
 use native.Mathlib.Omega.{arith}
-use lib.ListN.{length}
+use lib.ListN.{length, getD}
 use borrow.Author.Needs.{needs}
 use Rattle.table.proofs.TableMemory.{ends}
-use Rattle.table.proofs.Widths.{is-masked, records-stretch, counted}
+use Rattle.table.proofs.Stretches.{records-stretch, counted, is-plain, kept-plain, column-in, ends-ordered, is-bounded, kept-ranged}
 use Rattle.table.proofs.count.Statement.{statement}
 use Rattle.table.proofs.count.Tie as tie
 
--- the call, where its records are lent, and the masks and values
+-- the call, where its records are lent
 abbrev start : tie.After-recs → tie.Start
-start c = c .before .before .before .before
-
-abbrev words : tie.After-recs → tie.After-mask-words
-words c = c .before .before
+start c = c .before .before .before
 
 slots : (c : tie.Start) → length (c .args .cols) ≡ 4
 slots c = search needs
 
--- what is neither 4 nor 3 nor 2
-one : (c : tie.Else3) → start (c .before .before .before) .args .k ≡ 1
-one c =
-    let f = start (c .before .before .before) .pre .columns in
-    omega (arith, f .0, f .1, c .if3 .left, c .before .if2 .left, c .before .before .if1 .left)
-
-mask-words-requires : tie.Need-mask-words-requires
-mask-words-requires c κs = search needs
+-- the numbers of the table are 32-bit numbers
+words : (c : tie.After-shared-slice-known) (i : ℕ) → getD (c .before .args .table .now) i 0 < 4294967296
+words c i = omega (arith, c .shared-slice-known .given i)
 
 shared-slice-read-n : tie.Need-shared-slice-read-n
 shared-slice-read-n c = search needs
@@ -34,10 +27,10 @@ cast-n : tie.Need-cast-n
 cast-n c = search needs
 
 mul-end : tie.Need-mul-end
-mul-end c = let f = c .before .before .before .pre in omega (arith, ends _ _ (f .columns .1) (f .few))
+mul-end c = let f = c .before .before .pre .0 in omega (arith, ends _ _ (f .columns .1) (f .few))
 
 add-end : tie.Need-add-end
-add-end c = let f = c .before .before .before .pre in omega (arith, ends _ _ (f .columns .1) (f .few))
+add-end c = let f = c .before .before .pre .0 in omega (arith, ends _ _ (f .columns .1) (f .few))
 
 sub-recs : tie.Need-sub-recs
 sub-recs c = search needs
@@ -46,89 +39,74 @@ part-recs-start : tie.Need-part-recs-start
 part-recs-start c = search needs
 
 part-recs-end : tie.Need-part-recs-end
-part-recs-end c = let f = c .before .before .before .pre in omega (arith, ends _ _ (f .columns .1) (f .few))
+part-recs-end c = let f = c .before .before .pre .0 in omega (arith, ends _ _ (f .columns .1) (f .few))
 
-slice-aggregate-skip-and-count : tie.Need-slice-aggregate-skip-and-count
-slice-aggregate-skip-and-count c = search needs
+enum-known-range : tie.Need-enum-known-range
+enum-known-range c = search needs
 
-skip-and-count-requires : tie.Need-skip-and-count-requires
-skip-and-count-requires c κs =
-    let t = c .before in
-    let r = t .before in
-    let f = start r .pre in
-    (records-stretch _ _ f 4 (t .if1 .taken), (is-masked _ _ _ (words r .mask-words .ensures) (slots (start r)) (f .columns .1), (omega arith, omega arith)))
+enum-told : tie.Need-enum-told
+enum-told c = search needs
+
+mask-words-requires : tie.Need-mask-words-requires
+mask-words-requires c κs = search needs
+
+slice-aggregate-count-plain : tie.Need-slice-aggregate-count-plain
+slice-aggregate-count-plain c = search needs
+
+count-plain-requires : tie.Need-count-plain-requires
+count-plain-requires c κs =
+    let m = c .before in
+    let s = start (m .before .before .before) in
+    let f = s .pre .0 in
+    (records-stretch _ _ f, is-plain _ _ _ (m .mask-words .ensures) (slots s) (f .columns .1))
 
 cast-result : tie.Need-cast-result
 cast-result c = search needs
 
 returns : tie.Need-returns
 returns c =
-    let t = c .before .before in
-    let r = t .before in
-    counted _ _ _ _ (start r .pre) (words r .mask-words .ensures) (slots (start r)) 4 (t .if1 .taken) _ (c .skip-and-count .ensures)
+    let m = c .before .before in
+    let s = start (m .before .before .before) in
+    let f = s .pre .0 in
+    let a = s .args in
+    let k = kept-plain (a .k) (a .table .now) (a .cols) _ f (m .mask-words .ensures) (slots s) (a .range) (m .before .enum-told .given .1) in
+    counted _ _ f _ _ _ k _ (c .count-plain .ensures)
 
-slice-aggregate-count-in : tie.Need-slice-aggregate-count-in
-slice-aggregate-count-in c = search needs
+bound-words-requires : tie.Need-bound-words-requires
+bound-words-requires c κs =
+    let f = start (c .before .before .before) .pre in
+    let e = c .before .range .given .1 in
+    (f .0 .columns .1, (omega (arith, column-in _ _ _ _ _ _ e (f .1), f .0 .columns .1), ends-ordered _ _ _ _ _ _ e (f .1)))
 
-count-in-requires : tie.Need-count-in-requires
-count-in-requires c κs =
-    let t = c .before in
-    let r = t .before .before in
-    let f = start r .pre in
-    (records-stretch _ _ f 3 (t .if2 .taken), is-masked _ _ _ (words r .mask-words .ensures) (slots (start r)) (f .columns .1))
+slice-aggregate-count-ranged : tie.Need-slice-aggregate-count-ranged
+slice-aggregate-count-ranged c = search needs
+
+count-ranged-requires : tie.Need-count-ranged-requires
+count-ranged-requires c κs =
+    let b = c .before in
+    let e = b .before .before .range .given .1 in
+    let s = start (b .before .before .before .before) in
+    let f = s .pre in
+    (records-stretch _ _ (f .0), is-bounded _ _ _ _ _ _ e (f .1) _ (b .bound-words .ensures .0) (slots s) (f .0 .columns .1))
 
 cast-result-2 : tie.Need-cast-result-2
 cast-result-2 c = search needs
 
 returns-2 : tie.Need-returns-2
 returns-2 c =
-    let t = c .before .before in
-    let r = t .before .before in
-    counted _ _ _ _ (start r .pre) (words r .mask-words .ensures) (slots (start r)) 3 (t .if2 .taken) _ (c .count-in .ensures)
-
-slice-aggregate-count-in-2 : tie.Need-slice-aggregate-count-in-2
-slice-aggregate-count-in-2 c = search needs
-
-count-in-requires-2 : tie.Need-count-in-requires-2
-count-in-requires-2 c κs =
-    let t = c .before in
-    let r = t .before .before .before in
-    let f = start r .pre in
-    (records-stretch _ _ f 2 (t .if3 .taken), is-masked _ _ _ (words r .mask-words .ensures) (slots (start r)) (f .columns .1))
-
-cast-result-3 : tie.Need-cast-result-3
-cast-result-3 c = search needs
-
-returns-3 : tie.Need-returns-3
-returns-3 c =
-    let t = c .before .before in
-    let r = t .before .before .before in
-    counted _ _ _ _ (start r .pre) (words r .mask-words .ensures) (slots (start r)) 2 (t .if3 .taken) _ (c .count-in2 .ensures)
-
-slice-aggregate-count-in-3 : tie.Need-slice-aggregate-count-in-3
-slice-aggregate-count-in-3 c = search needs
-
-count-in-requires-3 : tie.Need-count-in-requires-3
-count-in-requires-3 c κs =
-    let t = c .before in
-    let r = t .before .before .before in
-    let f = start r .pre in
-    (records-stretch _ _ f 1 (one t), is-masked _ _ _ (words r .mask-words .ensures) (slots (start r)) (f .columns .1))
-
-cast-result-4 : tie.Need-cast-result-4
-cast-result-4 c = search needs
-
-returns-4 : tie.Need-returns-4
-returns-4 c =
-    let t = c .before .before in
-    let r = t .before .before .before in
-    counted _ _ _ _ (start r .pre) (words r .mask-words .ensures) (slots (start r)) 1 (one t) _ (c .count-in3 .ensures)
+    let b = c .before .before in
+    let e = b .before .before .range .given .1 in
+    let r = b .before .before .before .before in
+    let s = start r in
+    let f = s .pre in
+    let a = s .args in
+    let k = kept-ranged (a .k) (a .cols) (a .range) _ _ _ e (f .1) _ (b .bound-words .ensures .0) (slots s) (f .0 .columns .1) (a .table .now) (f .0) (b .bound-words .ensures .1) (search needs) (words (r .before .before)) in
+    counted _ _ (f .0) _ _ _ k _ (c .count-ranged .ensures)
 
 pub count-spec : {M : Type 1} → statement M
 count-spec =
     tie.close
     (tie.spec
-    mask-words-requires
     shared-slice-read-n
     cast-n
     mul-end
@@ -136,19 +114,15 @@ count-spec =
     sub-recs
     part-recs-start
     part-recs-end
-    slice-aggregate-skip-and-count
-    skip-and-count-requires
+    enum-known-range
+    enum-told
+    mask-words-requires
+    slice-aggregate-count-plain
+    count-plain-requires
     cast-result
     returns
-    slice-aggregate-count-in
-    count-in-requires
+    bound-words-requires
+    slice-aggregate-count-ranged
+    count-ranged-requires
     cast-result-2
-    returns-2
-    slice-aggregate-count-in-2
-    count-in-requires-2
-    cast-result-3
-    returns-3
-    slice-aggregate-count-in-3
-    count-in-requires-3
-    cast-result-4
-    returns-4)
+    returns-2)

@@ -3,7 +3,7 @@ use mathlib.Core.Path.{_≡_}
 use native.Mathlib.Omega.{arith}
 use lib.ListN.{length}
 use borrow.Author.Needs.{needs}
-use Rattle.table.proofs.Widths.{is-masked, fit-is, went-is, deleted-is}
+use Rattle.table.proofs.Stretches.{is-masked, fit-is, went-is, deleted-is}
 use Rattle.table.proofs.delete.Statement.{statement}
 use Rattle.table.proofs.delete.Tie as tie
 

@@ -11,20 +11,25 @@ const STRAY: Limit = ("number of the desks memory that is not 0", "an idle desk 
 /// What is under way at desk 4: its kind, the columns named, their value, the steps made.
 type Work = (u32, u32, u32, u32);
 /// Where it is in range: what a step says, and an abandoning.
-type Good = Option<(Reply, u32)>;
-const GOES_ON: Good = Some((says(0), 0));
+pub type Good = Option<(Reply, u32)>;
+pub const GOES_ON: Good = Some((says(0), 0));
 
 /// All calls while number `at` of desk 4 is `value`.
 fn busy(rows: &mut Vec<Row>, k: u32, limit: Limit, work: Work, (at, value): (usize, u32), good: Good) {
     let (kind, named, v, steps) = work;
     let scene = Scene::opened(k).begun(kind, 4, named, v).steps(4, steps).put(client(4, at), value);
-    let five = query(k, ALL, 5);
-    let (begins, stepped, abandoned) = good.map_or((3, says(3), 3), |(stepped, abandoned)| (5, stepped, abandoned));
-    let begun = KINDS.map(|kind| (begin(kind, 4, five), says(begins)));
+    every_call(rows, &scene, limit, value, good);
+}
+
+/// All calls while desk 4 is busy and the others are idle.
+pub fn every_call(rows: &mut Vec<Row>, scene: &Scene, limit: Limit, value: u32, good: Good) {
+    let k = scene.k;
+    let (refused, stepped, abandoned) = good.map_or((3, says(3), 3), |(stepped, abandoned)| (5, stepped, abandoned));
+    let begun = begins(k, 4).into_iter().map(|call| (call, says(refused)));
     let moved = [(step(4), stepped), (abandon(4), says(abandoned))];
     // a renewal asks only whether the desk is idle, a call at another desk not even that
-    let others = [(Call::Renew, says(11)), (begin(READ, 5, five), says(0)), (Call::EvictAnswer { place: 0 }, says(8))];
-    rows.extend(begun.into_iter().chain(moved).chain(others).map(|(call, wanted)| scene.row(limit, value, call, wanted)));
+    let others = [(Call::Renew, says(11)), (begin(READ, 5, query(k, ALL, 5)), says(0)), (Call::EvictAnswer { place: 0 }, says(8))];
+    rows.extend(begun.chain(moved).chain(others).map(|(call, wanted)| scene.row(limit, value, call, wanted)));
 }
 
 pub fn kinds(rows: &mut Vec<Row>, k: u32) {
@@ -75,10 +80,10 @@ pub fn keys(rows: &mut Vec<Row>, k: u32) {
 fn keys_of_reads(rows: &mut Vec<Row>, k: u32, kind: u32) {
     let named = (kind, ALL, 5, 0);
     let stars = (kind, 0, 0, 0);
-    // a bit that is no column's, nor a count's
-    let (all, past) = (marks(k), if k < 4 { 1 << k } else { 32 });
+    // a bit that is no column's, nor a count's: with four columns it makes a range, of one that is none
+    let (all, past) = (marks(k), if k < 4 { 1 << k } else { 8 * RANGE_UNIT });
     for wanted in [0, COUNT_BIT] {
-        let keys = [(named, all, GOES_ON), (named, all + past, None), (stars, 0, GOES_ON), (stars, past, None), (stars, 32, None)];
+        let keys = [(named, all, GOES_ON), (named, all + past, None), (stars, 0, GOES_ON), (stars, past, None)];
         for (work, marks, good) in keys {
             busy(rows, k, ("marks of the desk's query", OUT), work, (CLIENT_ENTRY, marks + wanted), good);
         }
@@ -86,7 +91,7 @@ fn keys_of_reads(rows: &mut Vec<Row>, k: u32, kind: u32) {
     busy(rows, k, ("marks of the desk's query", OUT), named, (CLIENT_ENTRY, u32::MAX), None);
     for (value, good) in [(0, GOES_ON), (1, None)] {
         for spare in [5, 6] {
-            busy(rows, k, ("spare number of the desk's query", OUT), named, (CLIENT_ENTRY + spare, value), good);
+            busy(rows, k, ("end of a range of the desk's query, which has none", OUT), named, (CLIENT_ENTRY + spare, value), good);
         }
         for column in 0..4 {
             let (name, work) = if column < k {

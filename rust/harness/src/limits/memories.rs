@@ -83,33 +83,34 @@ fn every_call(rows: &mut Vec<Row>, scene: &Scene, limit: Limit, value: u32, soun
     let place = u32::MAX;
     let others = [(step(0), 6), (abandon(0), 6), (Call::EvictAnswer { place }, 8), (Call::EvictNode { place }, 8), (Call::Renew, 0)];
     // no query has more columns than 6 here
-    let begins = KINDS.iter().filter(|_| scene.k <= 6).map(|kind| (begin(*kind, 0, query(scene.k.min(6), ALL, 5)), 0));
-    for (call, number) in begins.chain(others) {
+    let begun = begins(scene.k.min(6), 0).into_iter().filter(|_| scene.k <= 6).map(|call| (call, 0));
+    for (call, number) in begun.chain(others) {
         rows.push(scene.row(limit, value, call, says(if sound { number } else { 3 })));
     }
 }
 
 /// The calls at a desk: one that is idle, the same when a read is under way there, and one that is not there.
 pub fn desks(rows: &mut Vec<Row>, k: u32) {
-    let (opened, five) = (Scene::opened(k), query(k, ALL, 5));
+    let opened = Scene::opened(k);
     let idle = [(0, 0, 6), (11, 0, 6), (12, 4, 4), (13, 4, 4), (u32::MAX, 4, 4)].map(|numbers| (DESK, opened.clone(), numbers));
     let reads = READS.into_iter().flat_map(|kind| [(0, 5, 0), (11, 5, 0)].map(|numbers| (kind, numbers)));
     let busy = reads.map(|(kind, numbers)| (BUSY, opened.clone().begun(kind, numbers.0, ALL, 5), numbers));
-    for (limit, scene, (desk, begins, others)) in idle.into_iter().chain(busy) {
-        rows.extend(KINDS.map(|kind| scene.row(limit, desk, begin(kind, desk, five), says(begins))));
+    for (limit, scene, (desk, begun, others)) in idle.into_iter().chain(busy) {
+        rows.extend(begins(k, desk).into_iter().map(|call| scene.row(limit, desk, call, says(begun))));
         rows.extend([step(desk), abandon(desk)].map(|call| scene.row(limit, desk, call, says(others))));
     }
 }
 
-/// The calls, accepted but for one opening; memories that are full, or a read that answers with as much as a tray must hold, or a count with
+/// The calls, accepted but for one opening and reversed ranges; memories that are full, or a read that answers with as much as a tray must hold, or a count with
 /// more.
 fn calls(k: u32) -> Vec<Row> {
     let full = || Scene::opened(k).records(2_048, 0).nodes(1_024, 0).answers(64);
-    let five = query(k, ALL, 5);
     let read = Scene::opened(k).records(32, 0).begun(READ, 11, marks(k) >> 1, 7);
     let count = Scene::opened(k).records(2_048, 0).begun(COUNTS, 11, marks(k) >> 1, 7);
     let counted = count.clone().steps(11, (1 << (k - 1)) + 2).row(LONG, 3, step(11), from_table(2_048)).counted();
-    let begins = KINDS.map(|kind| (full(), begin(kind, 11, five), says(0)));
+    // 1 goes before 14 too
+    let reversed = READS.map(|kind| (full(), begin_within(kind, 11, query(k, 0, 0), (k - 1, 9, 4)), says(14)));
+    let begun = begins(k, 11).into_iter().map(|call| (full(), call, says(0))).chain(reversed);
     let others = [
         (Scene::noise(k), Call::Open { k }, says(0)),
         (Scene::noise(k), Call::Open { k: 5 }, says(2)),
@@ -122,7 +123,7 @@ fn calls(k: u32) -> Vec<Row> {
         (full(), Call::EvictNode { place: 1_023 }, says(0)),
         (full(), Call::Renew, says(0)),
     ];
-    let rows = begins.into_iter().chain(others).map(|(scene, call, own)| scene.row(LONG, 3, call, own));
+    let rows = begun.chain(others).map(|(scene, call, own)| scene.row(LONG, 3, call, own));
     rows.chain([counted]).collect()
 }
 

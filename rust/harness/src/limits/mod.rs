@@ -1,14 +1,18 @@
-//! Both sides of every limit of document 01, of S-1 in document 02 and of every least length, as rows: a scene, a call, and what the
+//! Both sides of every limit of document 01, of S-1 and S-3 in document 02 and of every least length, as rows: a scene, a call, and what the
 //! documents have for it, with the words that give it. Library and twin are each held to that; neither is judged by the other, though their
 //! memories are compared too.
-//! scene: scenes and calls; memories, clients, arguments, steps, counts, nodes, passes: the rows. Leans on call, hall and side.
+//! scene: scenes and calls; memories, clients, arguments, steps, counts, nodes, passes, ranges, reversed, held: the rows. Leans on call, hall
+//! and side.
 
 mod arguments;
 mod clients;
 mod counts;
+mod held;
 mod memories;
 mod nodes;
 mod passes;
+mod ranges;
+mod reversed;
 mod scene;
 mod steps;
 
@@ -43,7 +47,8 @@ pub struct Row {
     pub after: Vec<(Place, u32)>,
 }
 
-/// A number and nothing else: "1 to 13 return the number and count 0", "An accepted call that ends nothing returns 0 and count 0".
+/// A number and nothing else: "1 to 13 return the number and count 0", as do "all added later" (S-3); "An accepted call that ends nothing
+/// returns 0 and count 0".
 const fn says(number: u32) -> Reply {
     Reply { number, count: 0, ending: 0 }
 }
@@ -106,8 +111,8 @@ impl Row {
         if let Some(((memory, place), wanted)) = self.after.iter().find(|((memory, place), wanted)| hall.get(*memory, *place) != *wanted) {
             return Some(format!("{}: {}, the documents have {wanted}", self.named(*memory, *place), hall.get(*memory, *place)));
         }
-        // "1 to 11 .. alter no memory"
-        if (1..=11).contains(&self.wanted.number) {
+        // "1 to 11, and any number that a later request adds to a call, alter no memory."
+        if (1..=11).contains(&self.wanted.number) || self.wanted.number == 14 {
             return before.first_difference(hall).map(|(memory, place)| format!("{}: altered by a refusal", self.named(memory, place)));
         }
         // "the rest of the tray keeps its contents"
@@ -144,6 +149,7 @@ type Part = fn(&mut Vec<Row>, u32);
 pub fn rows() -> Vec<Row> {
     let mut rows = Vec::new();
     memories::columns(&mut rows);
+    reversed::columns(&mut rows);
     let parts: [[Part; 8]; 3] = [
         [
             memories::counts,
@@ -158,8 +164,20 @@ pub fn rows() -> Vec<Row> {
         [clients::kinds, clients::steps, clients::lengths, clients::keys, clients::renewals, steps::lists, steps::fetches, counts::counted],
         [steps::filings, steps::inserts, steps::deletes, steps::abandonings, nodes::room, nodes::writes, nodes::worn, counts::beside_lists],
     ];
+    let of_ranges: [Part; 10] = [
+        ranges::taken,
+        ranges::extremes,
+        ranges::other_columns,
+        ranges::lengths,
+        ranges::abandonings,
+        ranges::beside,
+        reversed::begins,
+        reversed::order,
+        held::ranges,
+        held::filed,
+    ];
     for k in 1..=4 {
-        parts.iter().flatten().for_each(|part| part(&mut rows, k));
+        parts.iter().flatten().chain(&of_ranges).for_each(|part| part(&mut rows, k));
         passes::places(&mut rows, k);
     }
     let exact: Vec<Row> = rows.iter().filter(|row| row.lent == MORE).map(|row| row.clone().lent(LEAST)).collect();

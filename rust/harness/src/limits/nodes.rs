@@ -110,6 +110,8 @@ pub fn worn(rows: &mut Vec<Row>, k: u32) {
                 rows.push(scene.row((name, WORN), counter, begin(kind, 0, query(k, named, 5)), says(number)));
             }
         }
+        let ranged = READS.map(|kind| begin_within(kind, 0, query(k, 0, 0), (k - 1, 4, 9)));
+        rows.extend(ranged.map(|call| three().put(FLOOR, counter).row(("begin with a range, floor", WORN), counter, call, says(0))));
         let begun = three().begun(INSERT, 0, ALL, 5).put(FLOOR, counter);
         rows.push(begun.row(("step of a write that has begun, floor", WORN), counter, step(0), says(0)));
     }

@@ -2,11 +2,11 @@
 //! Leans on call and hall, and on the twin's layout for places alone: no length and no size is taken from there.
 
 use super::{Limit, Row, MORE};
-use crate::call::{Asked, Call};
+use crate::call::{Ask, Asked, Call, Within};
 use crate::hall::Hall;
 use crate::side::{Reply, Side};
 pub use twin::layout::{CLIENT_ENTRY, CLIENT_KIND, CLIENT_STEPS, CLIENT_WIDTH, ENTRY_LENGTH, ENTRY_LIST, ENTRY_REVISIONS, ENTRY_WIDTH, HEAD};
-pub use twin::layout::{COUNT_BIT, DELETE, INSERT, NODE_PENDING, NODE_REVISION, NODE_WIDTH, READ, TAG_VALUE};
+pub use twin::layout::{COUNT_BIT, DELETE, INSERT, KEY_HIGHEST, KEY_LOWEST, NODE_PENDING, NODE_REVISION, NODE_WIDTH, RANGE_UNIT, READ, TAG_VALUE};
 
 /// A memory (0 table, 1 nodes, 2 answers, 3 desks, 4 tray) and a place in it.
 pub type Place = (usize, usize);
@@ -79,6 +79,20 @@ pub fn begin(kind: u32, client: u32, asked: Asked) -> Call {
     }
 }
 
+/// A read of this kind, READ or COUNTS, with a range of one column.
+pub fn begin_within(kind: u32, client: u32, asked: Asked, (column, lowest, highest): (u32, u32, u32)) -> Call {
+    Ask { asked, counts: kind == COUNTS, within: Some(Within { column, lowest, highest }) }.begin(client)
+}
+
+/// A begin of each kind, each accepted at an idle desk of a hall of k columns: 5 is named in every column, and but for the last by those with a
+/// range, which is the last's. With no column there is none to give a range for.
+pub fn begins(k: u32, client: u32) -> Vec<Call> {
+    let plain = KINDS.iter().map(|kind| begin(*kind, client, query(k, ALL, 5)));
+    let but_last = query(k, marks(k) >> 1, 5);
+    let ranged = READS.iter().filter(|_| k > 0).map(|kind| begin_within(*kind, client, but_last, (k - 1, 4, 9)));
+    plain.chain(ranged).collect()
+}
+
 /// The row says how long the tray is that is lent.
 pub fn step(client: u32) -> Call {
     Call::Step { client, tray: MORE[4] as u32, fill: 4_000_000_000 }
@@ -126,10 +140,15 @@ impl Scene {
 
     /// n records, ascending: 7 in all columns but the last, and there `first`, `first` + 1, ..
     pub fn records(self, n: u32, first: u32) -> Scene {
+        let last = self.k - 1;
+        self.records_by(last, n, first)
+    }
+    /// The same by another column than the last.
+    pub fn records_by(self, column: u32, n: u32, first: u32) -> Scene {
         let k = self.k;
         let sevens = |scene: Scene, c| scene.series(record(k, 0, c), k as usize, n, 7, 0);
-        let scene = (0..k - 1).fold(self.put(RECORD_COUNT, n), sevens);
-        scene.series(record(k, 0, k - 1), k as usize, n, first, 1)
+        let scene = (0..k).fold(self.put(RECORD_COUNT, n), sevens);
+        scene.series(record(k, 0, column), k as usize, n, first, 1)
     }
 
     /// n nodes of values that no query here names, with that many marks each and the counters 2, 3, ..

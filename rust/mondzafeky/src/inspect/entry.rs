@@ -1,16 +1,20 @@
-//! The filed answers: query, revisions, list or count; and a query as it is kept, at a desk too. Leans on range.
+//! The filed answers: query and range, revisions, list or count; and the length of a kept list, at
+//! a desk too. Leans on key and range.
+use super::key::{key_at, Asked, Range};
 use super::range::{below, Memory};
 use super::{Inspect, OutOfRange};
-use crate::layout::{is_count, COUNT_BIT, ENTRY_LENGTH, ENTRY_LIST, ENTRY_REVISIONS, ENTRY_WIDTH, HEADER, KEY_RANGE, KEY_VALUES};
-use crate::layout::{MAX_COLUMNS, MAX_LOOKS};
+use crate::layout::{is_count, ENTRY_LENGTH, ENTRY_LIST, ENTRY_REVISIONS, ENTRY_WIDTH, HEADER, MAX_LOOKS};
 use crate::{Query, Records, LIST, RECORDS};
 
-/// An entry of the answers memory: a filed answer. A query that is out of range is none of this hall's: no read gets that answer. A list's length
-/// or a count that is out of range is 3 at every call but opening.
+/// An entry of the answers memory: a filed answer. A query that is out of range, or whose range no
+/// begin would take, is none of this hall's: no read gets that answer, and no call turns it down. A
+/// list's length or a count that is out of range is 3 at every call but opening.
 #[derive(Clone, Debug, PartialEq, Eq)]
 pub struct Entry<'a> {
-    /// The query that it answers.
+    /// The query that it answers; a ranged column is a star in it.
     pub query: Result<Query, OutOfRange>,
+    /// The range that was given with it, if one was; none too where the query is out of range.
+    pub range: Option<Range>,
     /// The revisions noted when it was filed, one for each look in the looks' order; all 16 places where the query is out of range.
     pub revisions: &'a [u32],
     /// What it answers with.
@@ -27,15 +31,25 @@ pub enum Value<'a> {
     Count(u32),
 }
 
+impl Entry<'_> {
+    /// What was asked, as text: "(3, *)", or "(3, 4 to 9)" with a range.
+    pub fn asked(&self) -> Result<String, OutOfRange> {
+        let query = self.query.as_ref().map_err(OutOfRange::clone)?;
+        Ok(Asked { query, range: self.range }.to_string())
+    }
+}
+
 impl<'a> Inspect<'a> {
     /// The filed answer at a place, 0 the oldest.
     pub fn answer(&self, place: u32) -> Result<Entry<'a>, OutOfRange> {
         let place = below("the answer's place", place, self.answer_count()?, "below the number of answers")?;
         let at = HEADER + place * ENTRY_WIDTH;
         let numbers = self.answers.part(at, ENTRY_WIDTH, "an answer")?;
-        let query = self.columns().and_then(|columns| query_at(&self.answers, at, columns as usize));
+        let key = self.columns().and_then(|columns| key_at(&self.answers, at, columns));
+        let range = key.as_ref().map_or(None, |(_, range)| *range);
+        let query = key.map(|(query, _)| query);
         let looks = query.as_ref().map_or(MAX_LOOKS, looks);
-        Ok(Entry { query, revisions: &numbers[ENTRY_REVISIONS..][..looks], value: self.value(at, numbers) })
+        Ok(Entry { query, range, revisions: &numbers[ENTRY_REVISIONS..][..looks], value: self.value(at, numbers) })
     }
 
     /// What the entry of these numbers, which starts at `at`, holds. Only records need k.
@@ -59,23 +73,4 @@ pub(super) fn length_at(memory: &Memory<'_>, at: usize) -> Result<u32, OutOfRang
     let counts = is_count(memory.at(at, "the marks of the query")?);
     let (what, wanted, most) = if counts { ("the count", "0 to 2,048", RECORDS) } else { ("the list's length", "0 to 32", LIST) };
     memory.checked(at + ENTRY_LENGTH, what, wanted, |length| length <= most)
-}
-
-/// The query in the entry that starts at `at`: marks, values, and two numbers that are kept for a range. Beside the marks stands the count's bit,
-/// which is no part of the query.
-pub(super) fn query_at(memory: &Memory<'_>, at: usize, columns: usize) -> Result<Query, OutOfRange> {
-    let wanted = "a bit for each named column, 16 more for a count, and nothing else";
-    let marks = memory.checked(at, "the marks of the query", wanted, |first| (first & !COUNT_BIT) >> columns == 0)?;
-    let mut query = Vec::new();
-    for column in 0..MAX_COLUMNS as usize {
-        let named = marks >> column & 1 == 1;
-        let value = memory.checked(at + KEY_VALUES + column, "the query's value", "0 where no value is named", |value| named || value == 0)?;
-        if column < columns {
-            query.push(named.then_some(value));
-        }
-    }
-    for kept in 0..2 {
-        memory.checked(at + KEY_RANGE + kept, "the query's number for a range", "0", |number| number == 0)?;
-    }
-    Ok(Query::from(&query[..]))
 }

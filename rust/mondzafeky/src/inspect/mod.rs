@@ -16,11 +16,13 @@
 //! # }
 //! ```
 mod entry;
+mod key;
 mod node;
 mod range;
 mod work;
 
 pub use entry::{Entry, Value};
+pub use key::Range;
 pub use node::{Label, Node, Term};
 pub use range::OutOfRange;
 pub use work::{Kind, Stage, Work};

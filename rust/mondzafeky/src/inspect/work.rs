@@ -1,9 +1,10 @@
-//! What is under way at a desk and how far it is. Leans on entry and range.
-use super::entry::{length_at, looks, query_at};
+//! What is under way at a desk and how far it is. Leans on entry, key and range.
+use super::entry::{length_at, looks};
+use super::key::{key_at, Asked, Range};
 use super::range::below;
 use super::{Inspect, OutOfRange};
 use crate::layout::{is_count, CLIENT_CHANGED, CLIENT_ENTRY, CLIENT_FULL, CLIENT_KIND, CLIENT_SAW, CLIENT_STEPS, CLIENT_WIDTH};
-use crate::layout::{ENTRY_REVISIONS, HEADER};
+use crate::layout::{COUNT_BIT, ENTRY_REVISIONS, HEADER};
 use crate::{Query, CLIENTS};
 use std::fmt;
 
@@ -33,8 +34,11 @@ impl fmt::Display for Kind {
 pub struct Work {
     /// Read, insert or delete.
     pub kind: Kind,
-    /// The query that is read or deleted, or that names the record.
+    /// The query that is read or deleted, or that names the record; a ranged column is a star in
+    /// it.
     pub query: Query,
+    /// A read: the range that it has given, if any.
+    pub range: Option<Range>,
     /// A read: it wants a count, and not a list.
     pub counts: bool,
     /// How many steps it has made.
@@ -116,12 +120,14 @@ impl Work {
     }
 }
 
-/// "read of (3, *), .." of a read for a list, "count of (3, *), .." of one for a count.
+/// "read of (3, *), .." of a read for a list, "count of (3, *), .." of one for a count; with a
+/// range "read of (3, 4 to 9), ..".
 impl fmt::Display for Work {
     fn fmt(&self, f: &mut fmt::Formatter<'_>) -> fmt::Result {
-        let Work { kind, query, counts, steps, of, .. } = self;
+        let Work { kind, query, range, counts, steps, of, .. } = self;
         let kind = if *counts { "count".to_string() } else { kind.to_string() };
-        write!(f, "{kind} of {query}, {steps} of {of} steps made, next: {}", self.stage())
+        let asked = Asked { query, range: *range };
+        write!(f, "{kind} of {asked}, {steps} of {of} steps made, next: {}", self.stage())
     }
 }
 
@@ -139,11 +145,12 @@ impl Inspect<'_> {
         if own.iter().all(|&number| number == 0) {
             return Ok(None);
         }
-        let columns = self.columns()? as usize;
+        let columns = self.columns()?;
         let kind = self.kind(at)?;
-        let query = query_at(&self.clients, at + CLIENT_ENTRY, columns)?;
+        let (query, range) = key_at(&self.clients, at + CLIENT_ENTRY, columns)?;
         if kind != Kind::Read {
-            self.clients.checked(at + CLIENT_ENTRY, "the marks of a write", "a bit for each named column and no other", |marks| !is_count(marks))?;
+            // A write wants no count and has no range.
+            self.clients.checked(at + CLIENT_ENTRY, "the marks of a write", "a bit for each named column and no other", |marks| marks < COUNT_BIT)?;
         }
         if kind == Kind::Insert {
             self.clients.checked(at + CLIENT_ENTRY, "the marks of an insert", "a bit for every column", |marks| marks == (1 << columns) - 1)?;
@@ -157,6 +164,7 @@ impl Inspect<'_> {
         Ok(Some(Work {
             kind,
             query,
+            range,
             counts: is_count(own[CLIENT_ENTRY]),
             steps,
             of,

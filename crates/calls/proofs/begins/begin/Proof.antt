@@ -32,7 +32,7 @@ returns : tie.Need-returns
 returns c =
     let k = c .before .before in
     let s = start k in
-    begin-refused _ _ (s .args .kind) (s .args .counts) (s .args .asked .now) (k .begin-check .ensures) (c .if1 .taken)
+    begin-refused _ _ (s .args .kind) (s .args .counts) (s .args .range) (s .args .asked .now) (k .begin-check .ensures) (c .if1 .taken)
 
 slice-aggregate-begin : tie.Need-slice-aggregate-begin
 slice-aggregate-begin c = search needs
@@ -62,7 +62,7 @@ returns-2 c =
     let i = b .before .before .before .before in
     let k = i .before .before in
     let s = start k in
-    begin-done _ _ (s .args .kind) (s .args .counts) (s .args .asked .now) (k .begin-check .ensures) _ (s .pre .0) (s .pre .1) (i .if1 .left) (b .begin .ensures)
+    begin-done _ _ (s .args .kind) (s .args .counts) (s .args .range) (s .args .asked .now) (k .begin-check .ensures) _ (s .pre .0) (s .pre .1) (i .if1 .left) (b .begin .ensures)
 
 pub begin-spec : {M : Type 1} → statement M
 begin-spec =

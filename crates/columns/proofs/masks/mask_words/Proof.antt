@@ -57,8 +57,8 @@ loop-again c =
     let l = c .before .before .before .before in
     let q = l .before .args .t1 in
     let k = l .before .args .k in (
-      fill-on maskOf q k (l .loop .i) _ (l .loop .inv .0) _ _ (c .before .mask-of .ensures) (search needs) (search needs) (search needs),
-      fill-on columnValue q k (l .loop .i) _ (l .loop .inv .1) _ _ (c .value-of .ensures) (search needs) (search needs) (search needs),
+      fill-on maskOf 0 q k (l .loop .i) _ (l .loop .inv .0) _ _ (c .before .mask-of .ensures) (search needs) (search needs) (search needs),
+      fill-on columnValue 0 q k (l .loop .i) _ (l .loop .inv .1) _ _ (c .value-of .ensures) (search needs) (search needs) (search needs),
     )
 
 array-read-t20 : tie.Need-array-read-t20 Inv-loop μ-loop
@@ -93,7 +93,7 @@ returns c =
     let k = c .before .before .args .k in
     let n : length (take k q) ≡ k = length-take-le k q (search needs) in
     made-of (take k q) (l .masks) (l .values) (omega arith)
-    (fill-end maskOf q k (l .i) _ (l .inv .0) refl (c .loop-test .left)) (fill-end columnValue q k (l .i) _ (l .inv .1) refl (c .loop-test .left))
+    (fill-end maskOf 0 q k (l .i) _ (l .inv .0) refl (c .loop-test .left)) (fill-end columnValue 0 q k (l .i) _ (l .inv .1) refl (c .loop-test .left))
 
 pub mask-words-spec : {M : Type 1} → statement M
 mask-words-spec =

@@ -1,4 +1,4 @@
--- `table::passes::list_block` meets its contract. Invariant: of the records passed, those in the subspace are in `out`, behind those that it had.
+-- `table::passes::list_block` meets its contract. Invariant: of the records passed, those that pass the test are in `out`, behind those that it had.
 -- Assumes nothing.
 use mathlib.Core.Logic.{⊎-elim}
 use mathlib.Core.Path.{_∙_}
@@ -6,18 +6,17 @@ use Prim.Native.Nat.{_+_, _-_, _≤_}
 use native.Mathlib.Omega.{arith}
 use lib.ListN.{length}
 use borrow.Author.Needs.{needs}
-use Rattle.query.specs.Query.{lies}
-use Rattle.columns.specs.MaskContracts.{queryUnder}
+use Rattle.table.specs.TableContracts.{testOf}
 use Rattle.table.proofs.Passing.{Passing, pass-start, pass-room, bit-most, bit-wide}
 use Rattle.table.proofs.Listing.{Listed, listed-none, list-end, list-found, list-other, list-full, list-room, list-wide}
 use Rattle.table.proofs.passes.list_block.Statement.{statement}
 use Rattle.table.proofs.passes.list_block.Tie as tie
 
 abbrev Inv-loop : tie.InvT-loop
-Inv-loop recs k query out₀ had j₀ to₀ at₀ out j to at = Passing k recs at (Listed (lies (queryUnder k query)) k recs out₀ had out j to)
+Inv-loop recs k ranged query out₀ had j₀ to₀ at₀ out j to at = Passing k recs at (Listed (testOf ranged k query) k recs out₀ had out j to)
 
 abbrev μ-loop : tie.MeasureT-loop
-μ-loop recs k query out₀ had j₀ to₀ at₀ out j to at = length recs - at
+μ-loop recs k ranged query out₀ had j₀ to₀ at₀ out j to at = length recs - at
 
 -- the call where the loop stands
 abbrev start : tie.At-loop Inv-loop μ-loop → tie.Start Inv-loop μ-loop
@@ -52,8 +51,8 @@ part-rec-start c = search needs
 part-rec-end : tie.Need-part-rec-end Inv-loop μ-loop
 part-rec-end c = omega (arith, room c)
 
-lies-requires : tie.Need-lies-requires Inv-loop μ-loop
-lies-requires c κs = search needs
+test-requires : tie.Need-test-requires Inv-loop μ-loop
+test-requires c κs = search needs
 
 add-result : tie.Need-add-result Inv-loop μ-loop
 add-result c = search needs
@@ -64,28 +63,28 @@ same-length c = search needs
 returns : tie.Need-returns Inv-loop μ-loop
 returns c =
     let l = c .before .before .before .before .before in
-    let f = list-full _ _ _ _ _ _ _ _ _ (start l .pre .0) (c .before .before .before .before .loop-test .taken) _ (l .loop .inv) (c .before .before .lies .ensures) (c .before .if1 .taken) (c .if2 .taken) in
+    let f = list-full _ _ _ _ _ _ _ _ _ _ (start l .pre .0) (c .before .before .before .before .loop-test .taken) _ (l .loop .inv) (c .before .before .test .ensures) (c .before .if1 .taken) (c .if2 .taken) in
     ((λ n e. f n e .0), (λ n e. f n e .1))
 
 write-requires : tie.Need-write-requires Inv-loop μ-loop
 write-requires c κs =
     let i = c .before .before .before .before .before in
-    list-room _ _ _ _ _ _ _ _ _ (start (i .before) .pre .0) (i .loop-test .taken) _ (i .before .loop .inv) (c .before .before .before .lies .ensures) (c .before .if2 .left) (start (i .before) .pre .1 .1 .1)
+    list-room _ _ _ _ _ _ _ _ _ _ (start (i .before) .pre .0) (i .loop-test .taken) _ (i .before .loop .inv) (c .before .before .before .test .ensures) (c .before .if2 .left) (start (i .before) .pre .1 .1 .1)
 
 cast-more : tie.Need-cast-more Inv-loop μ-loop
 cast-more c = search needs
 
 add-j : tie.Need-add-j Inv-loop μ-loop
-add-j c = omega (arith, bit-most (c .before .lies .result), at-loop c .loop .inv .holds .few)
+add-j c = omega (arith, bit-most (c .before .test .result), at-loop c .loop .inv .holds .few)
 
 mul-to-2 : tie.Need-mul-to-2 Inv-loop μ-loop
-mul-to-2 c = omega (arith, bit-wide (c .before .lies .result) (start (at-loop c) .args .k), start (at-loop c) .pre .0 .columns .1)
+mul-to-2 c = omega (arith, bit-wide (c .before .test .result) (start (at-loop c) .args .k), start (at-loop c) .pre .0 .columns .1)
 
 add-to : tie.Need-add-to Inv-loop μ-loop
 add-to c =
     let l = at-loop c in
     let f = start l .pre .0 .columns in
-    omega (arith, bit-wide (c .before .lies .result) (start l .args .k), f .1, l .loop .inv .holds .to-is, list-wide _ _ (l .loop .inv .holds .few) (f .1))
+    omega (arith, bit-wide (c .before .test .result) (start l .args .k), f .1, l .loop .inv .holds .to-is, list-wide _ _ (l .loop .inv .holds .few) (f .1))
 
 loop-less : tie.Need-loop-less Inv-loop μ-loop
 loop-less c = search needs
@@ -96,8 +95,8 @@ loop-again c =
     let f = start l .pre in
     let h = c .before .before .before .loop-test .taken in
     ⊎-elim
-    (λ w. list-found _ _ _ _ _ _ _ _ _ (f .0) h _ (l .loop .inv) (c .before .lies .ensures) (w .0 .taken) (w .1 .left) (f .1 .1 .1) _ (w .6 ∙ w .3 .ensures))
-    (λ w. list-other _ _ _ _ _ _ _ _ _ (f .0) h _ (l .loop .inv) (c .before .lies .ensures) (w .0 .left) _ (w .1))
+    (λ w. list-found _ _ _ _ _ _ _ _ _ _ (f .0) h _ (l .loop .inv) (c .before .test .ensures) (w .0 .taken) (w .1 .left) (f .1 .1 .1) _ (w .6 ∙ w .3 .ensures))
+    (λ w. list-other _ _ _ _ _ _ _ _ _ _ (f .0) h _ (l .loop .inv) (c .before .test .ensures) (w .0 .left) _ (w .1))
     (c .if1 .came)
 
 same-length-2 : tie.Need-same-length-2 Inv-loop μ-loop
@@ -122,7 +121,7 @@ list-block-spec =
     sub-rec
     part-rec-start
     part-rec-end
-    lies-requires
+    test-requires
     add-result
     same-length
     returns

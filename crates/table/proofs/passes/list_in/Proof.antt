@@ -1,11 +1,10 @@
--- `table::passes::list_in` meets its contract. Invariant: of the records passed, those in the subspace are in `out`. Assumes nothing.
+-- `table::passes::list_in` meets its contract. Invariant: of the records passed, those that pass the test are in `out`. Assumes nothing.
 use mathlib.Core.Path.{_≡_, _∙_}
 use Prim.Native.Nat.{ℕ, _+_, _-_, _*_, _≤_}
 use native.Mathlib.Omega.{arith}
 use lib.ListN.{length}
 use borrow.Author.Needs.{needs}
-use Rattle.query.specs.Query.{lies}
-use Rattle.columns.specs.MaskContracts.{queryUnder}
+use Rattle.table.specs.TableContracts.{testOf}
 use Rattle.table.proofs.Passing.{Passing, pass-start, stretch-few, stretch-part, stretch-rest}
 use Rattle.table.proofs.Skipping.{block-wide, skip-passed}
 use Rattle.table.proofs.Listing.{Listed, listed-none, blocks-skip, block-end, block-less, blocks-on, blocks-full, blocks-all}
@@ -13,10 +12,10 @@ use Rattle.table.proofs.passes.list_in.Statement.{statement}
 use Rattle.table.proofs.passes.list_in.Tie as tie
 
 abbrev Inv-loop : tie.InvT-loop
-Inv-loop recs k size query out₀ end j₀ from₀ out j from = Passing k recs from (Listed (lies (queryUnder k query)) k recs out₀ 0 out j (j * k))
+Inv-loop recs k size ranged query out₀ end j₀ from₀ out j from = Passing k recs from (Listed (testOf ranged k query) k recs out₀ 0 out j (j * k))
 
 abbrev μ-loop : tie.MeasureT-loop
-μ-loop recs k size query out₀ end j₀ from₀ out j from = length recs - from
+μ-loop recs k size ranged query out₀ end j₀ from₀ out j from = length recs - from
 
 -- the call where the loop stands
 abbrev start : tie.At-loop Inv-loop μ-loop → tie.Start Inv-loop μ-loop
@@ -33,7 +32,7 @@ wide c = block-wide _ _ (c .pre .1 .1 .0, c .pre .1 .1 .1 .0) (c .pre .0 .column
 
 -- behind the blocks that have none, and where the next ends
 passed : (c : tie.After-skip Inv-loop μ-loop) → let a = start (at-loop c) .args in let l = at-loop c .loop in
-    Passing (a .k) (a .recs .now) (l .from + c .skip .result) (Listed (lies (queryUnder (a .k) (a .query .now))) (a .k) (a .recs .now) (a .out .now) 0 (l .out) (l .j) (l .j * a .k))
+    Passing (a .k) (a .recs .now) (l .from + c .skip .result) (Listed (testOf (a .ranged) (a .k) (a .query .now)) (a .k) (a .recs .now) (a .out .now) 0 (l .out) (l .j) (l .j * a .k))
 passed c =
     let l = at-loop c in
     blocks-skip _ _ _ _ _ _ _ (l .loop .inv) _ (skip-passed _ _ _ _ (stretch-rest _ _ _ _ (start l .pre .0) (l .loop .inv)) _ (c .skip .ensures))

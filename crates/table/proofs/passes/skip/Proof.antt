@@ -1,21 +1,20 @@
--- `table::passes::skip` meets its contract. Invariant: no record passed lies in the subspace. Assumes nothing.
+-- `table::passes::skip` meets its contract. Invariant: no record passed passes the test. Assumes nothing.
 use mathlib.Core.Path.{refl}
 use Prim.Native.Nat.{_-_, _*_, _≤_}
 use native.Mathlib.Omega.{arith}
 use lib.ListN.{length}
 use borrow.Author.Needs.{needs}
-use Rattle.query.specs.Query.{lies}
-use Rattle.columns.specs.MaskContracts.{queryUnder}
+use Rattle.table.specs.TableContracts.{testOf}
 use Rattle.table.proofs.Passing.{Passing, stretch-few, stretch-part}
 use Rattle.table.proofs.Skipping.{block-wide, Blocks, blocks-none, skip-turn, skip-found, skip-end}
 use Rattle.table.proofs.passes.skip.Statement.{statement}
 use Rattle.table.proofs.passes.skip.Tie as tie
 
 abbrev Inv-loop : tie.InvT-loop
-Inv-loop recs k size query width at₀ at = Passing k recs at (Blocks (lies (queryUnder k query)) k recs size)
+Inv-loop recs k size ranged query width at₀ at = Passing k recs at (Blocks (testOf ranged k query) k recs size)
 
 abbrev μ-loop : tie.MeasureT-loop
-μ-loop recs k size query width at₀ at = length recs - at
+μ-loop recs k size ranged query width at₀ at = length recs - at
 
 -- the call where the loop stands, and how wide a block is
 abbrev start : tie.At-loop Inv-loop μ-loop → tie.Start Inv-loop μ-loop

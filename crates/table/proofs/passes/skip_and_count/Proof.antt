@@ -1,8 +1,7 @@
 -- `table::passes::skip_and_count` meets its contract: no record that is passed counts. Assumes nothing.
 use native.Mathlib.Omega.{arith}
 use borrow.Author.Needs.{needs}
-use Rattle.query.specs.Query.{lies}
-use Rattle.columns.specs.MaskContracts.{queryUnder}
+use Rattle.table.specs.TableContracts.{testOf}
 use Rattle.table.proofs.Passing.{stretch-few}
 use Rattle.table.proofs.Skipping.{Passed, skip-passed, stretch-behind, kept-behind}
 use Rattle.table.proofs.passes.skip_and_count.Statement.{statement}
@@ -11,8 +10,8 @@ use Rattle.table.proofs.passes.skip_and_count.Tie as tie
 abbrev start : tie.After-skip → tie.Start
 start c = c .before .before .before
 
--- no record before the place that `skip` gives lies in the subspace
-passed : (c : tie.After-skip) → let a = start c .args in Passed (lies (queryUnder (a .k) (a .query .now))) (a .k) (a .recs .now) (c .skip .result)
+-- no record before the place that `skip` gives passes the test
+passed : (c : tie.After-skip) → let a = start c .args in Passed (testOf (a .ranged) (a .k) (a .query .now)) (a .k) (a .recs .now) (c .skip .result)
 passed c = skip-passed _ _ _ _ (start c .pre .0) _ (c .skip .ensures)
 
 skip-requires : tie.Need-skip-requires
