@@ -56,15 +56,29 @@ static mondzafeky_reply reply_of(uint32_t number, uint32_t ending)
     return reply;
 }
 
+/* A number that no call gives is neither a refusal nor an end, and is said to be unknown. */
+static void check_unknown(uint32_t number)
+{
+    CHECK(strcmp(mondzafeky_name(number), "unknown") == 0);
+    CHECK(strcmp(mondzafeky_sentence(number), "No call returns this number.") == 0);
+    CHECK(!mondzafeky_refused(reply_of(number, NOTHING)));
+    CHECK(!mondzafeky_ended(reply_of(number, NOTHING)));
+}
+
 static void check_words(void)
 {
+    /* 7 is given no longer */
     static const char *const words[15] = {
-        "accepted", "short", "columns", "unsound", "no desk", "taken", "idle", "committed",
+        "accepted", "short", "columns", "unsound", "no desk", "taken", "idle", NULL,
         "no entry", "marked", "worn", "occupied", "long", "full", "reversed"};
     uint32_t number, other, ending;
     for (number = 0; number <= 14; number++) {
         const char *sentence = mondzafeky_sentence(number);
         const size_t length = strlen(sentence);
+        if (words[number] == NULL) {
+            check_unknown(number);
+            continue;
+        }
         CHECK(strcmp(mondzafeky_name(number), words[number]) == 0);
         /* one sentence: one full stop, at its end */
         CHECK(length > 20 && strchr(sentence, '.') == sentence + length - 1);
@@ -82,10 +96,8 @@ static void check_words(void)
     }
     CHECK(strstr(mondzafeky_sentence(MONDZAFEKY_WORN), "floor") != NULL);
     CHECK(strstr(mondzafeky_sentence(MONDZAFEKY_WORN), "4,294,967,103") != NULL);
-    CHECK(!mondzafeky_refused(reply_of(15, NOTHING)));
-    CHECK(strcmp(mondzafeky_name(15), "unknown") == 0);
-    CHECK(strcmp(mondzafeky_name(UINT32_MAX), "unknown") == 0);
-    CHECK(strcmp(mondzafeky_sentence(UINT32_MAX), mondzafeky_sentence(15)) == 0);
+    check_unknown(15);
+    check_unknown(UINT32_MAX);
     CHECK(strcmp(MONDZAFEKY_VERSION, "0.1.0") == 0);
 }
 
@@ -173,10 +185,25 @@ static void check_ranges_handed_on(mondzafeky_hall *hall)
     CHECK(same(hall, &low));
 }
 
-/* Abandoning, putting out and renewing in that hall, a delete being under way at desk 2. */
+/*
+ * Abandoning, putting out and renewing in that hall: a delete at desk 2 has made one step, one at
+ * desk 3 its marks, its table step and two raises.
+ */
 static void check_upkeep_handed_on(mondzafeky_hall *hall)
 {
+    const mondzafeky_column query[3] = {mondzafeky_is(3), mondzafeky_star(), mondzafeky_is(9)};
+    const uint32_t numbers[6] = {1, 3, 0, 0, 1, 9};
+    int i;
+    AGREE(mondzafeky_hall_begin_delete(hall, 2, query, 3),
+          mondzafeky_begin_delete(MEMORIES(&low), 2, numbers, 6));
+    AGREE(mondzafeky_hall_begin_delete(hall, 3, query, 3),
+          mondzafeky_begin_delete(MEMORIES(&low), 3, numbers, 6));
+    AGREE_STEP(2);
+    for (i = 0; i < 11; i++) {
+        AGREE_STEP(3);
+    }
     AGREE(mondzafeky_hall_abandon(hall, 2), mondzafeky_abandon(MEMORIES(&low), 2));
+    AGREE(mondzafeky_hall_abandon(hall, 3), mondzafeky_abandon(MEMORIES(&low), 3));
     AGREE(mondzafeky_hall_evict_answer(hall, 0), mondzafeky_evict_answer(MEMORIES(&low), 0));
     AGREE(mondzafeky_hall_evict_node(hall, 1), mondzafeky_evict_node(MEMORIES(&low), 1));
     AGREE(mondzafeky_hall_renew(hall), mondzafeky_renew(MEMORIES(&low)));
@@ -214,11 +241,9 @@ static void check_handed_on(mondzafeky_hall *hall)
     for (i = 0; i < 8; i++) {
         AGREE_STEP(0);
     }
-    AGREE(mondzafeky_hall_begin_delete(hall, 2, query, 3),
-          mondzafeky_begin_delete(MEMORIES(&low), 2, query_numbers, 6));
-    AGREE_STEP(2);
-    check_upkeep_handed_on(hall);
     CHECK(mondzafeky_records(hall) == 1);
+    check_upkeep_handed_on(hall);
+    CHECK(mondzafeky_records(hall) == 0);
 }
 
 /* ---- a hall of two columns: ends, refusals, what is inside */
@@ -425,6 +450,68 @@ static void check_counts(mondzafeky_hall *hall)
     CHECK(mondzafeky_answers(hall) == 5);
 }
 
+/* Whether no node has a mark: docs/LAYOUT.md says where they stand. */
+static int is_unmarked(const mondzafeky_hall *hall)
+{
+    uint32_t place;
+    for (place = 0; place < mondzafeky_nodes(hall); place++) {
+        if (hall->nodes[8u + 8u * place + 5u] != 0) {
+            return 0;
+        }
+    }
+    return 1;
+}
+
+/*
+ * A write of (first, second) is abandoned at desk 6 after each number of its nine steps: given up
+ * up to its table step, the fifth with four marks before it; ended so after it, as by its own last
+ * step. A read of what it writes is then answered from file at its second time.
+ */
+static void check_abandoned(
+    mondzafeky_hall *hall, int inserts, uint32_t first, uint32_t second, uint32_t number,
+    uint32_t ending)
+{
+    const mondzafeky_column record[2] = {mondzafeky_is(first), mondzafeky_is(second)};
+    static mondzafeky_hall before, stepped;
+    int made;
+    before = *hall;
+    for (made = 0; made < 9; made++) {
+        *hall = before;
+        REPLIES(inserts ? mondzafeky_hall_begin_insert(hall, 6, record, 2)
+                        : mondzafeky_hall_begin_delete(hall, 6, record, 2), ACCEPTED, 0, NOTHING);
+        steps(hall, 6, made);
+        stepped = *hall;
+        if (made <= 4) {
+            REPLIES(mondzafeky_hall_abandon(hall, 6), ACCEPTED, 0, NOTHING);
+            CHECK(memcmp(hall->table, before.table, sizeof before.table) == 0);
+        } else {
+            REPLIES(mondzafeky_hall_abandon(hall, 6), number, 0, ending);
+            REPLIES(mondzafeky_run(&stepped, 6), number, 0, ending);
+            CHECK(same(hall, &stepped));
+        }
+        CHECK(is_unmarked(hall) && mondzafeky_work(hall, 6) == 0);
+        REPLIES(mondzafeky_hall_abandon(hall, 6), MONDZAFEKY_IDLE, 0, NOTHING);
+        CHECK(mondzafeky_ended(read_of(hall, 7, first)));
+        CHECK(read_of(hall, 7, first).ending == MONDZAFEKY_FROM_FILE);
+    }
+    *hall = before;
+}
+
+/*
+ * Abandonings in the hall that check_ends leaves, which is full: the records are (3, 41), (7, 0 to
+ * 31) and (8, 33 to 2,047).
+ */
+static void check_abandonings(mondzafeky_hall *hall)
+{
+    check_abandoned(hall, 1, 9, 1, MONDZAFEKY_FULL, NOTHING);
+    check_abandoned(hall, 1, 3, 41, ACCEPTED, MONDZAFEKY_UNCHANGED);
+    check_abandoned(hall, 0, 3, 40, ACCEPTED, MONDZAFEKY_UNCHANGED);
+    check_abandoned(hall, 0, 3, 41, ACCEPTED, MONDZAFEKY_CHANGED);
+    REPLIES(write_of(hall, 0, 0, 7, 31), ACCEPTED, 0, MONDZAFEKY_CHANGED);
+    check_abandoned(hall, 1, 7, 31, ACCEPTED, MONDZAFEKY_CHANGED);
+    REPLIES(write_of(hall, 0, 1, 7, 31), ACCEPTED, 0, MONDZAFEKY_CHANGED);
+}
+
 /* Those of a count, at the hall of check_refusals, in which desk 0 is busy. */
 static void check_count_refusals(mondzafeky_hall *hall)
 {
@@ -490,6 +577,8 @@ static void check_unsound_and_worn(mondzafeky_hall *hall)
     hall->nodes[1] = 0;
     before = *hall;
     REPLIES(mondzafeky_run(hall, 1), MONDZAFEKY_UNSOUND, 0, NOTHING);
+    REPLIES(mondzafeky_hall_abandon(hall, 1), MONDZAFEKY_UNSOUND, 0, NOTHING);
+    REPLIES(mondzafeky_hall_abandon(hall, 0), MONDZAFEKY_UNSOUND, 0, NOTHING);
     CHECK(same(hall, &before));
     /* desk 0 still makes its last mark, at a node added, and its table step; then it is refused */
     REPLIES(mondzafeky_run(hall, 0), MONDZAFEKY_UNSOUND, 0, NOTHING);
@@ -528,7 +617,6 @@ static void check_refusals(mondzafeky_hall *hall)
     check_range_refusals(hall);
     REPLIES(mondzafeky_hall_step(hall, 2), MONDZAFEKY_IDLE, 0, NOTHING);
     REPLIES(mondzafeky_hall_abandon(hall, 2), MONDZAFEKY_IDLE, 0, NOTHING);
-    REPLIES(mondzafeky_hall_abandon(hall, 1), MONDZAFEKY_COMMITTED, 0, NOTHING);
     REPLIES(mondzafeky_hall_evict_answer(hall, 1), MONDZAFEKY_NO_ENTRY, 0, NOTHING);
     REPLIES(mondzafeky_hall_evict_node(hall, 6), MONDZAFEKY_NO_ENTRY, 0, NOTHING);
     REPLIES(mondzafeky_hall_evict_node(hall, 2), MONDZAFEKY_PENDING, 0, NOTHING);
@@ -628,6 +716,7 @@ static void check_hall(mondzafeky_hall *hall)
     check_unopened(hall);
     check_handed_on(hall);
     check_ends(hall);
+    check_abandonings(hall);
     check_ranges(hall);
     check_ranges_beside_plain(hall);
     check_counts(hall);

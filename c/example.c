@@ -1,8 +1,9 @@
 /*
  * Three desks at one table, as a model for a program in C. An answer is filed and given again; a
- * record is corrected, by a delete and an insert, step by step while other desks read; a refusal is
- * met and named; a read of too many records and an insert into a full table come to their ends; a
- * range asks for some of them; a count tells how many there are.
+ * record is corrected, by a delete and an insert, step by step while other desks read; a bench is
+ * pulled out in the middle of a write; a read of too many records and an insert into a full table
+ * come to their ends; a range asks for some of them, and one is refused and named; a count tells
+ * how many there are.
  * Leans on mondzafeky.h alone. The Rust example three_desks tells the same and prints the same.
  */
 #include "mondzafeky.h"
@@ -120,6 +121,22 @@ static void steps(const char *row)
     }
 }
 
+/*
+ * The bench of a desk is pulled out: what is under way there is abandoned. A write that has reached
+ * the table ends with that, as with its last step; of anything else nothing is left.
+ */
+static void pull_out(uint32_t desk)
+{
+    const mondzafeky_reply reply = mondzafeky_hall_abandon(&hall, desk);
+    must(reply);
+    printf("the bench of desk %u is pulled out: ", desk);
+    if (mondzafeky_ended(reply)) {
+        tell(reply, 0);
+    } else {
+        printf("given up, nothing is left of it\n");
+    }
+}
+
 /* So many records of a bench, settings 1, 2 and so on, inserted at desk 0. */
 static void fill(uint32_t bench, uint32_t count)
 {
@@ -130,6 +147,30 @@ static void fill(uint32_t bench, uint32_t count)
         must(mondzafeky_run(&hall, 0));
     }
     printf("the table holds %u records\n", mondzafeky_records(&hall));
+}
+
+/* Reads of bench 3 at two desks, one after the other. */
+static void read_twice(void)
+{
+    begin_read(1, 3);
+    run(1);
+    begin_read(2, 3);
+    run(2);
+}
+
+/* An insert is cut short on each side of its table step; its marks do not stay. */
+static void cut_short(void)
+{
+    printf("-- a bench is pulled out before its insert's table step: what was filed holds\n");
+    begin_insert(0, 3, 42);
+    steps("0000");
+    pull_out(0);
+    read_twice();
+    printf("-- and after it: the insert ends at once, and the next answer is filed\n");
+    begin_insert(0, 3, 42);
+    steps("000000");
+    pull_out(0);
+    read_twice();
 }
 
 /* 12, a range, a count, 13. */
@@ -167,18 +208,13 @@ int main(void)
     printf("-- an answer is filed at the first read and given again at the second\n");
     begin_insert(0, 3, 40);
     run(0);
-    begin_read(1, 3);
-    run(1);
-    begin_read(2, 3);
-    run(2);
+    read_twice();
     printf("-- a correction is a delete and an insert; a read meets the delete's marks\n");
     begin_delete(0, 3, 40);
     steps("000");
     begin_read(1, 3);
     steps("101110");
-    printf("-- the delete has reached the table, so it cannot be given up; a read sees the gap\n");
-    printf("desk 0 would abandon it: ");
-    tell(mondzafeky_hall_abandon(&hall, 0), 0);
+    printf("-- the delete has reached the table: a read sees the gap\n");
     begin_read(2, 3);
     steps("20202020");
     printf("-- the insert closes the gap while a read is under way\n");
@@ -187,10 +223,8 @@ int main(void)
     begin_read(1, 3);
     steps("101110000");
     printf("-- a read that begins after the insert's end sees it; its answer is filed\n");
-    begin_read(1, 3);
-    run(1);
-    begin_read(2, 3);
-    run(2);
+    read_twice();
+    cut_short();
     ends();
     return 0;
 }

@@ -24,6 +24,7 @@
  *     query[1] = mondzafeky_star();                      anything in the second
  *     reply = mondzafeky_hall_begin_read(&hall, 0, query, 2);
  *     if (!mondzafeky_refused(reply)) reply = mondzafeky_run(&hall, 0);
+ * A bench can be pulled out at any time: mondzafeky_hall_abandon ends what its desk was at.
  * The inline functions over a hall hand their arguments on to the twelve calls of the archive,
  * whose work is proved; they themselves are not proved. The twelve calls stand before them, and
  * take each memory for itself.
@@ -35,7 +36,7 @@
  *   - no other thread uses the hall during the call: one lock around each call.
  * Desks, places, queries, ranges and the hall's contents may be anything: what does not fit is
  * refused by a number. Every call returns, allocates nothing and keeps no pointer. A call that is
- * refused (1 to 11, and 14) leaves every number of the hall as it was. A hall that was never opened
+ * refused (1 to 11 but 7, and 14) leaves every number of the hall as it was. A hall that was never opened
  * (all 0) gives 2 at a begin (3 if its query has no column, and no range is given) and 3 at every
  * other call but opening. The answers are promised for a hall that has been opened and that nothing
  * but these calls has written into since.
@@ -70,7 +71,7 @@ typedef struct {
 } mondzafeky_reply;
 
 /*
- * Numbers. 1 to 11, and 14, are refusals: no memory is altered. 12 and 13 are ends: the read or the
+ * Numbers. 1 to 11 but 7, and 14, are refusals: no memory is altered. 12 and 13 are ends: the read or the
  * insert is over and its desk idle. The first that applies is given, in the order 1, 2, 14, 3, 4
  * and so on. mondzafeky_sentence says what each means and what to do.
  */
@@ -84,7 +85,7 @@ typedef struct {
 #define MONDZAFEKY_NO_CLIENT 4u /* the client, the desk, is above 11 */
 #define MONDZAFEKY_TAKEN 5u     /* a begin at a busy desk */
 #define MONDZAFEKY_IDLE 6u      /* a step or an abandoning at an idle desk */
-#define MONDZAFEKY_COMMITTED 7u /* an abandoning of a write after its table step */
+                                /* 7 is given no longer; the number stays unused */
 #define MONDZAFEKY_NO_ENTRY 8u  /* no answer or node at that place */
 #define MONDZAFEKY_PENDING 9u   /* the node to put out has marks: a write is pending there */
 #define MONDZAFEKY_WORN 10u     /* a write begins while the floor or a counter is above
@@ -92,8 +93,8 @@ typedef struct {
 #define MONDZAFEKY_OCCUPIED 11u /* a renewal with a busy desk */
 #define MONDZAFEKY_LONG 12u     /* the read has ended: more than 32 records match; the tray is
                                    untouched; a count never ends so */
-#define MONDZAFEKY_FULL 13u     /* the insert has ended: the table held 2,048 records and not
-                                   this one */
+#define MONDZAFEKY_FULL 13u     /* the insert has ended, with its last step or an abandoning: the
+                                   table held 2,048 records and not this one */
 #define MONDZAFEKY_REVERSED 14u /* a range's lowest value is above its highest */
 
 /* Endings: what has ended with this call. */
@@ -202,8 +203,11 @@ mondzafeky_reply mondzafeky_step(
     uint32_t *tray, size_t tray_len, uint32_t client);
 
 /*
- * Gives up a read, or a write before its table step, whose marks are taken back: writes nodes and
- * clients. Refusals: 1, 3, 4, 6, 7.
+ * Ends what is under way at the desk in one call and at any time. Of a read nothing is left, nor of
+ * a write before its table step, whose marks are taken back: number and ending are 0. A write that
+ * has made its table step has taken effect: all of its remaining raises are made, and the reply is
+ * its end as its last step would have told it, the ending 3 or 4, or the number 13. No mark of the
+ * write stays, and the desk is idle. Writes nodes and clients. Refusals: 1, 3, 4, 6.
  */
 mondzafeky_reply mondzafeky_abandon(
     uint32_t *table, size_t table_len, uint32_t *nodes, size_t nodes_len,
@@ -377,7 +381,12 @@ static inline mondzafeky_reply mondzafeky_hall_step(mondzafeky_hall *hall, uint3
         MONDZAFEKY_MEMORIES_(hall), hall->tray, MONDZAFEKY_TRAY_LEAST, client);
 }
 
-/* Gives up a read, or a write before its table step. Refusals: 3, 4, 6, 7. */
+/*
+ * Ends what is under way at the desk, at any time: for a bench that was pulled out. If the reply
+ * is an end (mondzafeky_ended), a write had reached the table, and has ended so: changed, unchanged
+ * or 13. If it is accepted without an end, nothing is left of what was there: a read, or a write
+ * that had not reached the table. The desk is idle after both. Refusals: 3, 4, 6.
+ */
 static inline mondzafeky_reply mondzafeky_hall_abandon(mondzafeky_hall *hall, uint32_t client)
 {
     return mondzafeky_abandon(MONDZAFEKY_MEMORIES_(hall), client);
@@ -408,7 +417,9 @@ static inline mondzafeky_reply mondzafeky_hall_renew(mondzafeky_hall *hall)
 
 /*
  * Whether the read or write has ended with this reply of a step, by an ending or by 12 or 13. Step
- * on until then: a loop that waits for an ending other than 0 misses 12 and 13.
+ * on until then: a loop that waits for an ending other than 0 misses 12 and 13. Of the reply to an
+ * abandoning, after which the desk is idle in any case, it tells whether a write had reached the
+ * table.
  */
 static inline int mondzafeky_ended(mondzafeky_reply reply)
 {
@@ -416,10 +427,11 @@ static inline int mondzafeky_ended(mondzafeky_reply reply)
         || reply.number == MONDZAFEKY_FULL;
 }
 
-/* Whether the call was refused, 1 to 11 or 14: then nothing was altered. */
+/* Whether the call was refused, by 1 to 6, 8 to 11 or 14: then nothing was altered. */
 static inline int mondzafeky_refused(mondzafeky_reply reply)
 {
-    return (reply.number >= MONDZAFEKY_SHORT && reply.number <= MONDZAFEKY_OCCUPIED)
+    return (reply.number >= MONDZAFEKY_SHORT && reply.number <= MONDZAFEKY_IDLE)
+        || (reply.number >= MONDZAFEKY_NO_ENTRY && reply.number <= MONDZAFEKY_OCCUPIED)
         || reply.number == MONDZAFEKY_REVERSED;
 }
 
@@ -448,7 +460,6 @@ static inline const char *mondzafeky_name(uint32_t number)
     case MONDZAFEKY_NO_CLIENT: return "no desk";
     case MONDZAFEKY_TAKEN: return "taken";
     case MONDZAFEKY_IDLE: return "idle";
-    case MONDZAFEKY_COMMITTED: return "committed";
     case MONDZAFEKY_NO_ENTRY: return "no entry";
     case MONDZAFEKY_PENDING: return "marked";
     case MONDZAFEKY_WORN: return "worn";
@@ -465,7 +476,7 @@ static inline const char *mondzafeky_sentence(uint32_t number)
 {
     switch (number) {
     case MONDZAFEKY_ACCEPTED:
-        return "The call was accepted; a read or write that it has not ended goes on by a step.";
+        return "The call was accepted; a read or write that is under way goes on by a step.";
     case MONDZAFEKY_SHORT:
         return "A lent memory is below its least length; lend a longer one.";
     case MONDZAFEKY_COLUMNS:
@@ -485,9 +496,6 @@ static inline const char *mondzafeky_sentence(uint32_t number)
     case MONDZAFEKY_IDLE:
         return "The desk is idle, so there is nothing to step or abandon; begin a read or write "
                "there.";
-    case MONDZAFEKY_COMMITTED:
-        return "The write has made its table step and can no longer be abandoned; step it to its "
-               "end.";
     case MONDZAFEKY_NO_ENTRY:
         return "There is no answer or node at this place; name a place below their count.";
     case MONDZAFEKY_PENDING:
@@ -496,7 +504,8 @@ static inline const char *mondzafeky_sentence(uint32_t number)
         return "The floor or a counter is above 4,294,967,103; renew when all desks are idle, and "
                "begin the write again.";
     case MONDZAFEKY_OCCUPIED:
-        return "A desk is busy; renew when all desks are idle.";
+        return "A desk is busy; step its read or write to the end, or abandon it, and renew when "
+               "all desks are idle.";
     case MONDZAFEKY_LONG:
         return "The read has ended without an answer, for over 32 records match; read them in "
                "parts, naming a value in more columns or by narrower ranges.";

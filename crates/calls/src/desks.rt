@@ -33,7 +33,8 @@ pub fn step(
     writing::write_step(table, nodes, clients, d, held)
 }
 
-// Gives up what is under way at the client's desk: a read, or a write that has not reached the table.
+// Abandons what is under way at the client's desk: nothing is left of a read, nor of a write before its table step; a write past it is brought
+// to its end.
 pub fn abandon(
     table: &mut [u32],
     nodes: &mut [u32],
@@ -53,5 +54,5 @@ pub fn abandon(
         clients::set_idle(clients, d);
         return Outcome::Accepted;
     }
-    writing::release_all(nodes, clients, d, held)
+    writing::abandon_write(nodes, clients, d, held)
 }

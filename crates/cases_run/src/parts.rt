@@ -1,5 +1,6 @@
 // The parts that are played, as text. Of document 01 the cases of "On each side of a line", the numbers of "What the controller turns down"
-// (number 3 in three parts), the faults of "Faults a bench would show"; of document 02 the counts of S-1 and the ranges of S-3. Leans on nothing.
+// (number 3 in three parts; 7 is given no longer), the faults of "Faults a bench would show"; of document 02 the counts of S-1, the ranges of S-3
+// and the abandoned writes of S-4. Leans on nothing.
 // A part is its name and then rows: what is done or looked at, = and what is expected. The first letter of a word counts.
 //   open K; read, Count (the begin of a count), within, Within (a read and a count with a range, which stands in the tray's last three numbers:
 //   column, lowest, highest), insert, delete, step, abandon at a DESK; evict a NODE, Evict an answer; new, the renewal;
@@ -10,7 +11,7 @@
 //   end
 // In a query * is a star, ? is any; ! is 5 under the mark 2, ~ a star with the value 5. 65535 is every place, and the largest desk.
 
-pub const PARTS: u32 = 48;
+pub const PARTS: u32 = 58;
 
 fn byte(text: &[u8], i: usize) -> u8 {
     if i < text.len() {
@@ -155,12 +156,12 @@ fn numbers_from_1(part: u32, i: usize) -> u8 {
 
 fn numbers_from_3(part: u32, i: usize) -> u8 {
     match part {
-        // Unsound, of a write's nodes: marks at 12 to add to; the taking back of a mark or a raise finds its node unmarked; a counter at
-        // its largest to raise; no unmarked node to put out.
+        // Unsound, of a write's nodes: marks at 12 to add to; the taking back of a mark, a raise or an abandoning's raises find a node
+        // unmarked; a counter at its largest to raise; no unmarked node to put out.
         17 => byte(
             b"number 3, expected: open 1 = 0; insert 0 (5) +5 = changed; insert 0 (5) = 0; put Nodes 13 = 12; step 0 +1 = 3; \
-            put Nodes 13 = 11; step 0 +1 = 0; Nodes 13 = 12; put Nodes 13 = 0; abandon 0 = 3; step 0 +2 = 0; step 0 +1 = 3; \
-            put Nodes 13 = 1; put Nodes 14 = 4294967295; step 0 +1 = 3; put Nodes 14 = 2; step 0 +1 = 0; read 1 (7) = 0; \
+            put Nodes 13 = 11; step 0 +1 = 0; Nodes 13 = 12; put Nodes 13 = 0; abandon 0 = 3; step 0 +2 = 0; step 0 +1 = 3; abandon 0 = 3; \
+            put Nodes 13 = 1; put Nodes 14 = 4294967295; step 0 +1 = 3; abandon 0 = 3; put Nodes 14 = 2; step 0 +1 = 0; read 1 (7) = 0; \
             put Nodes 65535 = 1; put Nodes 1 = 1024; step 1 +1 = 3; put Nodes 8197 = 0; step 1 +1 = 0",
             i,
         ),
@@ -182,10 +183,11 @@ fn numbers_from_3(part: u32, i: usize) -> u8 {
             step 0 +1 = 6; read 0 (5) = 0; abandon 0 = 0; abandon 0 = 6",
             i,
         ),
-        // Committed: abandon of a write after its table step. Before it, the marks are taken back.
+        // Given no longer (S-4): abandoned after its table step a write ends, as at its last raise; before it, its marks are taken back.
         21 => byte(
-            b"number 7, expected: open 1 = 0; insert 0 (5) +2 = 0; Nodes 13 = 1; Nodes 21 = 1; abandon 0 = 0; Nodes 13 = 0; Nodes 21 = 0; \
-            Table 0 = 0; insert 0 (5) +3 = 0; abandon 0 = 7; step 0 +1 = 0; abandon 0 = 7; step 0 +1 = changed; abandon 0 = 6",
+            b"number 7, given no longer, expected: open 1 = 0; insert 0 (5) +2 = 0; Nodes 13 = 1; Nodes 21 = 1; abandon 0 = 0; Nodes 13 = 0; \
+            Nodes 21 = 0; Table 0 = 0; insert 0 (5) +3 = 0; abandon 0 = changed; abandon 0 = 6; insert 0 (5) +4 = 0; abandon 0 = unchanged; \
+            abandon 0 = 6",
             i,
         ),
         _ => numbers_from_8(part, i),
@@ -445,6 +447,131 @@ fn ranges_from_4(part: u32, i: usize) -> u8 {
             within 0 (*) +4 = got 32; tray 31 = 31; within 0 (*) +2 = kept 32; insert 1 (90) +5 = changed; within 0 (*) +4 = got 32; \
             put tray 127 = 32; within 0 (*) +3 = 12; Within 0 (*) +4 = got 33; put tray 126 = 33; put tray 127 = 4294967295; \
             Within 0 (*) +4 = got 8; insert 1 (91) +2 = 0; within 0 (*) +3 = got 8; Answers 0 = 3",
+            i,
+        ),
+        _ => abandoned_from_1(part, i),
+    }
+}
+
+fn abandoned_from_1(part: u32, i: usize) -> u8 {
+    match part {
+        // An insert abandoned after its table step, with no raise made and with one: the marks go, each counter has gone up once, and the
+        // end is the one that the last raise would have given. The desk is idle, and a read of the record is answered from file at its
+        // second time.
+        49 => byte(
+            b"S-4 insert, expected: open 1 = 0; insert 0 (5) +3 = 0; Nodes 13 = 1; Nodes 21 = 1; abandon 0 = changed; Nodes 13 = 0; \
+            Nodes 14 = 2; Nodes 21 = 0; Nodes 22 = 2; Desks 8 = 0; Table 0 = 1; step 0 +1 = 6; abandon 0 = 6; insert 0 (5) +4 = 0; \
+            Nodes 13 = 0; Nodes 14 = 3; Nodes 21 = 1; Nodes 22 = 2; abandon 0 = unchanged; Nodes 13 = 0; Nodes 14 = 3; Nodes 21 = 0; \
+            Nodes 22 = 3; Desks 8 = 0; Desks 9 = 0; abandon 0 = 6; read 1 (5) +5 = got 1; tray 0 = 5; read 1 (5) +3 = kept 1",
+            i,
+        ),
+        // A delete in the same way: of a record that is there, of one that is not, and of all, whose second node is (?).
+        50 => byte(
+            b"S-4 delete, expected: open 1 = 0; insert 0 (5) +5 = changed; delete 0 (5) +3 = 0; Table 0 = 0; Nodes 13 = 1; Nodes 21 = 1; \
+            abandon 0 = changed; Nodes 13 = 0; Nodes 14 = 3; Nodes 21 = 0; Nodes 22 = 3; abandon 0 = 6; delete 0 (5) +3 = 0; \
+            abandon 0 = unchanged; Nodes 14 = 4; Nodes 22 = 4; delete 0 (*) +4 = 0; label 1 = (*); label 2 = (?); Nodes 22 = 5; Nodes 29 = 1; \
+            Nodes 30 = 1; abandon 0 = unchanged; Nodes 22 = 5; Nodes 29 = 0; Nodes 30 = 2; read 1 (5) +5 = got 0; read 1 (5) +3 = kept 0; \
+            read 1 (*) +4 = got 0; read 1 (*) +2 = kept 0",
+            i,
+        ),
+        // Four nodes, with no raise made, with one, and with all but one.
+        51 => byte(
+            b"S-4 two columns, expected: open 2 = 0; insert 0 (1,2) +5 = 0; abandon 0 = changed; Nodes 1 = 4; Nodes 13 = 0; Nodes 14 = 2; \
+            Nodes 21 = 0; Nodes 22 = 2; Nodes 29 = 0; Nodes 30 = 2; Nodes 37 = 0; Nodes 38 = 2; insert 0 (1,2) +6 = 0; Nodes 14 = 3; \
+            Nodes 21 = 1; Nodes 22 = 2; abandon 0 = unchanged; Nodes 14 = 3; Nodes 21 = 0; Nodes 22 = 3; Nodes 38 = 3; delete 0 (1,2) +8 = 0; \
+            Table 0 = 0; Nodes 30 = 4; Nodes 37 = 1; Nodes 38 = 3; abandon 0 = changed; Nodes 30 = 4; Nodes 37 = 0; Nodes 38 = 4; \
+            abandon 0 = 6; read 1 (1,2) +7 = got 0; read 1 (1,2) +5 = kept 0; read 1 (*,*) +4 = got 0; read 1 (*,*) +2 = kept 0",
+            i,
+        ),
+        _ => abandoned_from_4(part, i),
+    }
+}
+
+fn abandoned_from_4(part: u32, i: usize) -> u8 {
+    match part {
+        // Eight nodes, in the same way. The delete of (1,*,3) has four of the insert's nodes and four of its own, of which (*,?,*) is the
+        // last.
+        52 => byte(
+            b"S-4 three columns, expected: open 3 = 0; insert 0 (1,2,3) +9 = 0; abandon 0 = changed; Nodes 1 = 8; Nodes 13 = 0; Nodes 14 = 2; \
+            Nodes 69 = 0; Nodes 70 = 2; insert 0 (1,2,3) +10 = 0; Nodes 14 = 3; Nodes 22 = 2; abandon 0 = unchanged; Nodes 14 = 3; \
+            Nodes 22 = 3; Nodes 70 = 3; delete 0 (1,*,3) +9 = 0; Table 0 = 0; Nodes 1 = 12; label 11 = (*,?,*); step 0 +7 = 0; Nodes 30 = 4; \
+            Nodes 94 = 2; Nodes 101 = 1; Nodes 102 = 1; abandon 0 = changed; Nodes 30 = 4; Nodes 94 = 2; Nodes 101 = 0; Nodes 102 = 2; \
+            abandon 0 = 6; read 1 (1,2,3) +11 = got 0; read 1 (1,2,3) +9 = kept 0; read 1 (1,*,3) +7 = got 0; read 1 (1,*,3) +5 = kept 0",
+            i,
+        ),
+        // 13 is given by the abandoning where the last raise would have given it, with both raises left and with one. A record that is
+        // there already ends unchanged.
+        53 => byte(
+            b"S-4 full table, expected: open 1 = 0; fill (2047) +5 = changed; insert 0 (3000) +5 = changed; insert 0 (3001) +3 = 0; \
+            Desks 12 = 1; abandon 0 = 13; Desks 8 = 0; Table 0 = 2048; abandon 0 = 6; insert 0 (3001) +4 = 0; abandon 0 = 13; step 0 +1 = 6; \
+            read 1 (3001) +5 = got 0; read 1 (3001) +3 = kept 0; Count 1 (*) +4 = got 2048; Count 1 (*) +2 = kept 2048; \
+            insert 0 (3000) +3 = 0; abandon 0 = unchanged; delete 0 (7) +3 = 0; abandon 0 = changed; Table 0 = 2047; insert 0 (3001) +3 = 0; \
+            abandon 0 = changed; Table 0 = 2048",
+            i,
+        ),
+        _ => abandoned_from_6(part, i),
+    }
+}
+
+fn abandoned_from_6(part: u32, i: usize) -> u8 {
+    match part {
+        // The last of the nodes that are left is unmarked, its counter at its largest, or it is missing, by its label or by the count: 3,
+        // and nothing is altered at the node before it or at the desk. Put right, the abandoning goes on; a counter may come to its
+        // largest.
+        54 => byte(
+            b"S-4 damaged, expected: open 1 = 0; insert 0 (5) +3 = 0; put Nodes 21 = 0; abandon 0 = 3; Nodes 13 = 1; Nodes 14 = 1; \
+            Nodes 21 = 0; Nodes 22 = 1; Desks 8 = 2; Desks 9 = 3; Desks 11 = 1; put Nodes 21 = 1; put Nodes 22 = 4294967295; abandon 0 = 3; \
+            Nodes 13 = 1; Nodes 14 = 1; Nodes 21 = 1; Desks 9 = 3; put Nodes 22 = 1; put Nodes 16 = 3; abandon 0 = 3; Nodes 13 = 1; \
+            Nodes 14 = 1; Nodes 21 = 1; Desks 9 = 3; put Nodes 16 = 2; put Nodes 1 = 1; abandon 0 = 3; Nodes 13 = 1; Nodes 14 = 1; \
+            put Nodes 1 = 2; put Nodes 22 = 4294967294; abandon 0 = changed; Nodes 13 = 0; Nodes 14 = 2; Nodes 21 = 0; Nodes 22 = 4294967295; \
+            Desks 8 = 0",
+            i,
+        ),
+        // After a raise its node is looked at no more; any of those that are left is. A desk whose steps say that more raises are left
+        // finds one of them unmarked.
+        55 => byte(
+            b"S-4 damaged later, expected: open 2 = 0; insert 0 (1,2) +6 = 0; put Nodes 14 = 4294967295; put Nodes 37 = 0; abandon 0 = 3; \
+            Nodes 21 = 1; Nodes 22 = 1; Nodes 29 = 1; Nodes 30 = 1; Nodes 38 = 1; put Nodes 37 = 1; put Nodes 30 = 4294967295; abandon 0 = 3; \
+            Nodes 21 = 1; Nodes 22 = 1; Nodes 38 = 1; put Nodes 30 = 1; abandon 0 = changed; Nodes 13 = 0; Nodes 14 = 4294967295; \
+            Nodes 22 = 2; Nodes 30 = 2; Nodes 37 = 0; Nodes 38 = 2; put Nodes 14 = 2; insert 0 (1,2) +8 = 0; put Desks 9 = 9; abandon 0 = 3; \
+            put Desks 9 = 7; abandon 0 = 3; Nodes 30 = 3; Nodes 38 = 2; put Desks 9 = 8; abandon 0 = unchanged; Nodes 30 = 3; Nodes 38 = 3; \
+            Desks 9 = 0",
+            i,
+        ),
+        _ => abandoned_from_8(part, i),
+    }
+}
+
+fn abandoned_from_8(part: u32, i: usize) -> u8 {
+    match part {
+        // Before the table step the marks are taken back as ever: none, one or both; a counter at its largest is no hindrance, an unmarked
+        // node is. A reader's desk becomes idle, whatever it holds.
+        56 => byte(
+            b"S-4 before the table, expected: open 1 = 0; insert 0 (5) = 0; abandon 0 = 0; Nodes 1 = 0; insert 0 (5) +1 = 0; Nodes 13 = 1; \
+            abandon 0 = 0; Nodes 13 = 0; Nodes 14 = 1; insert 0 (5) +2 = 0; Nodes 21 = 1; put Nodes 21 = 0; abandon 0 = 3; Nodes 13 = 1; \
+            Desks 9 = 2; put Nodes 21 = 1; put Nodes 22 = 4294967295; abandon 0 = 0; Nodes 13 = 0; Nodes 14 = 1; Nodes 21 = 0; \
+            Nodes 22 = 4294967295; Table 0 = 0; abandon 0 = 6; put Nodes 22 = 1; read 0 (5) +4 = 0; abandon 0 = 0; Desks 8 = 0; Answers 0 = 0; \
+            abandon 0 = 6; read 1 (5) +5 = got 0; read 1 (5) +3 = kept 0",
+            i,
+        ),
+        // What readers see: one that saw the mark files nothing, the next one goes to the table, the one after it is answered from file.
+        // Of two writers each takes off its own marks only, whatever is marked stays, and with both abandoned nothing is.
+        57 => byte(
+            b"S-4 readers, expected: open 1 = 0; read 0 (5) +5 = got 0; insert 1 (5) +3 = 0; read 0 (5) +2 = 0; Desks 10 = 1; \
+            abandon 1 = changed; step 0 +2 = got 1; Answers 0 = 1; Answers 16 = 1; read 0 (5) +2 = 0; Desks 21 = 2; step 0 +3 = got 1; \
+            Answers 0 = 1; Answers 16 = 2; read 0 (5) +3 = kept 1; insert 1 (6) +3 = 0; insert 2 (7) +3 = 0; label 2 = (*); Nodes 29 = 2; \
+            evict 2 = 9; abandon 1 = changed; Nodes 29 = 1; Nodes 30 = 3; evict 2 = 9; read 0 (*) +3 = got 3; Answers 0 = 1; new = 11; \
+            abandon 2 = changed; Nodes 29 = 0; Nodes 30 = 4; read 0 (*) +4 = got 3; read 0 (*) +2 = kept 3; evict 2 = 0; new = 0",
+            i,
+        ),
+        // The end goes by the desk's flags, of which full goes before changed; and the other refusals of an abandoning are as they were.
+        58 => byte(
+            b"S-4 flags, refusals, expected: open 1 = 0; delete 0 (5) +3 = 0; put Desks 12 = 9; abandon 0 = 13; insert 0 (5) +3 = 0; \
+            put Desks 11 = 0; abandon 0 = unchanged; insert 0 (5) +3 = 0; put Desks 11 = 7; abandon 0 = changed; insert 0 (5) +3 = 0; \
+            put Desks 11 = 1; put Desks 12 = 1; abandon 0 = 13; insert 0 (5) +3 = 0; put Table 0 = 2049; abandon 0 = 3; abandon 12 = 3; \
+            put Table 0 = 1; abandon 12 = 4; abandon 1 = 6; put Desks 8 = 4; abandon 0 = 3; put Desks 8 = 2; put Desks 9 = 5; abandon 0 = 3; \
+            put Desks 9 = 3; put Desks 20 = 33; abandon 0 = 3; put Desks 20 = 0; put Desks 13 = 17; abandon 0 = 3; put Desks 13 = 1; \
+            abandon 0 = unchanged; abandon 0 = 6",
             i,
         ),
         _ => 0,

@@ -1,29 +1,23 @@
 -- The number at each way out of a check, in the terms of the tests that the code makes, but for begins (BeginCodes). Leans on the rules'
 -- Refusals and on the laws of nodes and clients. Assumes nothing.
-use mathlib.Core.Path.{_≡_, refl, sym, ap, _∙_}
+use mathlib.Core.Path.{_≡_, refl, sym, _∙_}
 use mathlib.Core.Bool.{Bool, true, false, cond, not}
 use mathlib.Core.List.{List, []}
-use Prim.Native.Nat.{ℕ, _^_, _≤_, _<_}
-use native.Mathlib.Omega.{arith}
-use lib.Dec.{eqb, ltb}
+use Prim.Native.Nat.{ℕ, _≤_, _<_}
+use lib.Dec.{eqb}
 use lib.ListN.{length, getD}
 use borrow.Author.Tests.{lt-ltb, le-ltb, le-leb, lt-leb, eq-eqb, ne-eqb}
 use Rattle.lists.specs.Lists.{allBelow}
-use Rattle.query.specs.Query.{writeCount}
 use Rattle.query.specs.Shape.{maxColumns, narrow}
-use Rattle.query.specs.Encoding.{bareKey}
-use Rattle.query.proofs.EncodingLaws.{query-in-length}
 use Rattle.rules.specs.Layout.{maxRecords, maxNodes, maxAnswers, maxClients, trayLeast, recordCountOffset, nodeCountOffset, answerCountOffset}
-use Rattle.rules.specs.Layout.{columnsOffset, reads, refusedShort, refusedUnsound, refusedNoClient, refusedIdle, refusedCommitted, refusedNoEntry}
+use Rattle.rules.specs.Layout.{columnsOffset, refusedShort, refusedUnsound, refusedNoClient, refusedIdle, refusedNoEntry}
 use Rattle.rules.specs.Layout.{refusedPending, refusedOccupied}
-use Rattle.rules.specs.Work.{writeLabels}
 use Rattle.rules.specs.Nodes.{isFree}
-use Rattle.rules.specs.Answers.{keyIn, someLong}
-use Rattle.rules.specs.Client.{Client, entryOf, isBad, queryAt, writeAt}
+use Rattle.rules.specs.Answers.{someLong}
+use Rattle.rules.specs.Client.{isBad}
 use Rattle.rules.specs.Memory.{Mem, shapeIn, clientIn, storeIn, answersIn}
-use Rattle.rules.specs.Refusals.{shape, client, isShort, badColumns, isUnsound, noClient, isCommitted, allIdle, atClient, stepCode, abandonCode}
+use Rattle.rules.specs.Refusals.{shape, client, isShort, badColumns, isUnsound, noClient, allIdle, atClient, stepCode, abandonCode}
 use Rattle.rules.specs.Refusals.{evictAnswerCode, evictNodeCode, renewCode}
-use Rattle.rules.proofs.ClientLaws.{announcements-at}
 use Rattle.nodes.proofs.NodeScans.{is-free-pending}
 use Rattle.clients.specs.declared.Held.{Held}
 use Rattle.clients.specs.ClientContracts.{IsHeld, idleAt}
@@ -31,7 +25,7 @@ use Rattle.clients.proofs.ClientSound.{kind-busy, none-idle}
 use Rattle.checks.specs.declared.Checked.{Checked}
 use Rattle.checks.specs.declared.Kept.{Kept}
 use Rattle.checks.specs.declared.Kept.the-variants.{Answer, Node}
-use Rattle.checks.specs.CheckContracts.{soundCode, clientCode, Found, committed, answerCode, nodeCode, evictCode}
+use Rattle.checks.specs.CheckContracts.{soundCode, clientCode, Found, answerCode, nodeCode, evictCode}
 
 -- ---- Unsound memories
 module _ (m : Mem) where
@@ -127,50 +121,14 @@ module _ (m : Mem) (tray : List ℕ) (d : ℕ) where
   unfolding stepCode
   step-found s t = rw (← s, le-ltb _ _ t)
 
-module _ (h : Held) where
-  pub committed-read : h .kind ≡ reads → false ≡ committed h
-  unfolding committed
-  committed-read e = rw (eq-eqb (h .kind) reads e)
-
-  pub committed-write : (p : ℕ) → p ≡ 2 ^ h .columns → (h .kind ≡ reads → ⊥) → ltb p (h .steps) ≡ committed h
-  unfolding committed
-  committed-write p q e = rw (ne-eqb (h .kind) reads e, q)
-
--- the rules' test, by what was read
-committed-is : {h : Held} (m : Mem) (d : ℕ) → IsHeld h (m .clients) d → committed h ≡ isCommitted (shape m) (client m d)
-unfolding committed isCommitted client queryAt writeCount
-committed-is {h} m d i =
-    let c : Client = clientIn narrow (m .clients) d in
-    let n : length (writeLabels (writeAt (shape m) c)) ≡ 2 ^ h .columns =
-    announcements-at (shape m) c ∙ ap (λ (k : ℕ). 2 ^ k) (query-in-length (shape m) (bareKey (keyIn (entryOf c))) ∙ sym (i .columns)) in
-    rw (n, i .kind, i .steps)
-
 module _ (m : Mem) (d : ℕ) where
   pub abandon-short : true ≡ isShort narrow (shape m) m → refusedShort ≡ abandonCode m d
   unfolding abandonCode
   abandon-short s = rw (← s)
 
-  module _ (s : false ≡ isShort narrow (shape m) m) {r : Checked} (f : Found r m d (atClient m d)) where
-    pub abandon-found : (r .code ≡ 0 → ⊥) → Found r m d (abandonCode m d)
-    unfolding abandonCode
-    abandon-found h =
-        let n : atClient m d ≡ 0 → ⊥ = λ z. h (f .code ∙ z) in
-        found-as f (rw (← s, ne-eqb (atClient m d) 0 n))
-
-    module _ (h : r .code ≡ 0) (x : Bool) (c : x ≡ committed (r .held)) where
-      is-zero : atClient m d ≡ 0
-      is-zero = sym (f .code) ∙ h
-
-      tested : x ≡ isCommitted (shape m) (client m d)
-      tested = c ∙ committed-is m d (f .held is-zero)
-
-      pub abandon-committed : x ≡ true → refusedCommitted ≡ abandonCode m d
-      unfolding abandonCode
-      abandon-committed t = rw (← s, eq-eqb (atClient m d) 0 is-zero, ← tested, t)
-
-      pub abandon-fine : x ≡ false → Found r m d (abandonCode m d)
-      unfolding abandonCode
-      abandon-fine t = found-as f (is-zero ∙ rw (← s, eq-eqb (atClient m d) 0 is-zero, ← tested, t))
+  pub abandon-found : false ≡ isShort narrow (shape m) m → atClient m d ≡ abandonCode m d
+  unfolding abandonCode
+  abandon-found s = rw (← s)
 
 -- ---- Evictions and renewals: after the memories' own number, the rest
 module _ (s : List ℕ) (i : ℕ) where

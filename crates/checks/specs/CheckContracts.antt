@@ -3,8 +3,8 @@
 use mathlib.Core.Path.{_≡_}
 use mathlib.Core.Bool.{Bool, cond, not, _&&_}
 use mathlib.Core.List.{List, []}
-use Prim.Native.Nat.{ℕ, _^_, _≤_}
-use lib.Dec.{eqb, ltb, leb}
+use Prim.Native.Nat.{ℕ, _≤_}
+use lib.Dec.{eqb, leb}
 use lib.ListN.{getD}
 use Rattle.query.specs.declared.Range.{Range}
 use Rattle.query.specs.Shape.{Shape, narrow, maxColumns}
@@ -15,7 +15,6 @@ use Rattle.rules.specs.Nodes.{isWorn, isFree}
 use Rattle.rules.specs.Client.{isIdle, isBad}
 use Rattle.rules.specs.Memory.{Mem, shapeIn, clientIn, storeIn}
 use Rattle.rules.specs.Refusals.{shape, client, isShort, isUnsound, noClient, refuse, beginCode, evictAnswerCode, evictNodeCode}
-use Rattle.clients.specs.declared.Held.{Held}
 use Rattle.clients.specs.ClientContracts.{IsHeld}
 use Rattle.checks.specs.declared.Checked.{Checked}
 use Rattle.checks.specs.declared.Begun.{Begun}
@@ -36,10 +35,6 @@ clientCode s d =
 pub record Found (r : Checked) (m : Mem) (d n : ℕ) : Type 0 where
   pub code : r .code ≡ n
   pub held : n ≡ 0 → IsHeld (r .held) (m .clients) d
-
--- a write that has made its table step, by what was read of it
-unfoldable pub committed : Held → Bool
-committed h = not (eqb (h .kind) reads) && ltb (2 ^ h .columns) (h .steps)
 
 -- ---- Begins
 -- what begins, by the number of its kind, of a read whether it wants a count and its range, and the numbers that arrive

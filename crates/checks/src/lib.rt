@@ -17,7 +17,7 @@ ghost use Rattle.rules.specs.Memory.{mem};
 ghost use Rattle.rules.specs.Refusals.{shape, isShort, isUnsound, atClient, stepCode, abandonCode, renewCode};
 ghost use Rattle.clients.specs.ClientContracts.{Fit, IsHeld};
 ghost use Rattle.nodes.specs.NodeContracts;
-ghost use Rattle.checks.specs.CheckContracts.{soundCode, clientCode, Found, requestOf, Asked, deskCode, BeginFound, committed, answerCode, nodeCode, evictCode};
+ghost use Rattle.checks.specs.CheckContracts.{soundCode, clientCode, Found, requestOf, Asked, deskCode, BeginFound, answerCode, nodeCode, evictCode};
 
 // ---- The memories
 // Whether k, an entry count or a filed list's length is out of range. Reads each memory once.
@@ -279,17 +279,6 @@ pub fn step_check(
     at_client(table, nodes, answers, clients, d)
 }
 
-// Whether a write has made its table step: it has made more steps than it has nodes to mark.
-fn is_committed(h: Held) -> bool
-    requires { ⌜ h .columns ≤ maxColumns ⌝ }
-    ensures { λ r. ⌜ r ≡ committed h ⌝ }
-{
-    if h.kind == Hall::READS {
-        return false;
-    }
-    (columns::keys::power(h.columns) as usize) < h.steps
-}
-
 pub fn abandon_check(
     table: &[u32],
     nodes: &[u32],
@@ -302,15 +291,7 @@ pub fn abandon_check(
     if Hall::is_short(table, nodes, answers, clients) {
         return refused(Hall::REFUSED_SHORT);
     }
-    let found = at_client(table, nodes, answers, clients, d);
-    if found.code != 0 {
-        return found;
-    }
-    let held = found.held;
-    if is_committed(held) {
-        return refused(Hall::REFUSED_COMMITTED);
-    }
-    found
+    at_client(table, nodes, answers, clients, d)
 }
 
 // ---- Evictions and renewals

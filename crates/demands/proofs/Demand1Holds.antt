@@ -21,12 +21,12 @@ use Rattle.rules.specs.declared.Outcome.the-variants.{Refused, Accepted, Answer
 use Rattle.rules.specs.Work.{Ask, Value, ofRecords, valueOf, mayAnswer, readLabels, Write, writeLabels, Work, asking, writing, Request, workOf, ofNumber, valueFor, listWithin}
 use Rattle.rules.specs.Nodes.{Words, Store, store}
 use Rattle.rules.specs.Answers.{Entry, valueIn, listIn, isCount}
-use Rattle.rules.specs.Client.{steps, sawPending, foundFull, entryOf}
+use Rattle.rules.specs.Client.{Client, steps, sawPending, foundFull, entryOf}
 use Rattle.rules.specs.Memory.{Mem, storeIn, answersIn, opened, renewed, recordsIn}
 use Rattle.rules.specs.Outcome.{Result, resultWith, number}
 use Rattle.rules.specs.Refusals.{form, shape, columns, client, badColumns, isShort, openCode, beginCode, stepCode, abandonCode, evictAnswerCode, evictNodeCode, renewCode}
 use Rattle.rules.specs.Steps.{nowAt, answered, lookResult, fetchResult, tableResult, fileResult, readResult, announceResult, writeTableResult, endOf, raiseResult, writeResult, progressOf, progress}
-use Rattle.rules.specs.Calls.{unless, openResult, beginResult, stepResult, releaseResult, abandonedOf, abandoned, abandonResult, evictAnswerResult, evictNodeResult, renewResult}
+use Rattle.rules.specs.Calls.{unless, openResult, beginResult, stepResult, pastTable, retireResult, abandonedWrite, abandonedOf, abandoned, abandonResult, evictAnswerResult, evictNodeResult, renewResult}
 use Rattle.rules.specs.History.{Call, begin, step, abandon, evictAnswer, evictNode, renew, untrayed, callResult, isAccepted}
 use Rattle.rules.specs.Sound.{Sound, Busy}
 use Rattle.rules.proofs.PassedChecks.{open-passed, begin-passed, step-passed, abandon-passed, evict-answer-passed, evict-node-passed, renew-passed}
@@ -96,6 +96,10 @@ went-leaves sh m n tray t o w a b = record {
 accepted-went : Went Accepted
 unfolding isAccepted number isRefused
 accepted-went = (refl, refl)
+
+end-went : (c : Client) → Went (endOf c)
+unfolding endOf isAccepted number isRefused
+end-went c = byTest (foundFull c) (λ e. rw e (refl, refl)) (λ e. rw e (refl, refl))
 
 accepted-leaves : (sh : Shape) (m n : Mem) (tray : List ℕ) → AllUnaltered sh m n → Leaves narrow sh m tray (resultWith Accepted n tray)
 accepted-leaves sh m n tray a = went-leaves sh m n tray tray Accepted accepted-went a (unaltered-same _ _)
@@ -189,15 +193,11 @@ module _ (m : Mem) (s : Sound m) (tray : List ℕ) (room : trayLeast ≤ length 
     announce-leaves none z = unsound-leaves
     announce-leaves (some t) z = accepted-leaves (shape m) m _ tray (now _ _ (all-store m t s z) (stepped-wide (client m d) (b .wide)))
 
-    end-went : Went (endOf (client m d))
-    unfolding endOf isAccepted number isRefused
-    end-went = byTest (foundFull (client m d)) (λ e. rw e (refl, refl)) (λ e. rw e (refl, refl))
-
     raise-leaves : (isLast : Bool) (o : Option Store) → AllSized o → Leaves narrow (shape m) m tray (raiseResult m tray d isLast o)
     unfolding raiseResult
     raise-leaves isLast none z = unsound-leaves
     raise-leaves false (some t) z = accepted-leaves (shape m) m _ tray (now _ _ (all-store m t s z) (stepped-wide (client m d) (b .wide)))
-    raise-leaves true (some t) z = went-leaves (shape m) m _ tray tray (endOf (client m d)) end-went (now _ _ (all-store m t s z) idle-wide) (unaltered-same _ _)
+    raise-leaves true (some t) z = went-leaves (shape m) m _ tray tray (endOf (client m d)) (end-went (client m d)) (now _ _ (all-store m t s z) idle-wide) (unaltered-same _ _)
 
   -- the numbers of a value that may be answered
   value-room : (counts : Bool) (l : List Record) → length (flat l) ≡ length l * columns m → counts || leb (valueFor counts l .count) maxList ≡ true
@@ -262,20 +262,24 @@ step-leaves m tray d =
     (λ e. rw e (refused-leaves (shape m) m tray (stepCode m tray d) (inl (step-low m tray d)) (eqb-false (stepCode m tray d) 0 e)))
 
 -- ---- Abandonings
-release-leaves : (m : Mem) (d : ℕ) (o : Option Store) → Sound m → d < maxClients → AllSized o → Leaves narrow (shape m) m [] (untrayed (releaseResult m d o))
-unfolding releaseResult untrayed
-release-leaves m d none s h z = refused-leaves (shape m) m [] 3 (inl (omega arith)) (λ e. omega arith)
-release-leaves m d (some t) s h z = accepted-leaves (shape m) m _ [] (all-now (shape m) m _ d _ (all-store m t s z) (s .long .clients) h idle-wide)
+retire-leaves : (m : Mem) (d : ℕ) (out : Outcome) (o : Option Store) → Went out → Sound m → d < maxClients → AllSized o → Leaves narrow (shape m) m [] (untrayed (retireResult m d out o))
+unfolding retireResult untrayed
+retire-leaves m d out none w s h z = refused-leaves (shape m) m [] 3 (inl (omega arith)) (λ e. omega arith)
+retire-leaves m d out (some t) w s h z =
+    went-leaves (shape m) m _ [] [] out w (all-now (shape m) m _ d _ (all-store m t s z) (s .long .clients) h idle-wide) (unaltered-same _ _)
 
 abandoned-leaves : (m : Mem) (d : ℕ) (w : Work) → Sound m → d < maxClients → Leaves narrow (shape m) m [] (untrayed (abandonedOf m d w))
-unfolding abandonedOf untrayed
+unfolding abandonedOf abandonedWrite untrayed
 abandoned-leaves m d (asking x) s h = accepted-leaves (shape m) m _ [] (all-now (shape m) m m d _ (all-same (shape m) m) (s .long .clients) h idle-wide)
-abandoned-leaves m d (writing w) s h = release-leaves m d _ s h (sized-retired false _ _ (sized-in m s))
+abandoned-leaves m d (writing w) s h =
+    byTest (pastTable w (steps (client m d)))
+    (λ t. rw t (retire-leaves m d _ _ (end-went (client m d)) s h (sized-retired true _ _ (sized-in m s))))
+    (λ t. rw t (retire-leaves m d _ _ accepted-went s h (sized-retired false _ _ (sized-in m s))))
 
 pub abandon-leaves : (m : Mem) (d : ℕ) → Leaves narrow (shape m) m [] (untrayed (abandonResult m d))
 unfolding abandonResult abandoned
 abandon-leaves m d = unless-leaves (shape m) m (abandonCode m d) _ (inl (abandon-low m d)) (λ e.
-    let p = abandon-passed m d e .0 in abandoned-leaves m d _ (p .0) (p .1))
+    let p = abandon-passed m d e in abandoned-leaves m d _ (p .0) (p .1))
 
 -- ---- Evictions and renewals
 pub evict-answer-leaves : (m : Mem) (i : ℕ) → Leaves narrow (shape m) m [] (untrayed (evictAnswerResult m i))

@@ -1,4 +1,4 @@
--- Demand 2, for every history of the calls that the contracts cite. Leans on StepsOfReads, StepsOfWrites, WriteEnds, FilingRead and
+-- Demand 2, for every history of the calls that the contracts cite. Leans on StepsOfReads, StepsOfWrites, WriteEnds, AbandonedWrites, FilingRead and
 -- Demand2Holds. Assumes nothing.
 use mathlib.Core.Path.{_≡_}
 use mathlib.Core.Logic.{_⊎_, inl, inr}
@@ -16,6 +16,7 @@ use Rattle.demands.proofs.Demand2Holds.{demand-2-gets}
 use Rattle.demands.proofs.TableOrdered.{demand-2-ascending}
 use Rattle.demands.proofs.StepsMade.{reads-tell}
 use Rattle.demands.proofs.WriteEnds.{writes-take}
+use Rattle.demands.proofs.AbandonedWrites.{marks-back, raises-left, abandoned-nodes}
 use Rattle.demands.proofs.FilingRead.{filing-read, one-filing}
 use Rattle.demands.proofs.StepsOfReads.{lists-taken, lists-filed, looks, read-nodes}
 use Rattle.demands.proofs.StepsOfWrites.{inserts, deletes, only-writes, marks-set, raises-made, marked-nodes, raised-all}
@@ -52,9 +53,12 @@ demand-2 h = record {
   looks = looks h;
   marks = marks-set h;
   raises = raises-made h;
+  marks-back = marks-back h;
+  raises-left = raises-left h;
   read-nodes = read-nodes h;
   marked-nodes = marked-nodes h;
   raised-nodes = raised-all h;
+  abandoned-nodes = abandoned-nodes h;
   reads-tell = reads-tell h;
   gets-filed = gets-filed h;
 }

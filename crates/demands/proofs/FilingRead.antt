@@ -24,7 +24,8 @@ use Rattle.rules.specs.Memory.{Mem, answersIn, opened, renewed}
 use Rattle.rules.specs.Refusals.{shape, client, stepCode, beginCode, abandonCode, evictAnswerCode, evictNodeCode, renewCode}
 use Rattle.rules.specs.Steps.{nowAt, storeBack, answered, lookResult, fetchResult, tableResult, fileResult, readResult}
 use Rattle.rules.specs.Steps.{announceResult, writeTableResult, raiseResult, writeResult, progress, progressOf}
-use Rattle.rules.specs.Calls.{unless, beginResult, stepResult, releaseResult, abandonedOf, abandoned, abandonResult, evictAnswerResult, evictNodeResult, renewResult}
+use Rattle.rules.specs.declared.Outcome.{Outcome}
+use Rattle.rules.specs.Calls.{unless, beginResult, stepResult, pastTable, retireResult, abandonedWrite, abandonedOf, abandoned, abandonResult, evictAnswerResult, evictNodeResult, renewResult}
 use Rattle.rules.specs.History.{Call, begin, step, abandon, evictAnswer, evictNode, renew, callResult, untrayed}
 use Rattle.rules.specs.Work.{Ask, Value, mayAnswer, readLabels, Write, writeLabels, Work, asking, writing, Request, stepsInAll, askIn}
 use Rattle.rules.specs.Sound.{Busy}
@@ -57,15 +58,15 @@ begin-answers : (m : Mem) (d : ℕ) (r : Request) → beginResult m d r .mem .an
 unfolding beginResult unless nowAt
 begin-answers m d r = byTest (eqb (beginCode m d r) 0) (λ t. rw t refl) (λ t. rw t refl)
 
-release-answers : (m : Mem) (d : ℕ) (o : Option Store) → releaseResult m d o .mem .answers ≡ m .answers
-unfolding releaseResult nowAt storeBack
-release-answers m d none = refl
-release-answers m d (some s) = refl
+retire-answers : (m : Mem) (d : ℕ) (out : Outcome) (o : Option Store) → retireResult m d out o .mem .answers ≡ m .answers
+unfolding retireResult nowAt storeBack
+retire-answers m d out none = refl
+retire-answers m d out (some s) = refl
 
 abandoned-answers : (m : Mem) (d : ℕ) (w : Work) → abandonedOf m d w .mem .answers ≡ m .answers
-unfolding abandonedOf nowAt
+unfolding abandonedOf abandonedWrite nowAt
 abandoned-answers m d (asking x) = refl
-abandoned-answers m d (writing w) = release-answers m d _
+abandoned-answers m d (writing w) = byTest (pastTable w (steps (client m d))) (λ t. rw t (retire-answers m d _ _)) (λ t. rw t (retire-answers m d _ _))
 
 abandon-answers : (m : Mem) (d : ℕ) → abandonResult m d .mem .answers ≡ m .answers
 unfolding abandonResult unless abandoned

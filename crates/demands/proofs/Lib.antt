@@ -30,5 +30,6 @@ pub mod NotesKept
 pub mod StepsOfReads
 pub mod StepsOfWrites
 pub mod WriteEnds
+pub mod AbandonedWrites
 pub mod Demand2WholeHolds
 pub mod Example2

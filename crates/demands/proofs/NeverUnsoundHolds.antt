@@ -19,9 +19,9 @@ use Rattle.rules.specs.Work.{Work, asking, writing, Request, workOf, stepsInAll
 use Rattle.rules.specs.Memory.{opened}
 use Rattle.rules.specs.Outcome.{number}
 use Rattle.rules.specs.Refusals.{client}
-use Rattle.rules.specs.History.{step, renew, callResult, memAfter, isAccepted}
+use Rattle.rules.specs.History.{step, abandon, renew, untrayed, callResult, memAfter, isAccepted}
 use Rattle.machine.specs.Machine as machine
-use Rattle.machine.specs.Machine.{State, Phase, idle, looking, tabling, filing, announcing, raising, at-client, Response, isRefused, isEnd}
+use Rattle.machine.specs.Machine.{State, Phase, idle, looking, tabling, filing, announcing, raising, at-client, with-store, Response, isRefused, isEnd}
 use Rattle.machine.specs.Transition.{Transition}
 use Rattle.machine.specs.Transition
 use Rattle.machine.proofs.Sums.{upd-same}
@@ -32,12 +32,12 @@ use Rattle.machine.proofs.Headroom.{opened-headroom}
 use Rattle.machine.proofs.StepsToGo.{toGo, rests, Nearer, transition-nearer, transition-goes-on}
 use Rattle.refinement.proofs.Abstraction.{stateOf, callOf, responseOf}
 use Rattle.refinement.proofs.Opening.{opened-fits}
-use Rattle.refinement.proofs.NeverRefused.{Lasting, call-passes, lasting-next, step-accepted}
+use Rattle.refinement.proofs.NeverRefused.{Lasting, call-passes, lasting-next, step-accepted, abandon-accepted}
 use Rattle.refinement.proofs.StepsLeft.{to-go-at, rests-at, some-to-go}
 use Rattle.demands.specs.WholeHistory.{History, shapeAt, memAt, callAt, resultAt, acceptedAt, endsAt, UnderWay, stepsIn}
-use Rattle.demands.specs.NeverUnsound.{NeverThree, IsBusy, StepsGo, steppedOn, Roomy, EndsWithin, UnderWayBusy, stepsLeftAt, WorkEnds, BusyEnds, NeverUnsound}
+use Rattle.demands.specs.NeverUnsound.{NeverThree, IsBusy, StepsGo, AbandonsGo, steppedOn, Roomy, EndsWithin, UnderWayBusy, stepsLeftAt, WorkEnds, BusyEnds, NeverUnsound}
 use Rattle.demands.proofs.HistoryRuns.{next-mem, responseAt, few-columns, transition-at, number-at}
-use Rattle.demands.proofs.LogPlaces.{work-ends, stepped-at}
+use Rattle.demands.proofs.LogPlaces.{accepted-at, work-ends, stepped-at}
 use Rattle.demands.proofs.Works.{Since, begin-taken, goes-on, work-since, not-begun}
 
 idle-rests : rests idle ≡ true
@@ -68,6 +68,24 @@ never-three h n l = call-passes (memAt h n) (lasting-at h n (omega arith)) (call
 steps-go : (h : History) → StepsGo h
 unfolding acceptedAt resultAt callResult
 steps-go h n d tray l e b t = rw e (step-accepted (memAt h n) (lasting-at h n (omega arith)) tray d t (b .below) (b .busy))
+
+-- ---- Every busy desk can be abandoned
+abandon-rests : (s : State) (d : ℕ) {a : Response} {t : State} → Transition s (machine.abandon d) a t → isRefused a ≡ false → rests (t .clients d) ≡ true
+unfolding at-client with-store isRefused
+abandon-rests s d (Transition.nothing e) r = absurd (true≢false r)
+abandon-rests s d (Transition.abandoned-read l e) r = rw (upd-same (s .clients) d idle) idle-rests
+abandon-rests s d (Transition.abandoned-write l e m) r = rw (upd-same (s .clients) d idle) idle-rests
+abandon-rests s d (Transition.abandoned-raising l e m) r = rw (upd-same (s .clients) d idle) idle-rests
+
+abandons-go : (h : History) → AbandonsGo h
+unfolding callOf acceptedAt resultAt callResult untrayed
+abandons-go h n d l e b =
+    let s = stateOf (memAt h n) in
+    let u = stateOf (memAt h (suc n)) in
+    let a : acceptedAt h n ≡ true = rw e (abandon-accepted (memAt h n) (lasting-at h n (omega arith)) d (b .below) (b .busy)) in
+    let o : Transition s (callOf (shapeAt h) (abandon d)) (responseAt h n) u = subst (λ c. Transition s (callOf (shapeAt h) c) (responseAt h n) u) e (transition-at h n l) in
+    let g = lasting-at h (suc n) l in
+    (a, sym (rests-at (memAt h (suc n)) (g .fits) d (b .below)) ∙ abandon-rests s d o (not-true (isRefused (responseAt h n)) (sym (accepted-at h n l) ∙ a)))
 
 -- ---- Every read and write can go on to its end
 -- a step is accepted, so the desk has fewer steps to go
@@ -225,6 +243,7 @@ pub never-unsound : (h : History) → NeverUnsound h
 never-unsound h = record {
   never-three = never-three h;
   steps-go = steps-go h;
+  abandons-go = abandons-go h;
   under-way-busy = under-way-busy h;
   work-ends = ends h;
   busy-ends = busy-ends h;

@@ -1,14 +1,14 @@
--- 3 at a node: the tests in document 01's words tell exactly where the rules have no nodes to go on with. Those of a look, of a raise and of
+-- 3 at a node: the tests in document 01's words tell exactly where the rules have no nodes to go on with. Those of a look, of raises and of
 -- the taking back of marks in any memories; that of a mark where k is in range, since a node of another width keeps no marks.
 -- Leans on revisions' laws of nodes and on machine's of a write's labels. Assumes nothing.
 use mathlib.Core.Path.{_≡_, refl, sym, ap, _∙_}
 use mathlib.Core.Bool.{Bool, true, false, cond, not, _&&_, _||_}
 use mathlib.Core.List.{List, [], _∷_}
 use mathlib.Core.Option.{Option, none, some}
-use Prim.Native.Nat.{ℕ, suc, _≤_}
+use Prim.Native.Nat.{ℕ, suc, _+_, _-_, _≤_}
 use native.Mathlib.Omega.{arith}
 use lib.Dec.{eqb, ltb, leb, leb·suc-suc}
-use lib.ListN.{length, take}
+use lib.ListN.{length}
 use borrow.Author.Tests.{ltb-true, ltb-false, eqb-true, eqb-false, lt-ltb, le-ltb, le-leb, lt-leb}
 use Rattle.laws.proofs.TestLaws.{byTest}
 use Rattle.laws.proofs.ListLaws.{same-refl}
@@ -19,13 +19,14 @@ use Rattle.rules.specs.Layout.{maxNodes, maxPending, maxRevision}
 use Rattle.rules.specs.Work.{Write, writeLabels}
 use Rattle.rules.specs.Nodes.{Words, Node, Store, pending, revision, isPresent, nodeOf, added, isFree, oldestFree, makeRoom, addedIn}
 use Rattle.rules.specs.Nodes.{ensured, announcedIn, announced, isPending, mayRetire, retired}
+use Rattle.rules.specs.Calls.{announcedLabels, labelsLeft}
 use Rattle.revisions.specs.EffectiveRevision.{has, pendingOf, tally}
 use Rattle.revisions.proofs.NodeRows.{pending-in-absent, last-pending-in, fresh-pending}
 use Rattle.revisions.proofs.NodeOperations.{present-has, node-pending-of, evict-has, added-has}
 use Rattle.revisions.proofs.Retirements.{Apart, allRetirable, retiredEach, retired-tests}
 use Rattle.machine.proofs.PendingLabels.{one-self}
 use Rattle.machine.proofs.Headroom.{write-once, tally-parts}
-use Rattle.demands.specs.RefusalRows.{isMissingOrFree, noneFree, hasNoRoom, isFullyPending, isAtLargest, someMissingOrFree}
+use Rattle.demands.specs.RefusalRows.{isMissingOrFree, noneFree, hasNoRoom, isFullyPending, isAtLargest, cannotRaise, someOf}
 
 -- the rules have no nodes to go on with
 unfoldable pub isNone : Option Store → Bool
@@ -128,9 +129,19 @@ unmarked-not p s =
     (λ e. rw (e, not-zero (pending (nodeOf p s))) (byTest (eqb (pending (nodeOf p s)) 0) (λ f. rw f) (λ f. rw f)))
     (λ e. rw e)
 
-may-not : (p : Words) (s : Store) → not (mayRetire narrow true p s) ≡ isMissingOrFree p s || isAtLargest narrow p s
-unfolding mayRetire isPending isMissingOrFree isFree isAtLargest
-may-not p s =
+-- what stands in the way of a mark's removal, with a lift or without
+abbrev pub fault : Bool → Words → Store → Bool
+fault true = cannotRaise narrow
+fault false = isMissingOrFree
+
+may-not : (lift : Bool) (p : Words) (s : Store) → not (mayRetire narrow lift p s) ≡ fault lift p s
+unfolding mayRetire isPending isMissingOrFree isFree isAtLargest cannotRaise
+may-not false p s = go (isPending p s) ∙ sym (unmarked-not p s)
+  where
+    go : (a : Bool) → not (a && true) ≡ not a
+    go true = refl
+    go false = refl
+may-not true p s =
     byTest (isPresent p s)
     (λ e. rw (e, ← not-less (revision narrow (nodeOf p s)) (maxRevision narrow), not-zero (pending (nodeOf p s)))
     (go (eqb (pending (nodeOf p s)) 0) (ltb (revision narrow (nodeOf p s)) (maxRevision narrow))))
@@ -140,9 +151,9 @@ may-not p s =
     go true b = refl
     go false b = refl
 
-pub raise-none : (p : Words) (s : Store) → isNone (retired narrow true (p ∷ []) s) ≡ isMissingOrFree p s || isAtLargest narrow p s
+pub raise-none : (p : Words) (s : Store) → isNone (retired narrow true (p ∷ []) s) ≡ cannotRaise narrow p s
 unfolding retired
-raise-none p s = none-cond (mayRetire narrow true p s) _ ∙ may-not p s
+raise-none p s = none-cond (mayRetire narrow true p s) _ ∙ may-not true p s
 
 -- no label stands twice in a list
 once-apart : (ps : List Words) → ((p : Words) → tally p ps ≤ 1) → Apart ps
@@ -151,25 +162,29 @@ once-apart [] h = tt
 once-apart (p ∷ ps) h =
     (let a = h p in let b = one-self p in omega arith, once-apart ps (λ q. let a = h q in omega arith))
 
-taken-apart : (w : Write) (i : ℕ) → Apart (take i (writeLabels w))
-taken-apart w i =
-    once-apart (take i (writeLabels w)) (λ p. let a = write-once w p in let b = tally-parts p i (writeLabels w) in omega arith)
+-- nor in a part of a write's
+pub marks-apart : (w : Write) (i : ℕ) → Apart (announcedLabels w i)
+marks-apart w i = once-apart (announcedLabels w i) (λ p. let a = write-once w p in let b = tally-parts p i (writeLabels w) in omega arith)
 
-back-not : (ps : List Words) (s : Store) → not (allRetirable false ps s) ≡ someMissingOrFree ps s
-unfolding allRetirable someMissingOrFree mayRetire
-back-not [] s = refl
-back-not (p ∷ ps) s =
-    go (isPending p s) (allRetirable false ps s)
-    ∙ ap (λ (b : Bool). b || not (allRetirable false ps s)) (sym (unmarked-not p s))
-    ∙ ap (λ (b : Bool). isMissingOrFree p s || b) (back-not ps s)
+pub raises-apart : (w : Write) (i : ℕ) → Apart (labelsLeft w i)
+raises-apart w i =
+    once-apart (labelsLeft w i) (λ p. let a = write-once w p in let b = tally-parts p (i - (length (writeLabels w) + 1)) (writeLabels w) in omega arith)
+
+all-not : (lift : Bool) (ps : List Words) (s : Store) → not (allRetirable lift ps s) ≡ someOf (fault lift) ps s
+unfolding allRetirable someOf
+all-not lift [] s = refl
+all-not lift (p ∷ ps) s =
+    go (mayRetire narrow lift p s) (allRetirable lift ps s)
+    ∙ ap (λ (b : Bool). b || not (allRetirable lift ps s)) (may-not lift p s)
+    ∙ ap (λ (b : Bool). fault lift p s || b) (all-not lift ps s)
   where
-    go : (a b : Bool) → not ((a && true) && b) ≡ not a || not b
+    go : (a b : Bool) → not (a && b) ≡ not a || not b
     go true b = refl
     go false b = refl
 
-pub back-none : (w : Write) (i : ℕ) (s : Store) → isNone (retired narrow false (take i (writeLabels w)) s) ≡ someMissingOrFree (take i (writeLabels w)) s
-back-none w i s =
-    let ps : List Words = take i (writeLabels w) in
-    ap isNone (retired-tests false ps s (taken-apart w i))
-    ∙ none-cond (allRetirable false ps s) (retiredEach false ps s)
-    ∙ back-not ps s
+-- all are tested on the nodes as they are before the first is altered
+pub retired-none : (lift : Bool) (ps : List Words) (s : Store) → Apart ps → isNone (retired narrow lift ps s) ≡ someOf (fault lift) ps s
+retired-none lift ps s a =
+    ap isNone (retired-tests lift ps s a)
+    ∙ none-cond (allRetirable lift ps s) (retiredEach lift ps s)
+    ∙ all-not lift ps s

@@ -1,4 +1,5 @@
--- A write is open by the calls exactly if the memories say so, for every history. Leans on WorksBegun and query's Meet. Assumes nothing.
+-- A write is open by the calls exactly if the memories say so, for every history. Leans on WorksBegun, AbandonedWrites and query's Meet.
+-- Assumes nothing.
 use mathlib.Core.Path.{_≡_, refl, sym, ap, _∙_}
 use mathlib.Core.Bool.{Bool, true, false, not, _&&_}
 use mathlib.Core.Logic.{_↔_}
@@ -27,6 +28,7 @@ use Rattle.demands.specs.WholeHistory.{History, shapeAt, memAt, callAt, 
 use Rattle.demands.specs.Demand2.{isOpen, isQuiet}
 use Rattle.demands.specs.Corollaries.{undoes, isOpposed, isUnopposed}
 use Rattle.demands.specs.OpenWrites.{Open, BusySince, UntilIdle, DesksTell, QuietTells, UnopposedTells, OpenWrites}
+use Rattle.demands.proofs.AbandonedWrites.{marks-open}
 use Rattle.demands.proofs.WorksBegun.{busy-begun, begun-busy, AtWork, client-works, works-client}
 
 -- ---- Until its desk is idle
@@ -154,4 +156,4 @@ unfolding isUnopposed isOpposed
 unopposed-tells h i l v r = none-open h i l (λ w. undoes v r (w .change))
 
 pub open-writes : (h : History) → OpenWrites h
-open-writes h = record { until-idle = until-idle h; desks-tell = desks-tell h; quiet-tells = quiet-tells h; unopposed-tells = unopposed-tells h }
+open-writes h = record { until-idle = until-idle h; desks-tell = desks-tell h; quiet-tells = quiet-tells h; unopposed-tells = unopposed-tells h; marks-open = marks-open h }

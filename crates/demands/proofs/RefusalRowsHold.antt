@@ -1,8 +1,8 @@
 -- The number that a call returns is that of the first row of its refusals that applies, which is the smallest that applies, but for 14; where
--- none does it is 0, 12 or 13. 14 is given to a begin of a read with a reversed range, and to no other call. Leans on rules' definitions and
+-- none does it is 0, 12 or 13. 14 is given to a begin of a read with a reversed range, and to no other call; 7 to none. Leans on rules' definitions and
 -- laws, on refinement's RefusedCalls and on NodeFaults for 3 at a node. Assumes nothing.
 use mathlib.Core.Path.{_≡_, refl, sym, ap, _∙_}
-use mathlib.Core.Bool.{Bool, true, false, cond, not, _&&_, _||_}
+use mathlib.Core.Bool.{Bool, true, false, cond, not, _&&_, _||_, and-false}
 use mathlib.Core.List.{List, [], _∷_, _++_}
 use mathlib.Core.Logic.{_⊎_, inl, inr}
 use mathlib.Core.Option.{Option, none, some}
@@ -17,24 +17,25 @@ use Rattle.laws.proofs.ListLaws.{and-left, and-right}
 use Rattle.query.specs.Encoding.{isQuery, namesAll, queryOf}
 use Rattle.query.specs.Range.{isRange, isReversed}
 use Rattle.query.specs.Shape.{Shape, narrow, maxColumns}
-use Rattle.rules.specs.Layout.{trayLeast, reads, refusedColumns, refusedReversed}
+use Rattle.rules.specs.Layout.{trayLeast, reads, notGiven, refusedColumns, refusedReversed}
 use Rattle.rules.specs.Work.{Ask, Value, readLabels, mayAnswer, Write, writeLabels, Work, asking, writing, Request, readOf, insertOf, deleteOf, isWrite, askFault, askOf, faultOf, writeIn, workIn}
 use Rattle.rules.specs.Table.{target}
 use Rattle.rules.specs.Nodes.{Words, Store, isWorn}
 use Rattle.rules.specs.Answers.{keyIn}
 use Rattle.rules.specs.Client.{Client, kind, steps, sawPending, foundFull, entryOf, isIdle, isBad, workAt}
 use Rattle.rules.specs.Memory.{Mem, storeIn, answersIn}
+use Rattle.rules.specs.declared.Outcome.{Outcome}
 use Rattle.rules.specs.Outcome.{Result, number}
-use Rattle.rules.specs.Refusals.{shape, columns, client, isShort, badColumns, isUnsound, noClient, isCommitted}
+use Rattle.rules.specs.Refusals.{shape, columns, client, isShort, badColumns, isUnsound, noClient}
 use Rattle.rules.specs.Refusals.{openCode, beginCode, atClient, stepCode, abandonCode, evictAnswerCode, evictNodeCode, renewCode}
 use Rattle.rules.specs.Steps.{answered, lookResult, fetchResult, tableResult, fileResult, readResult, announceResult, writeTableResult, endOf, raiseResult, writeResult, progressOf, progress}
-use Rattle.rules.specs.Calls.{unless, openResult, beginResult, stepResult, releaseResult, abandonedOf, abandoned, abandonResult, evictAnswerResult, evictNodeResult, renewResult}
+use Rattle.rules.specs.Calls.{unless, openResult, beginResult, stepResult, pastTable, announcedLabels, labelsLeft, retireResult, abandonedWrite, abandonedOf, abandoned, abandonResult, evictAnswerResult, evictNodeResult, renewResult}
 use Rattle.rules.specs.History.{Call, begin, step, abandon, evictAnswer, evictNode, renew, untrayed, callResult, isAccepted}
 use Rattle.rules.proofs.WorkLaws.{write-labels-some, write-label-wide, target-length}
 use Rattle.refinement.proofs.RefusedCalls.{begin-code}
-use Rattle.demands.proofs.NodeFaults.{isNone, look-none, mark-none, raise-none, back-none}
-use Rattle.demands.specs.RefusalRows.{Row, firstOf, someApplies, isThere, isBusy, isUnsoundAt, isUnsoundBack, isLongAt, isFullAt}
-use Rattle.demands.specs.RefusalRows.{openRows, beginRows, stepRows, endRows, abandonRows, evictAnswerRows, evictNodeRows, renewRows, rowsOf, endsOf, Gives, RefusalRows, Smallest, SmallestGiven, hasReversed, IsReversedBegin, OnlyReversed}
+use Rattle.demands.proofs.NodeFaults.{isNone, look-none, mark-none, raise-none, retired-none, marks-apart, raises-apart}
+use Rattle.demands.specs.RefusalRows.{Row, firstOf, someApplies, isThere, isBusy, isUnsoundAt, isUnsoundAbandoned, isLongAt, isFullAt, isFullAbandoned}
+use Rattle.demands.specs.RefusalRows.{openRows, beginRows, stepRows, endRows, abandonRows, abandonEndRows, evictAnswerRows, evictNodeRows, renewRows, rowsOf, endsOf, Gives, RefusalRows, Smallest, SmallestGiven, hasReversed, IsReversedBegin, OnlyReversed, GivenNoLonger}
 
 -- ---- The first of two lists of rows
 first-refused : (a b : List Row) → someApplies a ≡ true → firstOf (a ++ b) ≡ firstOf a
@@ -377,60 +378,63 @@ unfolding stepRows refusing isAccepted
 step-gives m tray d = gives (stepRows m tray d) (endRows m d) _ (step-first m tray d) refl (step-accepted m d)
 
 -- ---- Abandonings
-release-number : (m : Mem) (d : ℕ) (o : Option Store) → number (releaseResult m d o .out) ≡ cond (isNone o) 3 0
-unfolding releaseResult number isNone
-release-number m d none = refl
-release-number m d (some s) = refl
+retire-number : (m : Mem) (d : ℕ) (out : Outcome) (o : Option Store) → number (retireResult m d out o .out) ≡ cond (isNone o) 3 (number out)
+unfolding retireResult number isNone
+retire-number m d out none = refl
+retire-number m d out (some s) = refl
 
-abandoned-number : (m : Mem) (d : ℕ) (w : Work) → number (abandonedOf m d w .out) ≡ cond (isUnsoundBack m w (steps (client m d))) 3 0
-unfolding abandonedOf isUnsoundBack number
+end-number : (c : Client) → number (endOf c) ≡ cond (foundFull c) 13 0
+unfolding endOf number
+end-number c = byTest (foundFull c) (λ e. rw e) (λ e. rw e)
+
+abbrev abandonedAt : Mem → ℕ → Work → ℕ → ℕ
+abandonedAt m d w i = cond (isUnsoundAbandoned m w i) 3 (cond (isFullAbandoned (client m d) w i) 13 0)
+
+abandoned-number : (m : Mem) (d : ℕ) (w : Work) → number (abandonedOf m d w .out) ≡ abandonedAt m d w (steps (client m d))
+unfolding abandonedOf abandonedWrite isUnsoundAbandoned isFullAbandoned number
 abandoned-number m d (asking x) = refl
-abandoned-number m d (writing w) = rw (← back-none w (steps (client m d)) (storeIn narrow (m .nodes))) (release-number m d _)
-
--- a code of an abandoning, and what comes behind it
-abandoning : (short unsound gone bad idle committed node : Bool) (n at code : ℕ) → n ≡ cond node 3 0
-    → at ≡ cond unsound 3 (cond gone 4 (cond bad 3 (cond idle 6 0)))
-    → code ≡ cond short 1 (cond (not (eqb at 0)) at (cond committed 7 0))
-    → cond (eqb code 0) n code
-    ≡ cond short 1 (cond unsound 3 (cond gone 4 (cond (not gone && bad) 3 (cond (not gone && idle) 6
-    (cond ((not gone && not idle) && committed) 7 (cond ((not gone && not idle) && (not committed && node)) 3 0))))))
-abandoning true unsound gone bad idle committed node n at code e f g = rw g
-abandoning false true gone bad idle committed node n at code e f g = rw (g, f)
-abandoning false false true bad idle committed node n at code e f g = rw (g, f)
-abandoning false false false true idle committed node n at code e f g = rw (g, f)
-abandoning false false false false true committed node n at code e f g = rw (g, f)
-abandoning false false false false false true node n at code e f g = rw (g, f)
-abandoning false false false false false false node n at code e f g = rw (g, f) e
+abandoned-number m d (writing w) =
+    let i : ℕ = steps (client m d) in
+    let s : Store = storeIn narrow (m .nodes) in
+    byTest (pastTable w i)
+    (λ e. rw (e, ← retired-none true (labelsLeft w i) s (raises-apart w i), ← end-number (client m d)) (retire-number m d _ _))
+    (λ e. rw (e, ← retired-none false (announcedLabels w i) s (marks-apart w i)) (retire-number m d _ _))
 
 abandon-number : (m : Mem) (d : ℕ) → number (abandonResult m d .out) ≡ cond (eqb (abandonCode m d) 0) (number (abandoned m d .out)) (abandonCode m d)
 unfolding abandonResult unless number
 abandon-number m d = byTest (eqb (abandonCode m d) 0) (λ e. rw e) (λ e. rw e)
 
-abandon-first : (m : Mem) (d : ℕ) → number (abandonResult m d .out) ≡ firstOf (abandonRows m d ++ [])
-unfolding abandonCode atClient abandoned abandonRows firstOf
+-- as a step, but that none gives 12
+abandon-first : (m : Mem) (d : ℕ) → number (abandonResult m d .out) ≡ firstOf (abandonRows m d ++ abandonEndRows m d)
+unfolding abandonCode atClient abandoned abandonRows abandonEndRows firstOf
 abandon-first m d =
+    let w : Work = workAt (shape m) (client m d) in
+    let i : ℕ = steps (client m d) in
     abandon-number m d
-    ∙ abandoning (isShort narrow (shape m) m) (isUnsound m) (noClient d) (isBad narrow (shape m) (client m d)) (isIdle narrow (client m d))
-    (isCommitted (shape m) (client m d)) _ _ (atClient m d) (abandonCode m d) (abandoned-number m d (workAt (shape m) (client m d))) refl refl
+    ∙ stepping (isShort narrow (shape m) m) (isUnsound m) (noClient d) (isBad narrow (shape m) (client m d)) (isIdle narrow (client m d))
+    (isUnsoundAbandoned m w i) false (isFullAbandoned (client m d) w i) (number (abandoned m d .out)) (λ u. abandoned-number m d w)
+    ∙ rw (and-false (isBusy m d)) refl
 
-abandon-rising : (m : Mem) (d : ℕ) → Rising (abandonRows m d ++ [])
-unfolding abandonRows numbersFrom
+abandon-rising : (m : Mem) (d : ℕ) → Rising (abandonRows m d ++ abandonEndRows m d)
+unfolding abandonRows abandonEndRows numbersFrom
 abandon-rising m d =
     rise (λ e. from _ _ refl)
     (rise (λ e. from _ _ refl)
     -- 4, and 3 of the desk and of a node
-    (rise (λ e. more (λ a. not-there (noClient d) _ e a)
-    (over _ _ _ refl (over _ _ _ refl (more (λ a. not-there (noClient d) _ e (and-left _ _ a)) end))))
+    (rise (λ e. more (λ a. not-there (noClient d) _ e a) (over _ _ _ refl (more (λ a. not-there (noClient d) _ e (and-left _ _ a)) (from _ _ refl))))
     (rise (λ e. from _ _ refl)
     -- 6, and 3 of a node
-    (rise (λ e. over _ _ _ refl (more (λ a. not-busy (noClient d) (isIdle narrow (client m d)) _ (and-right (isThere d) _ e) a) end))
-    -- 7, and 3 of a node
-    (rise (λ e. more (λ a. not-there (isCommitted (shape m) (client m d)) _ (and-right (isBusy m d) _ e) (and-right (isBusy m d) _ a)) end)
+    (rise (λ e. more (λ a. not-busy (noClient d) (isIdle narrow (client m d)) _ (and-right (isThere d) _ e) a) (from _ _ refl))
+    (rise (λ e. from _ _ refl)
     (rise (λ e. from _ _ refl) done))))))
 
-pub abandon-gives : (m : Mem) (d : ℕ) → Gives (abandonRows m d) [] (number (abandonResult m d .out))
+abandon-accepted : (m : Mem) (d : ℕ) → isAccepted (firstOf (abandonEndRows m d)) ≡ true
+unfolding abandonEndRows firstOf
+abandon-accepted m d = ends-accepted false (isBusy m d && isFullAbandoned (client m d) (workAt (shape m) (client m d)) (steps (client m d)))
+
+pub abandon-gives : (m : Mem) (d : ℕ) → Gives (abandonRows m d) (abandonEndRows m d) (number (abandonResult m d .out))
 unfolding abandonRows refusing isAccepted
-abandon-gives m d = gives (abandonRows m d) [] _ (abandon-first m d) refl none-zero
+abandon-gives m d = gives (abandonRows m d) (abandonEndRows m d) _ (abandon-first m d) refl (abandon-accepted m d)
 
 -- ---- All calls
 pub call-gives : (m : Mem) (c : Call) → Gives (rowsOf m c) (endsOf m c) (number (callResult m c .out))
@@ -442,28 +446,42 @@ call-gives m (evictAnswer i) = evict-answer-gives m i
 call-gives m (evictNode i) = evict-node-gives m i
 call-gives m renew = renew-gives m
 
+call-first : (m : Mem) (c : Call) → number (callResult m c .out) ≡ firstOf (rowsOf m c ++ endsOf m c)
+call-first m c = call-gives m c .first
+
+call-rising : (m : Mem) (c : Call) → Rising (rowsOf m c ++ endsOf m c)
+unfolding rowsOf endsOf
+call-rising m (begin d r) = begin-rising m d r
+call-rising m (step d tray) = step-rising m tray d
+call-rising m (abandon d) = abandon-rising m d
+call-rising m (evictAnswer i) = evict-answer-rising m i
+call-rising m (evictNode i) = evict-node-rising m i
+call-rising m renew = renew-rising m
+
 pub call-smallest : (m : Mem) (c : Call) → Smallest (rowsOf m c ++ endsOf m c) (number (callResult m c .out))
-unfolding rowsOf endsOf callResult untrayed
-call-smallest m (begin d r) = smallest _ _ (begin-first m d r) (begin-rising m d r)
-call-smallest m (step d tray) = smallest _ _ (step-first m tray d) (step-rising m tray d)
-call-smallest m (abandon d) = smallest _ _ (abandon-first m d) (abandon-rising m d)
-call-smallest m (evictAnswer i) = smallest _ _ (evict-answer-first m i) (evict-answer-rising m i)
-call-smallest m (evictNode i) = smallest _ _ (evict-node-first m i) (evict-node-rising m i)
-call-smallest m renew = smallest _ _ (renew-first m) (renew-rising m)
+call-smallest m c = smallest _ _ (call-first m c) (call-rising m c)
 
--- ---- 14 is a begin's
--- no row of a list is 14's
-others : List Row → Bool
-others [] = true
-others (r ∷ rs) = not (eqb (r .number) refusedReversed) && others rs
+-- ---- 14 is a begin's, and 7 no call's
+-- no row of a list has the number n
+others : ℕ → List Row → Bool
+others n [] = true
+others n (r ∷ rs) = not (eqb (r .number) n) && others n rs
 
-first-other : (rs : List Row) (n : ℕ) → n ≡ firstOf rs → others rs ≡ true → n ≡ refusedReversed → ⊥
+first-other : (k : ℕ) (rs : List Row) (n : ℕ) → (k ≡ 0 → ⊥) → n ≡ firstOf rs → others k rs ≡ true → n ≡ k → ⊥
 unfolding firstOf others
-first-other [] n e h k = omega arith
-first-other (r ∷ rs) n e h k =
+first-other k [] n z e h i = z (sym i ∙ e)
+first-other k (r ∷ rs) n z e h i =
     byTest (r .applies)
-    (λ t. eqb-false (r .number) refusedReversed (not-true _ (and-left (not (eqb (r .number) refusedReversed)) _ h)) (sym (rw t at e) ∙ k))
-    (λ t. first-other rs n (rw t at e) (and-right (not (eqb (r .number) refusedReversed)) _ h) k)
+    (λ t. eqb-false (r .number) k (not-true _ (and-left (not (eqb (r .number) k)) _ h)) (sym (rw t at e) ∙ i))
+    (λ t. first-other k rs n z (rw t at e) (and-right (not (eqb (r .number) k)) _ h) i)
+
+-- a number that no row of an opening has, and none of a call but a begin's
+module _ (k : ℕ) (z : k ≡ 0 → ⊥) where
+  open-other : (m : Mem) (c : ℕ) → others k (openRows m c) ≡ true → number (openResult m c .out) ≡ k → ⊥
+  open-other m c = first-other k (openRows m c) _ z (open-first m c)
+
+  call-other : (m : Mem) (c : Call) → others k (rowsOf m c ++ endsOf m c) ≡ true → number (callResult m c .out) ≡ k → ⊥
+  call-other m c = first-other k (rowsOf m c ++ endsOf m c) _ z (call-first m c)
 
 -- what turns a request down with 14 for itself
 reversed : (query range reversed : Bool) → faulted query range reversed ≡ refusedReversed → reversed ≡ true
@@ -485,21 +503,34 @@ begin-reversed m d r e =
     (begin-code (λ n. n ≡ refusedReversed → faultOf (shape m) r ≡ refusedReversed) (λ n l k. absurd (omega arith)) m d r (λ k. k)
     (sym (unless-number (beginCode m d r) m _ refl) ∙ e))
 
-open-other : (m : Mem) (k : ℕ) → number (openResult m k .out) ≡ refusedReversed → ⊥
-unfolding openRows others
-open-other m k = first-other (openRows m k) _ (open-first m k) refl
-
 call-reversed : (m : Mem) (c : Call) → number (callResult m c .out) ≡ refusedReversed → IsReversedBegin c
-unfolding callResult untrayed stepRows endRows abandonRows evictAnswerRows evictNodeRows renewRows others
-call-reversed m (begin d r) = begin-reversed m d r
-call-reversed m (step d tray) = first-other _ _ (step-first m tray d) refl
-call-reversed m (abandon d) = first-other _ _ (abandon-first m d) refl
-call-reversed m (evictAnswer i) = first-other _ _ (evict-answer-first m i) refl
-call-reversed m (evictNode i) = first-other _ _ (evict-node-first m i) refl
-call-reversed m renew = first-other _ _ (renew-first m) refl
+unfolding rowsOf endsOf stepRows endRows abandonRows abandonEndRows evictAnswerRows evictNodeRows renewRows others
+call-reversed m (begin d r) = λ e. begin-reversed m d r (unfold callResult in unfold untrayed in e)
+call-reversed m (step d tray) = call-other refusedReversed (λ e. omega arith) m (step d tray) refl
+call-reversed m (abandon d) = call-other refusedReversed (λ e. omega arith) m (abandon d) refl
+call-reversed m (evictAnswer i) = call-other refusedReversed (λ e. omega arith) m (evictAnswer i) refl
+call-reversed m (evictNode i) = call-other refusedReversed (λ e. omega arith) m (evictNode i) refl
+call-reversed m renew = call-other refusedReversed (λ e. omega arith) m renew refl
 
 pub only-reversed : OnlyReversed
-only-reversed = record { opening = open-other; calls = call-reversed }
+unfolding openRows others
+only-reversed = record { opening = λ m k. open-other refusedReversed (λ e. omega arith) m k refl; calls = call-reversed }
+
+call-never : (m : Mem) (c : Call) → others notGiven (rowsOf m c ++ endsOf m c) ≡ true
+unfolding rowsOf endsOf beginRows stepRows endRows abandonRows abandonEndRows evictAnswerRows evictNodeRows renewRows others
+call-never m (begin d r) = refl
+call-never m (step d tray) = refl
+call-never m (abandon d) = refl
+call-never m (evictAnswer i) = refl
+call-never m (evictNode i) = refl
+call-never m renew = refl
+
+pub given-no-longer : GivenNoLonger
+unfolding openRows others
+given-no-longer = record {
+  opening = λ m k. open-other notGiven (λ e. omega arith) m k refl;
+  calls = λ m c. call-other notGiven (λ e. omega arith) m c (call-never m c);
+}
 
 pub refusal-rows : RefusalRows
 refusal-rows = record { opening = open-gives; calls = call-gives }

@@ -17,7 +17,7 @@ use Rattle.rules.specs.Work.{Write, Value, mayAnswer, shares, Ask, Work, workOf
 use Rattle.rules.specs.Table.{listOf, effect}
 use Rattle.rules.proofs.Sharing.{effect-list}
 use Rattle.machine.specs.Machine.{Call, begin, step, abandon, evict-answer, evict-node, renew, State, announcing, Response, refused, went, answered, Phase}
-use Rattle.machine.specs.Machine.{long, ended, full, write-end, isEnd, idle, looking, tabling, filing, raising}
+use Rattle.machine.specs.Machine.{long, ended, full, write-end, idle, looking, tabling, filing, raising}
 use Rattle.machine.specs.Transition.{Transition}
 use Rattle.machine.proofs.Trace.{Trace}
 use Rattle.machine.proofs.TraceInv.{TraceInv}
@@ -26,7 +26,7 @@ use Rattle.refinement.proofs.Abstraction.{stateOf, callOf, said}
 use Rattle.rules.proofs.WorkLaws.{shares-is}
 use Rattle.query.specs.declared.Range.{Range}
 use Rattle.query.specs.Shape.{Shape}
-use Rattle.machine.proofs.Frames.{same-table, written, ResponseFrom, by-refusal, by-going-on, from-file, from-table, from-hand, by-length, by-last-raise, transition-frame, phaseWork}
+use Rattle.machine.proofs.Frames.{same-table, written, ResponseFrom, by-refusal, by-going-on, from-file, from-table, from-hand, by-length, by-last-raise, by-all-raises, transition-frame, phaseWork}
 use Rattle.demands.specs.WholeHistory.{History, memAt, callAt, shapeAt, resultAt}
 use Rattle.demands.specs.Demand2.{isQuiet}
 use Rattle.demands.specs.Corollaries.{tableAt, Answers}
@@ -121,6 +121,7 @@ short-from s B u (from-table {q = q} e k) = λ z. few q _ k (sym (ap wants e) �
 short-from s B u (from-hand {d} {q} {ns} {v} e) = λ z. few q v (u .was q ns v _ (TraceInv.at-hand d e refl) .few) (sym (ap wants e) ∙ z)
 short-from s B u by-length = tt
 short-from s B u (by-last-raise {d} c f) = end-short (wants (s .clients d)) c f
+short-from s B u (by-all-raises c f) = end-short false c f
 
 -- what the phase wants is what the work does
 phase-wants : (y : Phase) (q : Ask) → phaseWork y ≡ some (asking q) → wants y ≡ q .counts
@@ -153,8 +154,16 @@ isStep (evict-answer i) = false
 isStep (evict-node i) = false
 isStep renew = false
 
-step-from : (s : State) {c : Call} {a : Response} → ResponseFrom s c a → isEnd a ≡ true → isStep c ≡ true
-unfolding isEnd
+abbrev isAnswer : Response → Bool
+isAnswer (refused n) = false
+isAnswer went = false
+isAnswer (answered v f) = true
+isAnswer long = false
+isAnswer (ended c) = false
+isAnswer full = false
+
+step-from : (s : State) {c : Call} {a : Response} → ResponseFrom s c a → isAnswer a ≡ true → isStep c ≡ true
+unfolding write-end
 step-from s (by-refusal e) k = absurd (false≢true k)
 step-from s by-going-on k = absurd (false≢true k)
 step-from s (from-file b e i m) k = refl
@@ -162,6 +171,8 @@ step-from s (from-table e f) k = refl
 step-from s (from-hand e) k = refl
 step-from s by-length k = refl
 step-from s (by-last-raise c f) k = refl
+step-from s (by-all-raises c true) k = absurd (false≢true k)
+step-from s (by-all-raises c false) k = absurd (false≢true k)
 
 step-passed : (sh : Shape) (c : rules.Call) → isStep (callOf sh c) ≡ true → (d : ℕ) × (tray : List ℕ) × (c ≡ rules.step d tray)
 unfolding callOf
@@ -174,6 +185,5 @@ step-passed sh rules.renew k = absurd (false≢true k)
 
 pub answer-steps : (h : History) (n : ℕ) (v : Value) (f : Bool) → n < length (h .calls) → responseAt h n ≡ answered v f
     → (d : ℕ) × (tray : List ℕ) × (callAt h n ≡ rules.step d tray)
-unfolding isEnd
 answer-steps h n v f l e =
-    step-passed (shapeAt h) (callAt h n) (step-from (stateOf (memAt h n)) (transition-frame (stateOf (memAt h n)) (transition-at h n l) .response) (ap isEnd e))
+    step-passed (shapeAt h) (callAt h n) (step-from (stateOf (memAt h n)) (transition-frame (stateOf (memAt h n)) (transition-at h n l) .response) (ap isAnswer e))

@@ -45,7 +45,7 @@ use Rattle.refinement.proofs.ClientPhases.{idle-at, busy-phase, fits-at}
 use Rattle.refinement.proofs.MemoryReads.{store-with, length-nodes}
 use Rattle.refinement.proofs.PhaseSteps.{noted-count}
 use Rattle.refinement.proofs.StepFrame.{busy-at, client-at}
-use Rattle.demands.specs.WholeHistory.{History, shapeAt, memAt, callAt, resultAt, acceptedAt, isStepAt, stepsIn, StepOf}
+use Rattle.demands.specs.WholeHistory.{History, shapeAt, memAt, callAt, resultAt, acceptedAt, isStepAt, UnderWay, stepsIn, StepOf, AbandonOf}
 use Rattle.demands.specs.Demand2Whole.{ReadsTell}
 use Rattle.demands.proofs.HistoryRuns.{responseAt, logTo, sound, transition-at}
 use Rattle.demands.proofs.LogPlaces.{accepted-at, steps-log, under-places, stepped-at}
@@ -281,14 +281,23 @@ nth h d b (suc n) i l =
     nth-later h d b n i (nth h d b n i (omega arith))))
     (λ t. let m : i < 0 + stepsIn h d b n = rw t at l in nth-later h d b n i (nth h d b n i (omega arith)))
 
-pub step-before : (h : History) (r : Request) (d b n i k : ℕ) → StepOf h r d b n i → k < i → (j : ℕ) × (j < n) × StepOf h r d b j k
-step-before h r d b n i k s l =
-    let e = s .made in
-    let x = nth h d b n k (omega arith) in
+-- of what is under way when call n comes
+abbrev pub Under : History → Request → ℕ → ℕ → ℕ → Type 0
+Under h r d b n = (n ≤ length (h .calls)) × UnderWay h r d b n
+
+pub under-step : {h : History} {r : Request} {d b n i : ℕ} → StepOf h r d b n i → Under h r d b n
+under-step s = let l = s .within in (omega arith, s .runs)
+
+pub under-abandon : {h : History} {r : Request} {d b n i : ℕ} → AbandonOf h r d b n i → Under h r d b n
+under-abandon s = let l = s .within in (omega arith, s .runs)
+
+pub step-made : (h : History) (r : Request) (d b n k : ℕ) → Under h r d b n → k < stepsIn h d b n → (j : ℕ) × (j < n) × StepOf h r d b j k
+step-made h r d b n k y l =
+    let x = nth h d b n k l in
     let t = step-tray d (callAt h (x .at)) (x .calls) in
     let low = x .before in
-    let w = s .within in
-    let u = s .runs in (
+    let w = y .0 in
+    let u = y .1 in (
       x .at,
       low,
       record {
@@ -300,6 +309,9 @@ step-before h r d b n i k s l =
         made = x .made;
       },
     )
+
+pub step-before : (h : History) (r : Request) (d b n i k : ℕ) → StepOf h r d b n i → k < i → (j : ℕ) × (j < n) × StepOf h r d b j k
+step-before h r d b n i k s l = let e = s .made in step-made h r d b n k (under-step s) (omega arith)
 
 -- ---- Memories after a step
 pub no-twice : (h : History) (n : ℕ) → n ≤ length (h .calls) → NoDup (storeIn narrow (memAt h n .nodes) .nodes)

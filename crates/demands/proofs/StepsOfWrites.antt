@@ -18,7 +18,7 @@ use Rattle.query.specs.Shape.{Shape, narrow}
 use Rattle.query.proofs.Agreement.{write-node-edge, write-edge-node}
 use Rattle.rules.specs.Layout.{maxNodes}
 use Rattle.rules.specs.Table.{Table, Change, insert, delete, target, has, effect, isFull, noRoom}
-use Rattle.rules.specs.Nodes.{Store, isPresent, nodeOf, revision, pending, announced, retired}
+use Rattle.rules.specs.Nodes.{Words, Store, isPresent, nodeOf, revision, pending, announced, retired}
 use Rattle.rules.specs.Client.{steps, idle, stepped, wrote}
 use Rattle.rules.specs.Memory.{Mem, recordsIn, storeIn}
 use Rattle.rules.specs.Outcome.{StepResult}
@@ -41,26 +41,31 @@ use Rattle.refinement.proofs.Abstraction.{stateOf, callOf, Fits}
 use Rattle.refinement.proofs.MemoryReads.{length-records, records-held, rows-held, records-with}
 use Rattle.demands.specs.WholeHistory.{History, shapeAt, memAt, callAt, resultAt, acceptedAt, StepOf}
 use Rattle.demands.specs.Corollaries.{tableAt, Begins, inserting, deleting}
-use Rattle.demands.specs.Demand2Whole.{nodesAt, Inserts, Deletes, WritesTable, OnlyWrites, Marks, MarksSet, Raises, RaisesMade, MarkedNodes, RaisedNodes}
+use Rattle.demands.specs.Demand2Whole.{nodesAt, revisionAt, Inserts, Deletes, WritesTable, OnlyWrites, Marks, MarksSet, Raises, RaisesMade, MarkedNodes, RaisedNodes}
 use Rattle.demands.proofs.HistoryRuns.{responseAt, logTo, sound, next-mem, transition-at}
 use Rattle.demands.proofs.LogPlaces.{accepted-at, Begun, under-places}
 use Rattle.demands.proofs.Works.{Since}
 use Rattle.demands.proofs.Demand3Holds.{table-is}
 use Rattle.demands.proofs.WriteEffects.{of, write-begins}
-use Rattle.demands.proofs.NodeChanges.{marked, marked-new, raised}
-use Rattle.demands.proofs.StepsMade.{standing, write-at, step-before, no-twice, not-refused, nodes-after, few-nodes, nodes-count, madeIn, made-since}
+use Rattle.demands.proofs.NodeChanges.{marked, marked-new, TakenOff, taken-off}
+use Rattle.machine.proofs.PendingLabels.{one-self}
+use Rattle.revisions.specs.EffectiveRevision.{tally, lifts}
+use Rattle.demands.proofs.StepsMade.{Under, under-step, keeps-since, write-at, step-before, no-twice, not-refused, nodes-after, few-nodes, nodes-count, madeIn, made-since}
 use Rattle.rules.specs.History as rules
 use Rattle.machine.specs.Machine as machine
 use Rattle.machine.specs.Transition
 
 -- ---- The writer, and how many nodes it has
-writer : (h : History) (r : Request) (w : Change) → Begins r w → (d b n i : ℕ) → StepOf h r d b n i
-    → Busy narrow (shape (memAt h n)) (client (memAt h n) d) (writing (of h w))
-writer h r w B d b n i s = subst (λ x. Busy narrow (shape (memAt h n)) (client (memAt h n) d) x) (write-begins h r w B) (standing h r d b n i s .busy)
+pub since-under : (h : History) (r : Request) (w : Change) → Begins r w → (d b n : ℕ) → Under h r d b n → Since h (writing (of h w)) d b n
+since-under h r w B d b n u = record { request = r; is = write-begins h r w B; within = u .0; runs = u .1 }
 
-pub count : (h : History) (r : Request) (w : Change) → Begins r w → (d b n i : ℕ) → StepOf h r d b n i
+writer : (h : History) (r : Request) (w : Change) → Begins r w → (d b n : ℕ) → Under h r d b n
+    → Busy narrow (shape (memAt h n)) (client (memAt h n) d) (writing (of h w))
+writer h r w B d b n u = keeps-since h (writing (of h w)) d b n _ (since-under h r w B d b n u) refl .busy
+
+pub count : (h : History) (r : Request) (w : Change) → Begins r w → (d b n : ℕ) → Under h r d b n
     → (length (writeLabels (of h w)) ≡ 2 ^ shapeAt h .columns) × (length (target w) ≡ shapeAt h .columns)
-count h r w B d b n i s = let l = s .within in nodes-count h (of h w) d n (omega arith) (writer h r w B d b n i s)
+count h r w B d b n u = nodes-count h (of h w) d n (u .0) (writer h r w B d b n u)
 
 -- ---- The table step
 table-of : (m : Mem) (tray : List ℕ) (d : ℕ) (w : Write) (i : ℕ) → i ≡ length (writeLabels w) → writeResult m tray d w i ≡ writeTableResult m tray d (w .change)
@@ -84,7 +89,7 @@ takes-effect h r w B d b n s =
     let m = memAt h n in
     let S = sound h n (omega arith) in
     let k : columns m ≡ h .k = ap (λ (sh : Shape). sh .columns) (S .shape) in
-    let c = count h r w B d b n _ s in
+    let c = count h r w B d b n (under-step s) in
     let N = c .0 in
     let R = write-at h r (of h w) d b n _ (write-begins h r w B) s ∙ table-of m (s .tray) d (of h w) (2 ^ shapeAt h .columns) (omega arith) in
     let z = written-table m (s .tray) d w (S .fits) (c .1 ∙ sym k) in
@@ -146,23 +151,22 @@ mark-case h p d n tray none low five a e R = not-refused h n (memAt h n) tray a 
 mark-case h p d n tray (some t) low five a e R = mark-some h p d n tray t low five e (unfold announceResult in R)
 
 -- the label of a write's node, as its numbers
-node-words : (h : History) (r : Request) (w : Change) → Begins r w → (d b n i j : ℕ) → StepOf h r d b n i → j < 2 ^ shapeAt h .columns
+pub node-words : (h : History) (r : Request) (w : Change) → Begins r w → (d b n j : ℕ) → Under h r d b n → j < 2 ^ shapeAt h .columns
     → (getD (writeLabels (of h w)) j [] ≡ labelWords (writeNode (target w) j)) × (length (labelWords (writeNode (target w) j)) ≡ labelWidth)
-node-words h r w B d b n i j s l =
-    let N = count h r w B d b n i s in
+node-words h r w B d b n j u l =
+    let N = count h r w B d b n u in
     let c = N .0 in
     let k = N .1 in
-    let b4 = writer h r w B d b n i s .most in
-    let low = s .within in
-    let e : columns (memAt h n) ≡ shapeAt h .columns = ap (λ (sh : Shape). sh .columns) (sound h n (omega arith) .shape) in
+    let b4 = writer h r w B d b n u .most in
+    let e : columns (memAt h n) ≡ shapeAt h .columns = ap (λ (sh : Shape). sh .columns) (sound h n (u .0) .shape) in
     let is = write-label-at (of h w) j (omega arith) in
     (is, ap length (sym is) ∙ write-label-wide (of h w) j (omega arith) (omega arith))
 
 pub marks-set : (h : History) → MarksSet h
 marks-set h r w B d b n i l s =
     let m = memAt h n in
-    let c = count h r w B d b n i s .0 in
-    let k = node-words h r w B d b n i i s l in
+    let c = count h r w B d b n (under-step s) .0 in
+    let k = node-words h r w B d b n i (under-step s) l in
     let p = writeNode (target w) i in
     mark-case h p d n (s .tray) (announced narrow (labelWords p) (nodesAt h n)) (s .within) (k .1) (s .accepted) refl
     (write-at h r (of h w) d b n i (write-begins h r w B) s ∙ mark-of m (s .tray) d (of h w) i (omega arith)
@@ -183,52 +187,65 @@ unfolding raiseResult
 raised-nodes m tray d true t f r l = nodes-after m t d (idle narrow) f r l
 raised-nodes m tray d false t f r l = nodes-after m t d (stepped (client m d)) f r l
 
-raise-case : (h : History) (p : Label) (d n : ℕ) (tray : List ℕ) (isLast : Bool) (o : Option Store) → n < length (h .calls) → acceptedAt h n ≡ true
-    → retired narrow true (labelWords p ∷ []) (nodesAt h n) ≡ o → resultAt h n ≡ raiseResult (memAt h n) tray d isLast o → Raises h p n
-raise-case h p d n tray isLast none low a e R = not-refused h n (memAt h n) tray a (unfold raiseResult in R)
-raise-case h p d n tray isLast (some t) low a e R =
+-- call n, which takes marks off the nodes of these labels and leaves x with the nodes t, takes one off each that stands there once
+abbrev pub Off : History → ℕ → Bool → List Words → Label → Type 0
+Off h n lift ps p = TakenOff (lifts lift ps (labelWords p)) (labelWords p) (nodesAt h n) (nodesAt h (suc n))
+
+pub off-in : (h : History) (p : Label) (n : ℕ) (lift : Bool) (ps : List Words) (t : Store) (x : StepResult) → n < length (h .calls) → tally (labelWords p) ps ≡ 1
+    → retired narrow lift ps (nodesAt h n) ≡ some t → resultAt h n ≡ x
+    → (Fits (memAt h n) → AllRows (t .nodes) → length (t .nodes) ≤ maxNodes → storeIn narrow (x .mem .nodes) ≡ t) → Off h n lift ps p
+off-in h p n lift ps t x low one e R back =
     let m = memAt h n in
     let S = sound h n (omega arith) in
     let w = labelWords p in
-    let A : RetiredTo true (w ∷ []) (nodesAt h n) t =
-    subst (λ o. RetiredOk true (w ∷ []) (nodesAt h n) o) e (retired-ok true (w ∷ []) (nodesAt h n) (no-twice h n (omega arith)) (rows-held m (S .fits))) in
-    let L = raised w (nodesAt h n) t (A .0) in
+    let A : RetiredTo lift ps (nodesAt h n) t =
+    subst (λ o. RetiredOk lift ps (nodesAt h n) o) e (retired-ok lift ps (nodesAt h n) (no-twice h n (omega arith)) (rows-held m (S .fits))) in
     let few = few-nodes m (S .fits) in
     let size = A .2 in
     let st : nodesAt h (suc n) ≡ t =
-    ap (λ (k : Mem). storeIn narrow (k .nodes)) (next-mem h n low ∙ ap (λ (k : StepResult). k .mem) R) ∙ raised-nodes m tray d isLast t (S .fits) (A .1) (omega arith) in
-    record {
-      was = L .was;
-      there = ap (isPresent w) st ∙ L .there;
-      raised = ap (λ (k : Store). revision narrow (nodeOf w k)) st ∙ L .raised;
-      taken = ap (λ (k : Store). pending (nodeOf w k) + 1) st ∙ L .taken;
-    }
+    ap (λ (k : Mem). storeIn narrow (k .nodes)) (next-mem h n low ∙ ap (λ (k : StepResult). k .mem) R) ∙ back (S .fits) (A .1) (omega arith) in
+    subst (λ y. TakenOff (lifts lift ps w) w (nodesAt h n) y) (sym st) (taken-off lift w ps (nodesAt h n) t one (A .0))
+
+-- with a lift it is raised
+pub raises-of : (h : History) (n : ℕ) (ps : List Words) (p : Label) → tally (labelWords p) ps ≡ 1 → Off h n true ps p → Raises h p n
+unfolding lifts
+raises-of h n ps p one o = record { was = o .was; there = o .there; raised = o .raised ∙ ap (λ i. revisionAt h n p + i) one; taken = o .taken }
+
+raise-case : (h : History) (p : Label) (d n : ℕ) (tray : List ℕ) (isLast : Bool) (o : Option Store) → n < length (h .calls) → acceptedAt h n ≡ true
+    → retired narrow true (labelWords p ∷ []) (nodesAt h n) ≡ o → resultAt h n ≡ raiseResult (memAt h n) tray d isLast o → Raises h p n
+unfolding tally
+raise-case h p d n tray isLast none low a e R = not-refused h n (memAt h n) tray a (unfold raiseResult in R)
+raise-case h p d n tray isLast (some t) low a e R =
+    let z = one-self (labelWords p) in
+    let ps : List Words = labelWords p ∷ [] in
+    let y : tally (labelWords p) ps ≡ 1 = omega arith in
+    raises-of h n ps p y (off-in h p n true ps t _ low y e R (raised-nodes (memAt h n) tray d isLast t))
 
 pub raises-made : (h : History) → RaisesMade h
 raises-made h r w B d b n j l s =
     let m = memAt h n in
     let i = 2 ^ shapeAt h .columns + 1 + j in
-    let c = count h r w B d b n i s .0 in
-    let k = node-words h r w B d b n i j s l in
+    let c = count h r w B d b n (under-step s) .0 in
+    let k = node-words h r w B d b n j (under-step s) l in
     let p = writeNode (target w) j in
     raise-case h p d n (s .tray) _ (retired narrow true (labelWords p ∷ []) (nodesAt h n)) (s .within) (s .accepted) refl
     (write-at h r (of h w) d b n i (write-begins h r w B) s ∙ raise-of m (s .tray) d (of h w) i j (omega arith)
     ∙ ap (λ q. raiseResult m (s .tray) d (eqb i (length (writeLabels (of h w)) + length (writeLabels (of h w)))) (retired narrow true (q ∷ []) (nodesAt h n))) (k .0))
 
 -- ---- All of definition 11's nodes, and no others
-node-number : (h : History) (r : Request) (w : Change) → Begins r w → (d b n i : ℕ) → StepOf h r d b n i → (p : Label) → E′ (target w) p
+pub node-number : (h : History) (r : Request) (w : Change) → Begins r w → (d b n : ℕ) → Under h r d b n → (p : Label) → E′ (target w) p
     → (j : ℕ) × (j < 2 ^ shapeAt h .columns) × (writeNode (target w) j ≡ p)
 unfolding writeCount
-node-number h r w B d b n i s p e =
+node-number h r w B d b n u p e =
     let z = write-edge-node (target w) p e in
-    let k : 2 ^ length (target w) ≡ 2 ^ shapeAt h .columns = ap (λ c. 2 ^ c) (count h r w B d b n i s .1) in
+    let k : 2 ^ length (target w) ≡ 2 ^ shapeAt h .columns = ap (λ c. 2 ^ c) (count h r w B d b n u .1) in
     let y : z .0 < 2 ^ length (target w) = unfold writeCount in z .1 in
     (z .0, rw k at y, z .2)
 
 pub marked-nodes : (h : History) → MarkedNodes h
 marked-nodes h r w B d b n i s l p = (
   (λ c. subst (λ k. E′ (target w) k) (c .is) (write-node-edge (target w) (c .number))),
-  (λ e. let z = node-number h r w B d b n i s p e in
+  (λ e. let z = node-number h r w B d b n (under-step s) p e in
       let low = z .1 in
       let y = step-before h r d b n i (0 + z .0) s (omega arith) in
       record { number = z .0; low = low; at = y .0; before = y .1; steps = y .2; is = z .2 }),
@@ -246,7 +263,7 @@ pub raised-all : (h : History) → RaisedNodes h
 raised-all h r w B d b n s p = (
   (λ c. subst (λ k. E′ (target w) k) (c .is) (write-node-edge (target w) (c .number))),
   (λ e. let i = 2 ^ shapeAt h .columns + 2 ^ shapeAt h .columns in
-      let z = node-number h r w B d b n i s p e in
+      let z = node-number h r w B d b n (under-step s) p e in
       let low = z .1 in
       let y = step-upto h r d b n i (2 ^ shapeAt h .columns + 1 + z .0) s (omega arith) in
       record { number = z .0; low = low; at = y .0; before = y .1; steps = y .2; is = z .2 }),
@@ -276,6 +293,7 @@ table-turn s (Transition.raised l e g m) = stays refl
 table-turn s (Transition.last l e g m) = stays refl
 table-turn s (Transition.abandoned-read l e) = stays refl
 table-turn s (Transition.abandoned-write l e m) = stays refl
+table-turn s (Transition.abandoned-raising l e m) = stays refl
 table-turn s (Transition.evicted-answer l) = stays refl
 table-turn s (Transition.evicted-node l g) = stays refl
 table-turn s (Transition.renewed i) = stays refl

@@ -1,7 +1,7 @@
 -- A write takes effect whole, at its table step, and its end is what it gives alone on the table of that call: what the table step found
--- stays with the client until its last raise. Leans on machine's Transition, on StepsMade and StepsOfWrites. Assumes nothing.
+-- stays with the client until its last raise, or until it is abandoned. Leans on machine's Transition, on StepsMade and StepsOfWrites. Assumes nothing.
 use mathlib.Core.Path.{_≡_, refl, sym, ap, _∙_, subst}
-use mathlib.Core.Bool.{Bool, true, false, not, cond, true≢false, false≢true}
+use mathlib.Core.Bool.{Bool, true, false, cond, true≢false, false≢true}
 use mathlib.Core.List.{List}
 use mathlib.Core.Option.{some}
 use Prim.Native.Nat.{ℕ, zero, suc, _+_, _^_, _≤_, _<_}
@@ -9,30 +9,35 @@ use native.Mathlib.Omega.{arith}
 use lib.Dec.{eqb}
 use borrow.Author.Tests.{eqb-true, eqb-false, not-true}
 use lib.ListN.{length}
+use mathlib.Core.Logic.{_⊎_, inl, inr}
+use Rattle.laws.proofs.ListLaws.{and-left}
 use Rattle.laws.proofs.TestLaws.{byTest, clash}
 use Rattle.rules.specs.declared.Outcome.{Outcome}
 use Rattle.rules.specs.declared.Outcome.the-variants.{Ended, Full}
 use Rattle.rules.specs.Table.{Table, Change, effect, changes, noRoom}
 use Rattle.rules.specs.Work.{Ask, Write, writeLabels, Work, asking, writing, Request}
 use Rattle.rules.specs.Refusals.{shape}
+use Rattle.rules.specs.History.{Call}
+use Rattle.query.specs.Shape.{Shape}
 use Rattle.machine.specs.Machine.{State, Phase, idle, looking, tabling, filing, announcing, raising, step, Response, write-end, isRefused, isEnd, ends, upd}
 use Rattle.machine.specs.Machine.{at-client, with-store, with-filed, with-tab}
 use Rattle.machine.specs.Transition.{Transition}
 use Rattle.machine.proofs.Sums.{upd-same, upd-other}
-use Rattle.machine.proofs.Frames.{phaseWork, ClientsLeft, same-clients, begun, gone-on, ended-at, transition-frame}
+use Rattle.machine.proofs.Frames.{phaseWork, ClientsLeft, same-clients, begun, gone-on, ended-at, end-is-end, transition-frame}
 use Rattle.refinement.proofs.Abstraction.{stateOf, callOf, responseIn}
-use Rattle.demands.specs.WholeHistory.{History, shapeAt, memAt, plainAt, callAt, resultAt, acceptedAt, stepsIn, StepOf}
+use Rattle.demands.specs.WholeHistory.{History, shapeAt, memAt, plainAt, callAt, resultAt, endsAt, StepOf}
 use Rattle.demands.specs.Corollaries.{tableAt, Begins, Ends, WritesTake}
 use Rattle.demands.proofs.HistoryRuns.{responseAt, transition-at}
 use Rattle.demands.proofs.LogPlaces.{accepted-at}
 use Rattle.demands.proofs.Demand3Holds.{tables, table-is}
 use Rattle.demands.proofs.Filings.{step-call}
 use Rattle.demands.proofs.Works.{Since, work-since, goes-on}
-use Rattle.demands.proofs.WriteEffects.{of, write-begins, since-write, result-end, end-taken, end-ends, end-given}
-use Rattle.demands.proofs.StepsMade.{madeIn, made-since, step-before}
-use Rattle.demands.proofs.StepsOfWrites.{takes-effect, count}
+use Rattle.demands.proofs.WriteEffects.{of, since-write, result-end, end-ends, end-given}
+use Rattle.demands.proofs.StepsMade.{madeIn, made-since, Under, under-step, step-made}
+use Rattle.demands.proofs.StepsOfWrites.{takes-effect, since-under, count}
 use Rattle.machine.specs.Transition
 use Rattle.machine.specs.Machine as machine
+use Rattle.rules.specs.History as rules
 
 -- ---- What a raising client keeps
 -- it raises, and found the table changed, and full
@@ -43,11 +48,6 @@ Tells c f (tabling q ns saw) = ⊥
 Tells c f (filing q ns l) = ⊥
 Tells c f (announcing w i) = ⊥
 Tells c f (raising w j c′ f′) = (c′ ≡ c) × (f′ ≡ f)
-
-last-ends : (c f : Bool) → isEnd (write-end c f) ≡ true
-unfolding isEnd write-end
-last-ends c true = refl
-last-ends c false = refl
 
 -- a step of its own that does not end it
 step-tells : (s : State) (d : ℕ) (c f : Bool) {a : Response} {t : State} → Transition s (step d) a t → Tells c f (s .clients d) → isEnd a ≡ false → Tells c f (t .clients d)
@@ -64,7 +64,7 @@ step-tells s d c f (Transition.announced l e g m) x r = absurd (subst (λ y. Tel
 step-tells s d c f (Transition.wrote l e g) x r = absurd (subst (λ y. Tells c f y) e x)
 step-tells s d c f (Transition.raised {w = w} {j = j} {c = c′} {f = f′} l e g m) x r =
     subst (λ y. Tells c f y) (sym (upd-same (s .clients) d (raising w (suc j) c′ f′))) (subst (λ y. Tells c f y) e x)
-step-tells s d c f (Transition.last {c = c′} {f = f′} l e g m) x r = clash (last-ends c′ f′) (unfold isEnd in r)
+step-tells s d c f (Transition.last {c = c′} {f = f′} l e g m) x r = clash (end-is-end c′ f′) (unfold isEnd in r)
 
 -- any call that does not end it
 call-tells : (s : State) (d : ℕ) (c f : Bool) {k : machine.Call} {a : Response} {t : State} → Transition s k a t → ClientsLeft s k a t
@@ -147,17 +147,29 @@ table-tells s d w (Transition.wrote {w = v} {i} l e g) x r =
 table-tells s d w (Transition.raised l e g m) x r = other _ (sym e ∙ x) refl
 table-tells s d w (Transition.last l e g m) x r = other _ (sym e ∙ x) refl
 
--- ---- The last raise
+-- ---- The end
 reads : {A : Type 0} {q : Ask} {w : Write} → some (asking q) ≡ some (writing w) → A
 reads e = absurd (let z : _≡_ {A = ℕ} 0 1 = cc in omega arith)
 
 same-work : {v w : Write} → some (writing v) ≡ some (writing w) → v ≡ w
 same-work e = cc
 
--- a step that ends a write comes after its table step, and says what its client keeps
-last-tells : (s : State) (d : ℕ) (w : Write) {a : Response} {t : State} → Transition s (step d) a t → phaseWork (s .clients d) ≡ some (writing w) → isEnd a ≡ true
-    → (length (writeLabels w) < madeIn (s .clients d)) × ((c f : Bool) → Tells c f (s .clients d) → a ≡ write-end c f)
-unfolding isEnd phaseWork madeIn Tells
+-- the write at desk d is past its table step, and a is the end that its client keeps
+abbrev EndTells : State → ℕ → Write → Response → Type 0
+EndTells s d w a = (length (writeLabels w) < madeIn (s .clients d)) × ((c f : Bool) → Tells c f (s .clients d) → a ≡ write-end c f)
+
+raising-tells : (s : State) (d : ℕ) (w v : Write) (j : ℕ) (c f : Bool) → s .clients d ≡ raising v j c f → phaseWork (s .clients d) ≡ some (writing w)
+    → EndTells s d w (write-end c f)
+unfolding phaseWork madeIn Tells
+raising-tells s d w v j c f e x =
+    let k = same-work (sym (ap phaseWork e) ∙ x) in
+    let n = ap (λ (y : Write). length (writeLabels y)) k in
+    let made : madeIn (s .clients d) ≡ length (writeLabels v) + 1 + j = ap madeIn e in
+    (omega arith, λ c′ f′ y. let z = subst (λ p. Tells c′ f′ p) e y in ap (λ b. write-end b f) (z .0) ∙ ap (write-end c′) (z .1))
+
+-- a step that ends a write
+last-tells : (s : State) (d : ℕ) (w : Write) {a : Response} {t : State} → Transition s (step d) a t → phaseWork (s .clients d) ≡ some (writing w) → isEnd a ≡ true → EndTells s d w a
+unfolding isEnd phaseWork
 last-tells s d w (Transition.nothing e) x r = absurd (false≢true r)
 last-tells s d w (Transition.looked l e g h p) x r = absurd (false≢true r)
 last-tells s d w (Transition.missed l e g y) x r = absurd (false≢true r)
@@ -169,11 +181,16 @@ last-tells s d w (Transition.filed l e) x r = reads (sym (ap phaseWork e) ∙ x)
 last-tells s d w (Transition.announced l e g m) x r = absurd (false≢true r)
 last-tells s d w (Transition.wrote l e g) x r = absurd (false≢true r)
 last-tells s d w (Transition.raised l e g m) x r = absurd (false≢true r)
-last-tells s d w (Transition.last {w = v} {j = j} {c = c′} {f = f′} l e g m) x r =
-    let k = same-work (sym (ap phaseWork e) ∙ x) in
-    let n = ap (λ (y : Write). length (writeLabels y)) k in
-    let made : madeIn (s .clients d) ≡ length (writeLabels v) + 1 + j = ap madeIn e in
-    (omega arith, λ c f y. let z = subst (λ p. Tells c f p) e y in ap (λ b. write-end b f′) (z .0) ∙ ap (write-end c) (z .1))
+last-tells s d w (Transition.last {w = v} {j} {c} {f} l e g m) x r = raising-tells s d w v j c f e x
+
+-- an abandoning that does
+abandon-tells : (s : State) (d : ℕ) (w : Write) {a : Response} {t : State} → Transition s (machine.abandon d) a t → phaseWork (s .clients d) ≡ some (writing w) → isEnd a ≡ true
+    → EndTells s d w a
+unfolding isEnd
+abandon-tells s d w (Transition.nothing e) x r = absurd (false≢true r)
+abandon-tells s d w (Transition.abandoned-read l e) x r = absurd (false≢true r)
+abandon-tells s d w (Transition.abandoned-write l e m) x r = absurd (false≢true r)
+abandon-tells s d w (Transition.abandoned-raising {w = v} {j} {c} {f} l e m) x r = raising-tells s d w v j c f e x
 
 -- ---- A write of the history
 stepped-at : (h : History) (r : Request) (d b n i : ℕ) (s : StepOf h r d b n i)
@@ -189,33 +206,52 @@ table-told h r w B d b n s =
     let l = s .within in
     let W = of h w in
     let m = stateOf (memAt h n) in
-    let c = count h r w B d b n _ s .0 in
-    let y : Since h (writing W) d b n = record { request = r; is = write-begins h r w B; within = omega arith; runs = s .runs } in
+    let c = count h r w B d b n (under-step s) .0 in
+    let y = since-under h r w B d b n (under-step s) in
     let p = before-table (m .clients d) W (work-since h (writing W) d b n y n (s .runs .earlier) (omega arith)) (made-since h (writing W) d b n y ∙ s .made ∙ sym c) in
     let taken : isRefused (responseAt h n) ≡ false = not-true (isRefused (responseAt h n)) (sym (accepted-at h n l) ∙ s .accepted) in
     subst (λ t. Tells (changes w t) (noRoom w t) (stateOf (memAt h (suc n)) .clients d)) (table-is h n (omega arith) ∙ tables h n (omega arith))
     (table-tells m d W (stepped-at h r d b n _ s) p taken)
 
--- its last step
-last-step : (h : History) (d : ℕ) (w : Change) (b e : ℕ) (o : Outcome) (x : Ends h d w b e o) → StepOf h (x .request) d b e (stepsIn h d b e)
-last-step h d w b e o x =
-    let k = ap isRefused (result-end h e o (x .says)) ∙ end-taken (shape (memAt h e)) _ (resultAt h e .tray) o (x .ends) in
-    record { tray = x .tray; within = x .within; calls = x .calls; accepted = accepted-at h e (x .within) ∙ ap not k; runs = x .runs; made = refl }
+-- its end: by a step, or by an abandoning
+ends-by : (d : ℕ) (c : Call) (o : Outcome) → endsAt d c o ≡ true → ((tray : List ℕ) × (c ≡ rules.step d tray)) ⊎ (c ≡ rules.abandon d)
+unfolding endsAt
+ends-by d (rules.begin e r) o k = absurd (false≢true k)
+ends-by d (rules.step e tray) o k = inl (tray, ap (λ i. rules.step i tray) (eqb-true e d (and-left (eqb e d) _ k)))
+ends-by d (rules.abandon e) o k = inr (ap rules.abandon (eqb-true e d (and-left (eqb e d) _ k)))
+ends-by d (rules.evictAnswer i) o k = absurd (false≢true k)
+ends-by d (rules.evictNode i) o k = absurd (false≢true k)
+ends-by d rules.renew o k = absurd (false≢true k)
+
+pub abandon-call : (sh : Shape) (c : Call) (d : ℕ) → c ≡ rules.abandon d → callOf sh c ≡ machine.abandon d
+unfolding callOf
+abandon-call sh c d e = ap (callOf sh) e
+
+end-told : (h : History) (d : ℕ) (w : Change) (b e : ℕ) (o : Outcome) → Ends h d w b e o → EndTells (stateOf (memAt h e)) d (of h w) (responseAt h e)
+end-told h d w b e o x =
+    let l = x .ending .within in
+    let s = stateOf (memAt h e) in
+    let end = ap isEnd (result-end h e o (x .says)) ∙ end-ends (shape (memAt h e)) _ (resultAt h e .tray) o (x .ends) in
+    let y = work-since h (writing (of h w)) d b e (since-write h d w b e o x) e (x .ending .runs .earlier) (omega arith) in
+    let t : (c : machine.Call) → callOf (shapeAt h) (callAt h e) ≡ c → Transition s c (responseAt h e) (stateOf (memAt h (suc e))) =
+    λ c i. subst (λ c. Transition s c (responseAt h e) (stateOf (memAt h (suc e)))) i (transition-at h e l) in
+    elim (ends-by d (callAt h e) (resultAt h e .out) (x .ending .ends)) [
+      | inl k ↦ last-tells s d (of h w) (t (step d) (step-call (shapeAt h) (callAt h e) d (k .0) (k .1))) y end
+      | inr k ↦ abandon-tells s d (of h w) (t (machine.abandon d) (abandon-call (shapeAt h) (callAt h e) d k)) y end
+    ]
 
 pub writes-take : (h : History) → WritesTake h
 writes-take h d w b e o x =
-    let l = x .within in
+    let l = x .ending .within in
     let r = x .request in
     let W = of h w in
-    let s = last-step h d w b e o x in
+    let u : Under h r d b e = (omega arith, x .ending .runs) in
     let y = since-write h d w b e o x in
-    let a = result-end h e o (x .says) in
-    let end = ap isEnd a ∙ end-ends (shape (memAt h e)) _ (resultAt h e .tray) o (x .ends) in
-    let L = last-tells (stateOf (memAt h e)) d W (stepped-at h r d b e _ s) (work-since h (writing W) d b e y e (x .runs .earlier) (omega arith)) end in
-    let c = count h r w (x .is) d b e _ s .0 in
+    let L = end-told h d w b e o x in
+    let c = count h r w (x .is) d b e u .0 in
     let late = L .0 in
     let made = made-since h (writing W) d b e y in
-    let z = step-before h r d b e (stepsIn h d b e) (2 ^ shapeAt h .columns) s (omega arith) in
+    let z = step-made h r d b e (2 ^ shapeAt h .columns) u (omega arith) in
     let t = z .0 in
     let before = z .1 in
     let T = z .2 in
@@ -226,6 +262,6 @@ writes-take h d w b e o x =
       after,
       omega arith,
       sym (tables h (suc t) (omega arith)) ∙ takes-effect h r w (x .is) d b t T ∙ ap (effect w) (tables h t (omega arith)),
-      end-given (shape (memAt h e)) _ (resultAt h e .tray) o (changes w f) (noRoom w f) (x .ends) (sym a ∙ L .1 (changes w f) (noRoom w f) told),
+      end-given (shape (memAt h e)) _ (resultAt h e .tray) o (changes w f) (noRoom w f) (x .ends) (sym (result-end h e o (x .says)) ∙ L .1 (changes w f) (noRoom w f) told),
       T,
     )

@@ -1,12 +1,12 @@
--- What follows from demands 2 and 3 for whoever uses the hall: each in one line, of every history. Leans on Demand2 and Demand3.
+-- What follows from demands 2 and 3 for whoever uses the hall: each in one line, of every history. Leans on Demand2, Demand3 and OneWork.
 -- Definitions only. Assumes nothing.
 use mathlib.Core.Path.{_≡_}
 use mathlib.Core.Bool.{Bool, true, false, cond, not, _&&_}
 use mathlib.Core.List.{List, []}
 use Prim.Native.Nat.{ℕ, suc, _^_, _≤_, _<_}
-use lib.Dec.{eqb}
+use lib.Dec.{eqb, ltb}
 use lib.ListN.{length, getD}
-use Rattle.lists.specs.Lists.{same, allBelow}
+use Rattle.lists.specs.Lists.{same, allBelow, In}
 use Rattle.query.specs.declared.Range.{Range}
 use Rattle.query.specs.Query.{Query, Record, lies}
 use Rattle.query.specs.Range.{within}
@@ -16,12 +16,14 @@ use Rattle.rules.specs.declared.Outcome.the-variants.{Refused, Accepted, Answer
 use Rattle.query.specs.Shape.{Form, Shape}
 use Rattle.rules.specs.Layout.{maxRecords, maxClients, maxList, reads}
 use Rattle.rules.specs.Table.{Table, Change, insert, delete, has, effect, changes, noRoom, Ascending}
-use Rattle.rules.specs.Work.{Request, readOf, insertOf, deleteOf, listWithin, askOf, stepsInAll, workOf}
+use Rattle.rules.specs.Nodes.{Node, pending}
+use Rattle.rules.specs.Work.{Request, readOf, insertOf, deleteOf, isWrite, listWithin, askOf, stepsInAll, workOf}
 use Rattle.rules.specs.Client.{Client, kind, isIdle, writeAt}
-use Rattle.rules.specs.Memory.{Mem, recordsIn}
-use Rattle.rules.specs.Refusals.{form, shape, client}
+use Rattle.rules.specs.Memory.{Mem, recordsIn, storeIn}
+use Rattle.rules.specs.Refusals.{form, shape, client, allIdle}
 use Rattle.rules.specs.History.{step}
-use Rattle.demands.specs.WholeHistory.{History, shapeAt, memAt, plainAt, callAt, resultAt, UnderWay, stepsIn, StepOf}
+use Rattle.demands.specs.WholeHistory.{History, shapeAt, memAt, plainAt, callAt, resultAt, UnderWay, stepsIn, StepOf, AbandonOf}
+use Rattle.demands.specs.OneWork.{Ending}
 use Rattle.demands.specs.Demand3.{AnswerIs}
 use Rattle.demands.specs.Demand2.{isQuiet, Filed, LastFiled}
 
@@ -121,14 +123,11 @@ isWriteEnd Long = false
 isWriteEnd (Ended b) = true
 isWriteEnd Full = true
 
--- call e ends, with o, the write w that call b began at desk d
+-- call e ends, with o, the write w that call b began at desk d: by its last raise, or by an abandoning after its table step (S-4)
 pub record Ends (h : History) (d : ℕ) (w : Change) (b e : ℕ) (o : Outcome) : Type 0 where
   pub request : Request
   pub is : Begins request w
-  pub tray : List ℕ
-  pub within : e < length (h .calls)
-  pub calls : callAt h e ≡ step d tray
-  pub runs : UnderWay h request d b e
+  pub ending : Ending h request d b e
   pub says : resultAt h e .out ≡ o
   pub ends : isWriteEnd o ≡ true
 
@@ -139,6 +138,18 @@ WritesTake h = (d : ℕ) (w : Change) (b e : ℕ) (o : Outcome) (x : Ends h d w 
     → (t : ℕ) × (b < t) × (t ≤ e) × (plainAt h (suc t) .table ≡ effect w (plainAt h t .table))
     × (o ≡ cond (noRoom w (plainAt h t .table)) Full (Ended (changes w (plainAt h t .table))))
     × StepOf h (x .request) d b t (2 ^ shapeAt h .columns)
+
+-- An abandoning reports a write's end exactly if what it abandons is a write that has made its table step, which comes after its 2^k marks (S-4):
+-- "Abandoning after the table step .. reports the write's end". Such a write has taken effect whole (`WritesTake`), and no call but another
+-- write's table step changes the table (demand 2's `only-writes`).
+abbrev pub AbandonTells : History → Type 0
+AbandonTells h = (r : Request) (d b n i : ℕ) → AbandonOf h r d b n i
+    → isWriteEnd (resultAt h n .out) ≡ isWrite r && ltb (2 ^ shapeAt h .columns) i
+
+-- With all desks idle no node has a mark.
+abbrev pub IdleUnmarked : History → Type 0
+IdleUnmarked h = (n : ℕ) → n ≤ length (h .calls) → allIdle (memAt h n) ≡ true
+    → (p : Node) → In p (storeIn (form (memAt h n)) (memAt h n .nodes) .nodes) → pending p ≡ 0
 
 -- a write that would undo that the table has record r (true), or that it has not (false)
 unfoldable pub undoes : Bool → Record → Change → Bool
@@ -186,5 +197,7 @@ pub record Corollaries (h : History) : Type 0 where
   pub counts-fit : CountsFit h
   pub none-twice : NoneTwice h
   pub writes-take : WritesTake h
+  pub abandon-tells : AbandonTells h
+  pub idle-unmarked : IdleUnmarked h
   pub inserts-seen : InsertsSeen h
   pub deletes-seen : DeletesSeen h

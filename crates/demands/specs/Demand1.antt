@@ -34,7 +34,7 @@ pub record Leaves (f : Form) (sh : Shape) (m : Mem) (lent : List ℕ) (x : StepR
   -- "Refusals 1 to 11 alter nothing", and "any number that a later request adds to a call" (14, S-3): a call that is not accepted ("A call is
   -- accepted if it returns 0, 12 or 13.") leaves all as it was
   pub refused : isAccepted (number (x .out)) ≡ false → (x .mem ≡ m) × (x .tray ≡ lent)
-  -- and what a call is refused with is 1 to 11, or 14
+  -- and what a call is refused with is 1 to 11, of which 7 "is given no longer" (S-4; RefusalRows, `GivenNoLonger`), or 14
   pub numbers : (n : ℕ) → x .out ≡ Refused n → ((refusedShort ≤ n) × (n ≤ refusedOccupied)) ⊎ (n ≡ refusedReversed)
 
 -- "tray | for a step only": the tray that a call is lent

@@ -22,7 +22,7 @@ use Rattle.rules.specs.Client.{entryOf, sawPending}
 use Rattle.rules.specs.Memory.{storeIn}
 use Rattle.rules.specs.Refusals.{form, client}
 use Rattle.rules.specs.Work.{Ask, valueFor, listWithin, asking, Request, readOf, insertOf, deleteOf, workOf}
-use Rattle.demands.specs.WholeHistory.{History, shapeAt, memAt, resultAt, UnderWay, stepsIn, StepOf}
+use Rattle.demands.specs.WholeHistory.{History, shapeAt, memAt, resultAt, UnderWay, stepsIn, StepOf, AbandonOf}
 use Rattle.demands.specs.Demand2.{Quiescent, Reads, Filed, Fetches, LastFiled, valueAt}
 use Rattle.demands.specs.Demand3.{AnswerIs}
 use Rattle.demands.specs.Corollaries.{tableAt, Begins, WritesTake}
@@ -146,6 +146,24 @@ abbrev pub RaisesMade : History → Type 0
 RaisesMade h = (r : Request) (w : Change) → Begins r w → (d b n j : ℕ) → j < 2 ^ shapeAt h .columns
     → StepOf h r d b n (2 ^ shapeAt h .columns + 1 + j) → Raises h (writeNode (target w) j) n
 
+-- call n takes its mark back: marks down by one, and the counter stays
+pub record TakesBack (h : History) (p : Label) (n : ℕ) : Type 0 where
+  pub was : hasNode h n p ≡ true
+  pub there : hasNode h (suc n) p ≡ true
+  pub kept : revisionAt h (suc n) p ≡ revisionAt h n p
+  pub taken : pendingAt h (suc n) p + 1 ≡ pendingAt h n p
+
+-- "A writer before its table step takes back the marks it has set.": of i marks, all; that the other nodes stay is in the call's equation
+abbrev pub MarksBack : History → Type 0
+MarksBack h = (r : Request) (w : Change) → Begins r w → (d b n i : ℕ) → i ≤ 2 ^ shapeAt h .columns → AbandonOf h r d b n i
+    → (j : ℕ) → j < i → TakesBack h (writeNode (target w) j) n
+
+-- "Abandoning after the table step now performs all remaining raises itself" (S-4): where j have been made, call n makes the others; that the
+-- nodes of those stay is in the call's equation
+abbrev pub RaisesLeft : History → Type 0
+RaisesLeft h = (r : Request) (w : Change) → Begins r w → (d b n j : ℕ) → AbandonOf h r d b n (2 ^ shapeAt h .columns + 1 + j)
+    → (i : ℕ) → j ≤ i → i < 2 ^ shapeAt h .columns → Raises h (writeNode (target w) i) n
+
 -- before call n came step `least` + number, with number below count, of what call b began at desk d; its node is p
 pub record Came (h : History) (r : Request) (d b n least count : ℕ) (node : ℕ → Label) (p : Label) : Type 0 where
   pub number : ℕ
@@ -169,6 +187,12 @@ MarkedNodes h = (r : Request) (w : Change) → Begins r w → (d b n i : ℕ) �
 abbrev pub RaisedNodes : History → Type 0
 RaisedNodes h = (r : Request) (w : Change) → Begins r w → (d b n : ℕ) → StepOf h r d b n (2 ^ shapeAt h .columns + 2 ^ shapeAt h .columns)
     → (p : Label) → Came h r d b (suc n) (2 ^ shapeAt h .columns + 1) (2 ^ shapeAt h .columns) (writeNode (target w)) p ↔ E′ (target w) p
+
+-- so has one whose end an abandoning reports: the first j by steps before, the others by that call (S-4)
+abbrev pub AbandonedNodes : History → Type 0
+AbandonedNodes h = (r : Request) (w : Change) → Begins r w → (d b n j : ℕ) → AbandonOf h r d b n (2 ^ shapeAt h .columns + 1 + j) → (p : Label)
+    → (Came h r d b n (2 ^ shapeAt h .columns + 1) j (writeNode (target w)) p ⊎ ((i : ℕ) × (j ≤ i) × (i < 2 ^ shapeAt h .columns) × (writeNode (target w) i ≡ p) × Raises h p n))
+    ↔ E′ (target w) p
 
 -- ---- A list taken, filed
 -- "Otherwise *file*: .. the list goes last with the noted revisions, and the read answers.": what the client holds at its file step is the
@@ -219,15 +243,19 @@ pub record Demand2 (h : History) : Type 0 where
   pub inserts : Inserts h
   pub deletes : Deletes h
   pub only-writes : OnlyWrites h
-  -- "The last raise ends the write and says whether the table changed."; 13: "at the table step the table held 2,048 records, not this one"
+  -- "The last raise ends the write and says whether the table changed."; 13: "at the table step the table held 2,048 records, not this one"; and
+  -- an abandoning after the table step "reports the write's end as its last raise would have" (S-4)
   pub write-ends : WritesTake h
   -- "revision nodes are those of source document 002, definitions .. 11"
   pub looks : Looks h
   pub marks : MarksSet h
   pub raises : RaisesMade h
+  pub marks-back : MarksBack h
+  pub raises-left : RaisesLeft h
   pub read-nodes : ReadNodes h
   pub marked-nodes : MarkedNodes h
   pub raised-nodes : RaisedNodes h
+  pub abandoned-nodes : AbandonedNodes h
   -- "A read whose fetch finds a filed answer to its query gets it, if .."
   pub reads-tell : ReadsTell h
   pub gets-filed : (x : Ask) (b n : ℕ) (e : Entry) (y : Fetches h x b n e) → GetsFiled h x b n e y

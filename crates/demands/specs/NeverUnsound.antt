@@ -1,5 +1,5 @@
--- No call of a history finds the memories unsound, and every read and write can go on to its end. Leans on WholeHistory. Definitions only.
--- Assumes nothing.
+-- No call of a history finds the memories unsound, every read and write can go on to its end, and every busy desk can be abandoned. Leans on
+-- WholeHistory. Definitions only. Assumes nothing.
 use mathlib.Core.Path.{_≡_}
 use mathlib.Core.Bool.{true, false}
 use mathlib.Core.List.{List, [], _++_, map}
@@ -11,7 +11,7 @@ use Rattle.rules.specs.Client.{isIdle, steps, workAt}
 use Rattle.rules.specs.Memory.{Mem}
 use Rattle.rules.specs.Outcome.{number}
 use Rattle.rules.specs.Refusals.{form, shape, client}
-use Rattle.rules.specs.History.{step}
+use Rattle.rules.specs.History.{step, abandon}
 use Rattle.demands.specs.WholeHistory.{History, shapeAt, memAt, callAt, resultAt, acceptedAt, endsAt, UnderWay, stepsIn}
 
 -- ---- Never 3
@@ -32,6 +32,12 @@ pub record IsBusy (m : Mem) (d : ℕ) : Type 0 where
 abbrev pub StepsGo : History → Type 0
 StepsGo h = (n d : ℕ) (tray : List ℕ) → n < length (h .calls) → callAt h n ≡ step d tray → IsBusy (memAt h n) d → trayLeast ≤ length tray
     → acceptedAt h n ≡ true
+
+-- ---- Every busy desk can be abandoned
+-- an abandoning of a busy desk is accepted, and leaves it idle: "7 is given no longer" (S-4)
+abbrev pub AbandonsGo : History → Type 0
+AbandonsGo h = (n d : ℕ) → n < length (h .calls) → callAt h n ≡ abandon d → IsBusy (memAt h n) d
+    → (acceptedAt h n ≡ true) × (isIdle (form (memAt h (suc n))) (client (memAt h (suc n)) d) ≡ true)
 
 -- ---- Every read and write can go on to its end
 -- the history of the first n calls of h and, as its next calls, one step at desk d with each of these trays
@@ -74,6 +80,7 @@ BusyEnds h = (n d : ℕ) (trays : List (List ℕ)) → n ≤ length (h .calls) �
 pub record NeverUnsound (h : History) : Type 0 where
   pub never-three : NeverThree h
   pub steps-go : StepsGo h
+  pub abandons-go : AbandonsGo h
   pub under-way-busy : UnderWayBusy h
   pub work-ends : WorkEnds h
   pub busy-ends : BusyEnds h

@@ -1,6 +1,6 @@
 -- "A write is open from its begin until its desk is idle.", said from the calls: which write it is, is told by its begin and its desk.
 -- Demand2 and Corollaries test this on the memories (`isQuiet`, `isUnopposed`); stated here is that for every history the tests say
--- exactly this. Leans on WholeHistory, Demand2 and Corollaries. Definitions only. Assumes nothing.
+-- exactly this, and that a mark is an open write's. Leans on WholeHistory, Demand2 and Corollaries. Definitions only. Assumes nothing.
 use mathlib.Core.Path.{_≡_}
 use mathlib.Core.Bool.{Bool, true, false}
 use mathlib.Core.Logic.{_↔_}
@@ -10,9 +10,11 @@ use Rattle.query.specs.Query.{Record, Meet}
 use Rattle.query.specs.Range.{starred}
 use Rattle.rules.specs.Layout.{maxClients}
 use Rattle.rules.specs.Table.{target}
-use Rattle.rules.specs.Work.{Ask, Write, writing, Request, workOf}
+use Rattle.lists.specs.Lists.{In}
+use Rattle.rules.specs.Nodes.{Node, labelIn, pending}
+use Rattle.rules.specs.Work.{Ask, Write, writeLabels, writing, Request, workOf}
 use Rattle.rules.specs.Client.{isIdle, workAt}
-use Rattle.rules.specs.Memory.{Mem}
+use Rattle.rules.specs.Memory.{Mem, storeIn}
 use Rattle.rules.specs.Refusals.{form, shape, client}
 use Rattle.rules.specs.History.{begin}
 use Rattle.demands.specs.WholeHistory.{History, shapeAt, memAt, callAt, acceptedAt, UnderWay}
@@ -67,8 +69,15 @@ NoneUndoes h v r i = (w : Write) (d b : ℕ) → Open h w d b i → undoes v r (
 abbrev pub UnopposedTells : History → Type 0
 UnopposedTells h = (i : ℕ) → i ≤ length (h .calls) → (v : Bool) (r : Record) → (isUnopposed v r (memAt h i) ≡ true) ↔ NoneUndoes h v r i
 
+-- ---- Marks
+-- A node that has marks is one of a write that is open: none stays behind a write that has ended, by its last raise or by an abandoning (S-4)
+abbrev pub MarksOpen : History → Type 0
+MarksOpen h = (i : ℕ) → i ≤ length (h .calls) → (p : Node) → In p (storeIn (form (memAt h i)) (memAt h i .nodes) .nodes) → 0 < pending p
+    → (w : Write) × (d : ℕ) × (b : ℕ) × Open h w d b i × In (labelIn p) (writeLabels w)
+
 pub record OpenWrites (h : History) : Type 0 where
   pub until-idle : UntilIdle h
   pub desks-tell : DesksTell h
   pub quiet-tells : QuietTells h
   pub unopposed-tells : UnopposedTells h
+  pub marks-open : MarksOpen h

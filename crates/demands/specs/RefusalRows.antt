@@ -7,19 +7,19 @@ use mathlib.Core.Bool.{Bool, true, false, cond, not, _&&_, _||_}
 use mathlib.Core.List.{List, [], _∷_, _++_}
 use Prim.Native.Nat.{ℕ, _+_, _-_, _≤_, _<_}
 use lib.Dec.{eqb, ltb, leb}
-use lib.ListN.{length, getD, take}
+use lib.ListN.{length, getD}
 use Rattle.lists.specs.Lists.{In}
 use Rattle.query.specs.Range.{isReversed}
 use Rattle.query.specs.Shape.{Form, narrow, shapeOf}
 use Rattle.rules.specs.Layout.{maxNodes, maxPending, maxRevision, trayLeast, nodeCountOffset, answerCountOffset, refusedShort, refusedColumns, refusedUnsound, refusedNoClient}
-use Rattle.rules.specs.Layout.{refusedTaken, refusedIdle, refusedCommitted, refusedNoEntry, refusedPending, refusedWorn, refusedOccupied, refusedReversed, endedLong, endedFull}
+use Rattle.rules.specs.Layout.{refusedTaken, refusedIdle, notGiven, refusedNoEntry, refusedPending, refusedWorn, refusedOccupied, refusedReversed, endedLong, endedFull}
 use Rattle.rules.specs.Work.{readLabels, valueOf, mayAnswer, writeLabels, Work, asking, writing, Request, readOf, insertOf, deleteOf, isWrite, faultOf}
 use Rattle.rules.specs.Nodes.{Words, Node, Store, pending, revision, isPresent, nodeOf, isFree, isWorn}
 use Rattle.rules.specs.Client.{Client, steps, foundFull, isIdle, isBad, workAt}
 use Rattle.rules.specs.Memory.{Mem, recordsIn, storeIn}
 use Rattle.rules.specs.Outcome.{number}
-use Rattle.rules.specs.Refusals.{form, shape, columns, client, isShort, badColumns, isUnsound, noClient, isCommitted, allIdle}
-use Rattle.rules.specs.Calls.{openResult}
+use Rattle.rules.specs.Refusals.{form, shape, columns, client, isShort, badColumns, isUnsound, noClient, allIdle}
+use Rattle.rules.specs.Calls.{openResult, pastTable, announcedLabels, labelsLeft}
 use Rattle.rules.specs.History.{Call, begin, step, abandon, evictAnswer, evictNode, renew, callResult, isAccepted}
 
 -- ---- Rows
@@ -72,9 +72,12 @@ isFullyPending p s = isPresent p s && leb maxPending (pending (nodeOf p s))
 unfoldable pub isAtLargest : Form → Words → Store → Bool
 isAtLargest f p s = isPresent p s && leb (maxRevision f) (revision f (nodeOf p s))
 
--- What step i of some work may find: a look "no unmarked node to put out"; a mark that, or "marks at 12 or more to add to"; "a raise .. its
--- node missing or unmarked", or "a counter at its largest to raise"; the other steps nothing. In a row this is
--- asked of a busy desk only (`isBusy`), so 3 at a node never applies together with 4 or 6.
+-- "a raise .. finds its node missing or unmarked", or "a counter at its largest to raise"
+unfoldable pub cannotRaise : Form → Words → Store → Bool
+cannotRaise f p s = isMissingOrFree p s || isAtLargest f p s
+
+-- What step i of some work may find: a look "no unmarked node to put out"; a mark that, or "marks at 12 or more to add to"; a raise what is
+-- said above; the other steps nothing. In a row this is asked of a busy desk only (`isBusy`), so 3 at a node never applies together with 4 or 6.
 unfoldable pub isUnsoundAt : Mem → Work → ℕ → Bool
 isUnsoundAt m (asking x) i = ltb i (length (readLabels x)) && hasNoRoom (getD (readLabels x) i []) (storeIn (form m) (m .nodes))
 isUnsoundAt m (writing w) i =
@@ -82,17 +85,21 @@ isUnsoundAt m (writing w) i =
     let n : ℕ = length (writeLabels w) in
     let p : Words = getD (writeLabels w) i [] in
     let q : Words = getD (writeLabels w) (i - (n + 1)) [] in
-    cond (ltb i n) (hasNoRoom p s || isFullyPending p s) (ltb n i && (isMissingOrFree q s || isAtLargest (form m) q s))
+    cond (ltb i n) (hasNoRoom p s || isFullyPending p s) (ltb n i && cannotRaise (form m) q s)
 
--- What an abandoning of work of i steps may find: "the taking back of a mark .. its node missing or unmarked", at any of the i nodes of the
--- marks. Nor does this 3 apply together with 7, since it is "A writer before its table step" that "takes back the marks it has set".
-unfoldable pub someMissingOrFree : List Words → Store → Bool
-someMissingOrFree [] s = false
-someMissingOrFree (p ∷ ps) s = isMissingOrFree p s || someMissingOrFree ps s
+-- some label's node is so, of the nodes as the call finds them
+unfoldable pub someOf : (Words → Store → Bool) → List Words → Store → Bool
+someOf test [] s = false
+someOf test (p ∷ ps) s = test p s || someOf test ps s
 
-unfoldable pub isUnsoundBack : Mem → Work → ℕ → Bool
-isUnsoundBack m (asking x) i = false
-isUnsoundBack m (writing w) i = someMissingOrFree (take i (writeLabels w)) (storeIn (form m) (m .nodes))
+-- What an abandoning of work of i steps may find: "A writer before its table step takes back the marks it has set", and "the taking back of a
+-- mark finds its node missing or unmarked", at any of them; after it, it "performs all remaining raises" (S-4), and any of these may find what
+-- a raise finds.
+unfoldable pub isUnsoundAbandoned : Mem → Work → ℕ → Bool
+isUnsoundAbandoned m (asking x) i = false
+isUnsoundAbandoned m (writing w) i =
+    let s : Store = storeIn (form m) (m .nodes) in
+    cond (pastTable w i) (someOf (cannotRaise (form m)) (labelsLeft w i) s) (someOf isMissingOrFree (announcedLabels w i) s)
 
 -- ---- 12 and 13
 -- "a read's table step finds over 32 records"; a count "counts past 32 without giving 12" (S-1), which is in `mayAnswer`
@@ -105,6 +112,11 @@ isLongAt m (writing w) i = false
 unfoldable pub isFullAt : Client → Work → ℕ → Bool
 isFullAt c (asking x) i = false
 isFullAt c (writing w) i = eqb i (length (writeLabels w) + length (writeLabels w)) && foundFull c
+
+-- an abandoning after the table step "reports the write's end as its last raise would have" (S-4): 13 too
+unfoldable pub isFullAbandoned : Client → Work → ℕ → Bool
+isFullAbandoned c (asking x) i = false
+isFullAbandoned c (writing w) i = pastTable w i && foundFull c
 
 -- ---- 14 (S-3)
 -- "the lowest above the highest": of a read's range, whatever else is wrong with it; a write has none
@@ -180,11 +192,13 @@ abandonRows m d =
     ∷ row refusedUnsound (isThere d && isBad (form m) (shape m) (client m d))
     -- "step or abandon at an idle desk"
     ∷ row refusedIdle (isThere d && isIdle (form m) (client m d))
-    -- "abandon of a write after its table step"
-    ∷ row refusedCommitted (isBusy m d && isCommitted (shape m) (client m d))
-    -- "A writer before its table step takes back the marks it has set.": "the taking back of a mark finds its node missing or unmarked"
-    ∷ row refusedUnsound (isBusy m d && (not (isCommitted (shape m) (client m d))
-    && isUnsoundBack m (workAt (shape m) (client m d)) (steps (client m d)))) ∷ []
+    -- "a raise or the taking back of a mark finds its node missing or unmarked; .. a counter at its largest to raise", at any of those that are
+    -- to be raised (S-4) or whose mark is taken back. 7 has no row: it "is given no longer" (S-4)
+    ∷ row refusedUnsound (isBusy m d && isUnsoundAbandoned m (workAt (shape m) (client m d)) (steps (client m d))) ∷ []
+
+-- what an abandoning that is not refused may return beside 0
+unfoldable pub abandonEndRows : Mem → ℕ → List Row
+abandonEndRows m d = row endedFull (isBusy m d && isFullAbandoned (client m d) (workAt (shape m) (client m d)) (steps (client m d))) ∷ []
 
 unfoldable pub evictAnswerRows : Mem → ℕ → List Row
 evictAnswerRows m i =
@@ -223,11 +237,11 @@ rowsOf m (evictAnswer i) = evictAnswerRows m i
 rowsOf m (evictNode i) = evictNodeRows m i
 rowsOf m renew = renewRows m
 
--- 12 and 13: a step alone
+-- 12 and 13: a step; and 13 an abandoning (S-4)
 unfoldable pub endsOf : Mem → Call → List Row
 endsOf m (begin d r) = []
 endsOf m (step d tray) = endRows m d
-endsOf m (abandon d) = []
+endsOf m (abandon d) = abandonEndRows m d
 endsOf m (evictAnswer i) = []
 endsOf m (evictNode i) = []
 endsOf m renew = []
@@ -244,7 +258,7 @@ pub record RefusalRows : Type 0 where
   pub opening : (m : Mem) (k : ℕ) → Gives (openRows m k) [] (number (openResult m k .out))
   pub calls : (m : Mem) (c : Call) → Gives (rowsOf m c) (endsOf m c) (number (callResult m c .out))
 
--- "The smallest number that applies is given": the order of the rows is never against it, though 3 stands behind 4, 6 and 7 too; but for
+-- "The smallest number that applies is given": the order of the rows is never against it, though 3 stands behind 4 and 6 too; but for
 -- "14 .., tested right after 2" (S-3), which goes before 3, 4 and 5: where 14 is given, what applies besides is above 2
 abbrev pub Smallest : List Row → ℕ → Type 0
 Smallest rows n = (r : Row) → In r rows → r .applies ≡ true → (n ≤ r .number) ⊎ ((n ≡ refusedReversed) × (refusedColumns < r .number))
@@ -261,6 +275,11 @@ IsReversedBegin renew = ⊥
 pub record OnlyReversed : Type 0 where
   pub opening : (m : Mem) (k : ℕ) → number (openResult m k .out) ≡ refusedReversed → ⊥
   pub calls : (m : Mem) (c : Call) → number (callResult m c .out) ≡ refusedReversed → IsReversedBegin c
+
+-- "7 is given no longer" (S-4), by any call
+pub record GivenNoLonger : Type 0 where
+  pub opening : (m : Mem) (k : ℕ) → number (openResult m k .out) ≡ notGiven → ⊥
+  pub calls : (m : Mem) (c : Call) → number (callResult m c .out) ≡ notGiven → ⊥
 
 pub record SmallestGiven : Type 0 where
   pub opening : (m : Mem) (k : ℕ) → Smallest (openRows m k) (number (openResult m k .out))

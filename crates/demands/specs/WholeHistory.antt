@@ -89,3 +89,11 @@ pub record StepOf (h : History) (r : Request) (d b n i : ℕ) : Type 0 where
   pub accepted : acceptedAt h n ≡ true
   pub runs : UnderWay h r d b n
   pub made : stepsIn h d b n ≡ i
+
+-- The same of an abandoning: call n is an accepted one at desk d of what call b began there by r, which had made i accepted steps before
+pub record AbandonOf (h : History) (r : Request) (d b n i : ℕ) : Type 0 where
+  pub within : n < length (h .calls)
+  pub calls : callAt h n ≡ abandon d
+  pub accepted : acceptedAt h n ≡ true
+  pub runs : UnderWay h r d b n
+  pub made : stepsIn h d b n ≡ i

@@ -14,7 +14,7 @@ ghost use Rattle.exports.specs.Reply.{replied, replyOf, sent, sentBy, se
 // What a caller in another language gets. Its memories hold the rest.
 #[repr(C)]
 pub struct Reply {
-    // 0 accepted, 1 to 11 and 14 refused, 12 long, 13 full.
+    // 0 accepted, 1 to 11 but 7, and 14 refused, 12 long, 13 full.
     pub number: u32,
     // How many records lie in the tray, or a count.
     pub count: u32,
@@ -211,7 +211,7 @@ pub extern "C" fn mondzafeky_step(
     reply_of(out)
 }
 
-// Gives up a read, or a write that has not reached the table.
+// Abandons what is under way at the desk: a read, or a write; a write past its table step is brought to its end.
 #[no_mangle]
 pub extern "C" fn mondzafeky_abandon(
     table: &mut [u32],

@@ -143,7 +143,7 @@ impl Hall {
 
     pub const DELETES: u32 = 3;
 
-    // ---- Refusals, by the paper's words: short, columns, unsound, no desk, taken, idle, committed, no entry, marked, worn, occupied.
+    // ---- Refusals, by the paper's words: short, columns, unsound, no desk, taken, idle, no entry, marked, worn, occupied. 7 is not given.
     pub const REFUSED_SHORT: u32 = 1;
 
     pub const REFUSED_COLUMNS: u32 = 2;
@@ -155,8 +155,6 @@ impl Hall {
     pub const REFUSED_TAKEN: u32 = 5;
 
     pub const REFUSED_IDLE: u32 = 6;
-
-    pub const REFUSED_COMMITTED: u32 = 7;
 
     pub const REFUSED_NO_ENTRY: u32 = 8;
 

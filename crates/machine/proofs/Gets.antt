@@ -13,7 +13,7 @@ use Rattle.laws.proofs.ListLaws.{and-left, all-below}
 use Rattle.laws.proofs.TestLaws.{byTest, clash}
 use Rattle.rules.specs.Work.{Write, Ask, Value, valueOf, readLabels, writeLabels, asking, writing}
 use Rattle.rules.specs.Table.{effect, changes, noRoom}
-use Rattle.rules.specs.Nodes.{Store, store}
+use Rattle.rules.specs.Nodes.{Words, Store, store}
 use Rattle.revisions.specs.EffectiveRevision.{effective, pendingOf, has, tally, Retired}
 use Rattle.machine.specs.Machine.{upd, sameAsk, State, Phase, idle, looking, tabling, filing, announcing, raising, Ans, node, write-end}
 use Rattle.machine.specs.Machine.{at-client, with-store, with-filed, with-tab, holds-for, filed-in, cut, Call, begin, step, abandon}
@@ -23,7 +23,7 @@ use Rattle.laws.proofs.Members.{in-none}
 use Rattle.lists.specs.Lists.{In}
 use Rattle.machine.proofs.Asks.{sameAsk-eq, sameAsk-refl}
 use Rattle.machine.proofs.FiledAnswers.{one-each, in-filed, in-cut}
-use Rattle.machine.proofs.PendingLabels.{owes, owing, tally-drop, raise-up, back-up}
+use Rattle.machine.proofs.PendingLabels.{owes, owing, Leaves, one-leaves, all-leave, raise-up, back-up}
 use Rattle.machine.proofs.Moves.{grown, length-grown, grown-old, grown-new}
 use Rattle.machine.specs.Transition.{Transition}
 use Rattle.machine.proofs.StateInv.{StateInv, fit-at}
@@ -136,14 +136,19 @@ file-case s d q ns l v e a i = elim (in-filed q ns l (s .filed) (v .one) i) [
 ]
 
 -- ---- The raises: only a label that is owed is lifted
-raised-steady : (s : State) (t : Store) (d : ℕ) (w : Write) (j : ℕ) (c f : Bool) → StateInv s → d < maxClients → s .clients d ≡ raising w j c f
-    → Retired true (getD (writeLabels w) j [] ∷ []) (s .store) t → Steady s (with-store s t)
+raised-steady : (s : State) (t : Store) (d : ℕ) (w : Write) (j : ℕ) (c f : Bool) (ps rest : List Words) → d < maxClients → s .clients d ≡ raising w j c f
+    → Leaves w j ps rest → Retired true ps (s .store) t → Steady s (with-store s t)
 unfolding with-store owes owing
-raised-steady s t d w j c f v l e m q a b z =
-    let x = raise-up (getD (writeLabels w) j []) (s .store) t m q in
+raised-steady s t d w j c f ps rest l e lv m q a b z =
+    let x = raise-up ps (s .store) t m q in
     let y : tally q (drop j (writeLabels w)) ≡ 0 = rw e at (z d l) in
-    let n = tally-drop q (writeLabels w) j (fit-at s d (raising w j c f) v e .1) in
+    let n = lv q in
     omega arith
+
+-- of one label
+one-steady : (s : State) (t : Store) (d : ℕ) (w : Write) (j : ℕ) (c f : Bool) → StateInv s → d < maxClients → s .clients d ≡ raising w j c f
+    → Retired true (getD (writeLabels w) j [] ∷ []) (s .store) t → Steady s (with-store s t)
+one-steady s t d w j c f v l e m = raised-steady s t d w j c f _ _ l e (one-leaves w j (fit-at s d (raising w j c f) v e .1)) m
 
 -- ---- The one walk through the outcomes
 transition-turn : (s : State) (k : Quiescent) {c : Call} {a : Response} {t : State} → StateInv s → StateInv t → QuiescenceInv s k → Transition s c a t → Turn s k c a t
@@ -175,13 +180,15 @@ transition-turn s k v w u (Transition.wrote {d} {w = x} l e f) =
     let X = raising x 0 (changes (x .change) (s .tab)) (noRoom (x .change) (s .tab)) in
     turn-step s (at-client (with-tab s (effect (x .change) (s .tab))) d X) k went d X refl (λ p a b z. refl) (λ r. rw e refl) refl (λ m n. tt)
 transition-turn s k v w u (Transition.raised {d} {w = x} {j} {c} {f} {t} l e g m) =
-    turn-step s (at-client (with-store s t) d (raising x (suc j) c f)) k went d (raising x (suc j) c f) refl (raised-steady s t d x j c f v l e m) (λ r. rw e refl) refl (λ m n. tt)
+    turn-step s (at-client (with-store s t) d (raising x (suc j) c f)) k went d (raising x (suc j) c f) refl (one-steady s t d x j c f v l e m) (λ r. rw e refl) refl (λ m n. tt)
 transition-turn s k v w u (Transition.last {d} {w = x} {j} {c} {f} {t} l e g m) =
-    turn-step s (at-client (with-store s t) d idle) k (write-end c f) d idle refl (raised-steady s t d x j c f v l e m) (λ r. rw e refl) refl (λ m n. tt)
+    turn-step s (at-client (with-store s t) d idle) k (write-end c f) d idle refl (one-steady s t d x j c f v l e m) (λ r. rw e refl) refl (λ m n. tt)
 transition-turn s k v w u (Transition.abandoned-read {d} l e) =
     turn-at s (at-client s d idle) k (abandon d) went d idle refl (steady-refl s) (λ e. refl) (λ b i. old refl i) (λ m n. tt)
 transition-turn s k v w u (Transition.abandoned-write {d} {w = x} {i} {t} l e m) =
     turn-at s (at-client (with-store s t) d idle) k (abandon d) went d idle refl (λ p a b z. back-up (take i (writeLabels x)) (s .store) t m p) (λ e. refl) (λ b i. old refl i) (λ m n. tt)
+transition-turn s k v w u (Transition.abandoned-raising {d} {w = x} {j} {c} {f} {t} l e m) =
+    turn-at s (at-client (with-store s t) d idle) k (abandon d) (write-end c f) d idle refl (raised-steady s t d x j c f _ [] l e (all-leave x j) m) (λ e. refl) (λ b i. old refl i) (λ m n. tt)
 transition-turn s k v w u (Transition.evicted-answer {i} l) =
     turn-none s (with-filed s (cut i (s .filed))) k (evict-answer i) went refl (λ p a b m. refl) (λ d. refl) (λ q. refl) (λ b j. in-cut i (s .filed) j)
 transition-turn s k v w u (Transition.evicted-node {i} {t} l g) =
@@ -279,6 +286,7 @@ transition-gets s k v u (Transition.raised {d} l e g m) = subst (λ y. GetsAt s 
 transition-gets s k v u (Transition.last {d} {c} {f} l e g m) = subst (λ y. GetsAt s k d (write-end c f) y) (sym e) tt
 transition-gets s k v u (Transition.abandoned-read l e) = tt
 transition-gets s k v u (Transition.abandoned-write l e m) = tt
+transition-gets s k v u (Transition.abandoned-raising l e m) = tt
 transition-gets s k v u (Transition.evicted-answer l) = tt
 transition-gets s k v u (Transition.evicted-node l g) = tt
 transition-gets s k v u (Transition.renewed i) = tt

@@ -27,7 +27,7 @@ use Rattle.machine.specs.Transition.{Transition}
 use Rattle.machine.specs.Transition
 use Rattle.machine.proofs.Asks.{write-few}
 use Rattle.machine.proofs.Sums.{sumBelow, sumBelow-change, sumBelow-none, sumBelow-ge, upd-same, upd-other}
-use Rattle.machine.proofs.PendingLabels.{holds, held-of, tally-append, tally-drop, tally-pos, one-self}
+use Rattle.machine.proofs.PendingLabels.{holds, held-of, Leaves, tally-append, tally-drop, tally-pos, one-self}
 use Rattle.machine.proofs.StateInv.{StateInv, Fit, fit-at}
 
 -- ---- Sums over the desks
@@ -97,10 +97,19 @@ liftAt (filing q ns l) = 0
 liftAt (announcing w i) = 0
 liftAt (raising w j c f) = 1
 
+-- an abandoning makes all raises that are left
+abbrev pub liftAll : Phase → ℕ
+liftAll idle = 0
+liftAll (looking q ns saw) = 0
+liftAll (tabling q ns saw) = 0
+liftAll (filing q ns l) = 0
+liftAll (announcing w i) = 0
+liftAll (raising w j c f) = length (writeLabels w) - j
+
 abbrev pub liftOf : State → Call → ℕ
 liftOf s (begin d x) = 0
 liftOf s (step d) = liftAt (s .clients d)
-liftOf s (abandon d) = 0
+liftOf s (abandon d) = liftAll (s .clients d)
 liftOf s (evict-answer i) = 0
 liftOf s (evict-node i) = 0
 liftOf s renew = firstFloor
@@ -117,6 +126,15 @@ at-room s t d x n l e k g r =
 
 aside-room : (s t : State) → t .clients ≡ s .clients → ((b : ℕ) → Below b (s .store) → Below (b + 0) (t .store)) → Headroom s → Headroom t
 aside-room s t e g r = let y = r .2 in (r .0 + 0, g (r .0) (r .1), rw e (omega arith))
+
+lift-all : (x : Phase) → liftAll x + toRaise idle ≤ toRaise x
+unfolding toRaise
+lift-all idle = omega arith
+lift-all (looking q ns saw) = omega arith
+lift-all (tabling q ns saw) = omega arith
+lift-all (filing q ns l) = omega arith
+lift-all (announcing w i) = omega arith
+lift-all (raising w j c f) = omega arith
 
 pub transition-headroom : (s : State) {c : Call} {a : Response} {t : State} → StateInv s → StateInv t → Lifted s c t → Headroom s → Transition s c a t → Headroom t
 unfolding toRaise at-client with-store with-filed with-tab Below Each
@@ -136,8 +154,9 @@ transition-headroom s {t = t} v u g r (Transition.wrote {d} l e k) = at-room s t
 transition-headroom s {t = t} v u g r (Transition.raised {d} {w} {j} {c} {f} l e k m) = at-room s t d (raising w (suc j) c f) (liftAt (s .clients d)) l refl (rw e (omega arith)) g r
 transition-headroom s {t = t} v u g r (Transition.last {d} {w} {j} {c} {f} l e k m) =
     let o = fit-at s d (raising w j c f) v e .1 in at-room s t d idle (liftAt (s .clients d)) l refl (rw e (omega arith)) g r
-transition-headroom s {t = t} v u g r (Transition.abandoned-read {d} l e) = at-room s t d idle 0 l refl (omega arith) g r
-transition-headroom s {t = t} v u g r (Transition.abandoned-write {d} l e m) = at-room s t d idle 0 l refl (omega arith) g r
+transition-headroom s {t = t} v u g r (Transition.abandoned-read {d} l e) = at-room s t d idle (liftAll (s .clients d)) l refl (lift-all (s .clients d)) g r
+transition-headroom s {t = t} v u g r (Transition.abandoned-write {d} l e m) = at-room s t d idle (liftAll (s .clients d)) l refl (lift-all (s .clients d)) g r
+transition-headroom s {t = t} v u g r (Transition.abandoned-raising {d} l e m) = at-room s t d idle (liftAll (s .clients d)) l refl (lift-all (s .clients d)) g r
 transition-headroom s {t = t} v u g r (Transition.evicted-answer l) = aside-room s t refl g r
 transition-headroom s {t = t} v u g r (Transition.evicted-node l m) = aside-room s t refl g r
 transition-headroom s {t = t} v u g r (Transition.renewed i) = (firstFloor, (omega arith, tt), let z = none-raise (s .clients) i in omega arith)
@@ -204,19 +223,8 @@ held-marked s d x p v l e =
     let c = v .held p in
     omega arith
 
--- a raise finds its mark
-pub raise-marked : (s : State) (d : ℕ) (w : Write) (j : ℕ) {c f : Bool} → StateInv s → d < maxClients → s .clients d ≡ raising w j c f → 0 < pendingOf (s .store) (getD (writeLabels w) j [])
-unfolding holds
-raise-marked s d w j {c} {f} v l e =
-    let p = getD (writeLabels w) j [] in
-    let o = fit-at s d (raising w j c f) v e .1 in
-    let a = held-marked s d (raising w j c f) p v l e in
-    let b = tally-drop p (writeLabels w) j o in
-    let g = one-self p in
-    omega arith
-
 -- "a counter at its largest to raise" (3) is never met: that raise is still to come
-pub raise-room : (s : State) (d : ℕ) (w : Write) (j : ℕ) {c f : Bool} (p : Words) → StateInv s → Headroom s → d < maxClients → s .clients d ≡ raising w j c f
+raise-room : (s : State) (d : ℕ) (w : Write) (j : ℕ) {c f : Bool} (p : Words) → StateInv s → Headroom s → d < maxClients → s .clients d ≡ raising w j c f
     → effective (s .store) p < maxRevision narrow
 unfolding allToRaise toRaise
 raise-room s d w j {c} {f} p v r l e =
@@ -226,6 +234,17 @@ raise-room s d w j {c} {f} p v r l e =
     let k : toRaise (s .clients d) ≡ length (writeLabels w) - j = ap toRaise e in
     let z = r .2 in
     omega arith
+
+-- so any of the raises that a write has still to make find what they need, one of them or all
+pub raises-go : (s : State) (d : ℕ) (w : Write) (j : ℕ) (c f : Bool) (ps rest : List Words) → StateInv s → Headroom s → d < maxClients → s .clients d ≡ raising w j c f
+    → Leaves w j ps rest → (p : Words) → (tally p ps ≤ pendingOf (s .store) p) × (effective (s .store) p + tally p ps ≤ maxRevision narrow)
+unfolding holds
+raises-go s d w j c f ps rest v r l e lv p =
+    let a = held-marked s d (raising w j c f) p v l e in
+    let b = lv p in
+    let n = holds-once p (raising w j c f) in
+    let g = raise-room s d w j {c = c} {f = f} p v r l e in
+    (omega arith, omega arith)
 
 -- ---- All labels that the desks below n hold
 unfoldable pub all-held : ℕ → (ℕ → Phase) → List Words

@@ -134,28 +134,35 @@ reader-holds p (raising w j c f) e = absurd (false≢true e)
 pub reader-owes : (p : Words) (x : Phase) → isReader x ≡ true → tally p (owes x) ≡ 0
 reader-owes p x e = let a = owes-held p x in let b = reader-holds p x e in omega arith
 
--- ---- A raise
--- it lifts the revision of its label alone
-pub raise-up : (p : Words) (s t : Store) → Retired true (p ∷ []) s t → (q : Words) → effective t q ≡ effective s q + one p q
-unfolding lifts tally
-raise-up p s t m q = let a = m .up q in omega arith
+-- ---- Raises: one, or all that are left
+-- what a writer has still to raise after raising ps is what it holds then
+abbrev pub Leaves : Write → ℕ → List Words → List Words → Type 0
+Leaves w j ps rest = (p : Words) → tally p (drop j (writeLabels w)) ≡ tally p ps + tally p rest
 
-pub raise-less : (p : Words) (s t : Store) → Retired true (p ∷ []) s t → (q : Words) → pendingOf t q + one p q ≡ pendingOf s q
+pub one-leaves : (w : Write) (j : ℕ) → j < length (writeLabels w) → Leaves w j (getD (writeLabels w) j [] ∷ []) (drop (suc j) (writeLabels w))
 unfolding tally
-raise-less p s t m q = let a = m .less q in omega arith
+one-leaves w j l p = let a = tally-drop p (writeLabels w) j l in omega arith
+
+pub all-leave : (w : Write) (j : ℕ) → Leaves w j (drop j (writeLabels w)) []
+unfolding tally
+all-leave w j p = omega arith
+
+-- they lift the revisions of their labels alone
+pub raise-up : (ps : List Words) (s t : Store) → Retired true ps s t → (q : Words) → effective t q ≡ effective s q + tally q ps
+unfolding lifts
+raise-up ps s t m q = m .up q
 
 -- an owed label stays owed, or its revision has grown
-pub raise-owed : (s : State) (d : ℕ) (w : Write) (j : ℕ) (c f : Bool) (t : Store) → s .clients d ≡ raising w j c f → j < length (writeLabels w)
-    → Retired true (getD (writeLabels w) j [] ∷ []) (s .store) t → (p : Words) → 0 < tally p (owes (s .clients d))
-    → (0 < tally p (drop (suc j) (writeLabels w))) ⊎ (effective (s .store) p < effective t p)
+pub raise-owed : (s : State) (d : ℕ) (w : Write) (j : ℕ) (c f : Bool) (t : Store) (ps rest : List Words) → s .clients d ≡ raising w j c f → Leaves w j ps rest
+    → Retired true ps (s .store) t → (p : Words) → 0 < tally p (owes (s .clients d)) → (0 < tally p rest) ⊎ (effective (s .store) p < effective t p)
 unfolding owes owing
-raise-owed s d w j c f t e l m p k =
+raise-owed s d w j c f t ps rest e l m p k =
     let k′ : 0 < tally p (drop j (writeLabels w)) = rw e at k in
-    let a = tally-drop p (writeLabels w) j l in
-    let b = raise-up (getD (writeLabels w) j []) (s .store) t m p in
-    byTest (ltb 0 (tally p (drop (suc j) (writeLabels w))))
-    (λ i. inl (ltb-true 0 (tally p (drop (suc j) (writeLabels w))) i))
-    (λ i. let z = ltb-false 0 (tally p (drop (suc j) (writeLabels w))) i in inr (omega arith))
+    let a = l p in
+    let b = raise-up ps (s .store) t m p in
+    byTest (ltb 0 (tally p rest))
+    (λ i. inl (ltb-true 0 (tally p rest) i))
+    (λ i. let z = ltb-false 0 (tally p rest) i in inr (omega arith))
 
 -- ---- A mark taken back
 pub back-up : (ps : List Words) (s t : Store) → Retired false ps s t → (q : Words) → effective t q ≡ effective s q

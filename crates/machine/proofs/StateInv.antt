@@ -4,6 +4,7 @@ use mathlib.Core.Path.{_≡_, refl, sym, ap, _∙_, subst}
 use mathlib.Core.Logic.{inl, inr}
 use mathlib.Core.Bool.{Bool, true, false, _||_, true≢false}
 use mathlib.Core.List.{List, [], _∷_, _++_}
+use mathlib.Core.Option.{some}
 use Prim.Native.Nat.{ℕ, suc, _+_, _≤_, _<_}
 use native.Mathlib.Omega.{arith}
 use lib.Dec.{eqb, ltb}
@@ -12,20 +13,21 @@ use lib.ListN.{length, getD, take, drop, drop-of-length-le}
 use Rattle.laws.proofs.TestLaws.{byTest}
 use Rattle.query.specs.Shape.{Shape, maxColumns}
 use Rattle.rules.specs.Layout.{maxClients}
-use Rattle.rules.specs.Work.{Write, Ask, Value, valueOf, readLabels, writeLabels}
+use Rattle.lists.specs.Lists.{In}
+use Rattle.rules.specs.Work.{Write, Ask, Value, valueOf, readLabels, writeLabels, writing}
 use Rattle.rules.specs.Table.{effect, changes, noRoom}
 use Rattle.rules.specs.Nodes.{Store, store, Words}
 use Rattle.revisions.specs.EffectiveRevision.{effective, pendingOf, pendingIn, NoDup, tally, Retired}
 use Rattle.machine.specs.Machine.{upd, State, Phase, idle, looking, tabling, filing, announcing, raising, Ans, node, opened, at-client}
 use Rattle.machine.specs.Machine.{with-store, with-filed, with-tab, filed-in, Call, begin, step, abandon, evict-answer, evict-node, renew}
 use Rattle.machine.specs.Machine.{Response, AskFits, WriteFits}
-use Rattle.machine.proofs.Sums.{upd-same, upd-other}
-use Rattle.laws.proofs.Members.{in-none}
+use Rattle.machine.proofs.Sums.{upd-same, upd-other, sumBelow-some}
+use Rattle.laws.proofs.Members.{in-none, in-take, in-drop}
 use Rattle.rules.proofs.WorkLaws.{write-labels-some}
 use Rattle.machine.proofs.FiledAnswers.{OneEach, in-filed}
-use Rattle.machine.proofs.PendingLabels.{holds, owes, owing, held-of, held-upd, none-held, reader-holds, reader-owes, tally-take, tally-drop}
-use Rattle.machine.proofs.PendingLabels.{take-whole, raise-up, raise-less, raise-owed, back-up}
-use Rattle.machine.proofs.Frames.{transition-once, transition-one}
+use Rattle.machine.proofs.PendingLabels.{holds, owes, owing, held-of, held-upd, none-held, reader-holds, reader-owes, tally-take}
+use Rattle.machine.proofs.PendingLabels.{take-whole, tally-pos, Leaves, one-leaves, all-leave, raise-up, raise-owed, back-up}
+use Rattle.machine.proofs.Frames.{phaseWork, transition-once, transition-one}
 use Rattle.machine.proofs.Moves.{BoundTo, bound-on, IsAns, in-file, in-hand, AnsOk, New, Move, ans-moves, MoveAt, move-at, move-refl}
 use Rattle.machine.proofs.Moves.{same-lists, quiet-move, cut-move, out-move, wrote-lists, isFiling, not-filing, filing-of, grown, length-grown}
 use Rattle.machine.proofs.Moves.{grown-old, grown-new}
@@ -166,28 +168,26 @@ look-fit sh e f q ns saw saw′ l m o =
           rw (grown-old ns c j b′) (let a = o .2 j b′ in let y = m (node q j) in omega arith)),
     )
 
-raise-at : {y : Call} (s : State) (t : Store) (d : ℕ) (w : Write) (j : ℕ) (c f : Bool) (x : Phase) → StateInv s → d < maxClients → s .clients d ≡ raising w j c f
-    → isFiling x ≡ false
-    → Retired true (getD (writeLabels w) j [] ∷ []) (s .store) t
-    → ((p : Words) → tally p (owes x) ≡ tally p (drop (suc j) (writeLabels w))) → ((p : Words) → tally p (holds x) ≡ tally p (drop (suc j) (writeLabels w)))
+-- a writer's raises: of one label, or of all that are left
+raise-at : {y : Call} (s : State) (t : Store) (d : ℕ) (w : Write) (j : ℕ) (c f : Bool) (ps : List Words) (x : Phase) → d < maxClients → s .clients d ≡ raising w j c f
+    → isFiling x ≡ false → Retired true ps (s .store) t → Leaves w j ps (holds x) → ((p : Words) → tally p (owes x) ≡ tally p (holds x))
     → Fit (s .shape) (effective t) x
     → Kept s y (at-client (with-store s t) d x)
-unfolding at-client with-store holds
-raise-at s t d w j c f x v l e nf m ow ho fi =
-    let n = fit-at s d (raising w j c f) v e .1 in
+unfolding at-client with-store
+raise-at s t d w j c f ps x l e nf m lv ow fi =
     at {t = at-client (with-store s t) d x} d x (record {
       move = record {
         low = l;
         shape = refl;
         clients = refl;
         lists = same-lists s (at-client (with-store s t) d x) refl;
-        mono = λ p. let a = raise-up (getD (writeLabels w) j []) (s .store) t m p in omega arith;
-        owed = λ p a. rw (ow p) (raise-owed s d w j c f t e n m p a);
+        mono = λ p. let a = raise-up ps (s .store) t m p in omega arith;
+        owed = λ p a. rw (ow p) (raise-owed s d w j c f t ps (holds x) e lv m p a);
         file = λ q r u a. inl (in-file a);
         hand = λ q r u a. not-filing x nf a;
       };
       fit = fi;
-      pendings = λ p. rw e (let a = tally-drop p (writeLabels w) j n in let b = raise-less (getD (writeLabels w) j []) (s .store) t m p in let c = ho p in omega arith);
+      pendings = λ p. rw e (let a = lv p in let b = m .less p in unfold holds in omega arith);
     })
 
 -- ---- The one walk
@@ -271,13 +271,15 @@ transition-kept s v (Transition.wrote {d} {w} {i} l e k) =
     })
 transition-kept s v (Transition.raised {d} {w} {j} {c} {f} {t} l e k m) =
     let o = fit-at s d (raising w j c f) v e in
-    raise-at s t d w j c f (raising w (suc j) c f) v l e refl m (λ p. refl) (λ p. refl) (o .0, k)
+    raise-at s t d w j c f _ (raising w (suc j) c f) l e refl m (one-leaves w j (o .1)) (λ p. refl) (o .0, k)
 transition-kept s v (Transition.last {d} {w} {j} {c} {f} {t} l e k m) =
-    let z : (p : Words) → tally p (drop (suc j) (writeLabels w)) ≡ 0 = λ p. ap (tally p) (drop-of-length-le (writeLabels w) k) in
-    raise-at s t d w j c f idle v l e refl m (λ p. sym (z p)) (λ p. sym (z p)) tt
+    let o = fit-at s d (raising w j c f) v e in
+    let z : drop (suc j) (writeLabels w) ≡ [] = drop-of-length-le (writeLabels w) k in
+    raise-at s t d w j c f _ idle l e refl m (subst (Leaves w j (getD (writeLabels w) j [] ∷ [])) z (one-leaves w j (o .1))) (λ p. refl) tt
 transition-kept s v (Transition.abandoned-read {d} l e) = reader-at s d idle v l e refl tt (λ p. refl)
 transition-kept s v (Transition.abandoned-write {d} {w} {i} {t} l e m) =
     quiet-at s t d idle v l (λ p. let a = back-up (take i (writeLabels w)) (s .store) t m p in omega arith) (λ p. rw e refl) refl tt (λ p. rw e (let a = m .less p in omega arith))
+transition-kept s v (Transition.abandoned-raising {d} {w} {j} {c} {f} {t} l e m) = raise-at s t d w j c f _ idle l e refl m (all-leave w j) (λ p. refl) tt
 transition-kept s v (Transition.evicted-answer {i} l) = aside (record { move = cut-move s i; clients = refl; pendings = λ p. refl })
 transition-kept s v (Transition.evicted-node {t} l m) = aside (record { move = out-move s t m; clients = refl; pendings = m .keep })
 transition-kept s v (Transition.renewed i) = anew (record { idle = i; clients = refl; shape = refl; store = refl; filed = refl })
@@ -306,6 +308,29 @@ kept-move s (anew k) e = absurd (true≢false e)
 
 pub transition-move : (s : State) {c : Call} {a : Response} {t : State} → StateInv s → Transition s c a t → renews c ≡ false → Move s t
 transition-move s v o e = kept-move s (transition-kept s v o) e
+
+-- with every desk idle no label is marked
+pub idle-unmarked : (s : State) → StateInv s → ((d : ℕ) → s .clients d ≡ idle) → (p : Words) → pendingOf (s .store) p ≡ 0
+idle-unmarked s v i p = sym (v .held p) ∙ none-held (s .clients) p i
+
+-- and a label that is marked is one of a write at some desk
+holds-of : (x : Phase) (p : Words) → 0 < tally p (holds x) → (w : Write) × (phaseWork x ≡ some (writing w)) × In p (writeLabels w)
+unfolding holds tally phaseWork
+holds-of idle p l = absurd (omega arith)
+holds-of (looking q ns saw) p l = absurd (omega arith)
+holds-of (tabling q ns saw) p l = absurd (omega arith)
+holds-of (filing q ns v) p l = absurd (omega arith)
+holds-of (announcing w i) p l = (w, refl, in-take i (writeLabels w) (tally-pos p _ l))
+holds-of (raising w j c f) p l = (w, refl, in-drop j (writeLabels w) (tally-pos p _ l))
+
+pub marked-of : (s : State) → StateInv s → (p : Words) → 0 < pendingOf (s .store) p
+    → (d : ℕ) × (w : Write) × (phaseWork (s .clients d) ≡ some (writing w)) × In p (writeLabels w)
+unfolding held-of
+marked-of s v p l =
+    let h = v .held p in
+    let y = sumBelow-some 12 (λ d. tally p (holds (s .clients d))) (omega arith) in
+    let z = holds-of (s .clients (y .0)) p (y .2) in
+    (y .0, z .0, z .1, z .2)
 
 -- an opened hall
 pub opened-inv : (sh : Shape) → sh .columns ≤ maxColumns → StateInv (opened sh)

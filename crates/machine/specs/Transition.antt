@@ -7,7 +7,7 @@ use mathlib.Core.Bool.{Bool, true, false, _||_}
 use mathlib.Core.List.{List, [], _∷_, _++_}
 use Prim.Native.Nat.{ℕ, suc, _≤_, _<_}
 use lib.Dec.{ltb}
-use lib.ListN.{length, getD, take}
+use lib.ListN.{length, getD, take, drop}
 use Rattle.lists.specs.Lists.{In}
 use Rattle.query.specs.Shape.{narrow}
 use Rattle.rules.specs.Table.{effect, changes, noRoom}
@@ -65,6 +65,9 @@ pub data Transition (s : State) : Call → Response → State → Type 0 where
   abandoned-read : {d : ℕ} → d < maxClients → isReader (s .clients d) ≡ true → Transition s (abandon d) went (at-client s d idle)
   abandoned-write : {d : ℕ} {w : Write} {i : ℕ} {t : Store} → d < maxClients → s .clients d ≡ announcing w i → Retired false (take i (writeLabels w)) (s .store) t
       → Transition s (abandon d) went (at-client (with-store s t) d idle)
+  -- past its table step: "performs all remaining raises itself and reports the write's end as its last raise would have" (S-4)
+  abandoned-raising : {d : ℕ} {w : Write} {j : ℕ} {c f : Bool} {t : Store} → d < maxClients → s .clients d ≡ raising w j c f → Retired true (drop j (writeLabels w)) (s .store) t
+      → Transition s (abandon d) (write-end c f) (at-client (with-store s t) d idle)
   -- puttings out, renewals
   evicted-answer : {i : ℕ} → i < length (s .filed) → Transition s (evict-answer i) went (with-filed s (cut i (s .filed)))
   evicted-node : {i : ℕ} {t : Store} → i < length (s .store .nodes) → Grew (s .store) t → Transition s (evict-node i) went (with-store s t)

@@ -1,14 +1,14 @@
 -- Memories that a history leaves: they fit, and their state keeps the invariant and has headroom. On them no call returns 3, every step of a
 -- busy desk with room in the tray is accepted, and what a call leaves is such again. Leans on SoundCodes, Refinement and machine's
 -- Headroom, and on revisions' OperationsGo and RevisionBounds. Assumes nothing.
-use mathlib.Core.Path.{_≡_, refl, _∙_}
+use mathlib.Core.Path.{_≡_, refl, subst}
 use mathlib.Core.Option.{Option, none, some, IsSome}
-use mathlib.Core.Bool.{Bool, true, false, not, _&&_}
+use mathlib.Core.Bool.{Bool, true, false, not, _&&_, false≢true}
 use mathlib.Core.List.{List, [], _∷_}
 use Prim.Native.Nat.{ℕ, _+_, _-_, _≤_, _<_}
 use native.Mathlib.Omega.{arith}
 use lib.Dec.{eqb, ltb}
-use lib.ListN.{length, getD, take}
+use lib.ListN.{length, getD, length-drop}
 use borrow.Author.Tests.{ltb-true, ltb-false, eqb-true, eqb-false, eq-eqb}
 use Rattle.laws.proofs.TestLaws.{byTest, clash}
 use Rattle.query.specs.Shape.{narrow}
@@ -19,31 +19,31 @@ use Rattle.rules.specs.Work.{Ask, Value, Work, asking, writing, Write, readLabe
 use Rattle.rules.specs.Nodes.{Words, Store, ensured, announced, retired}
 use Rattle.rules.specs.Client.{Client, sawPending, foundFull, entryOf, isIdle}
 use Rattle.rules.specs.Memory.{Mem, storeIn, withStore, answersIn, renewed}
-use Rattle.rules.specs.Refusals.{columns, client, shape, stepCode, isCommitted, beginCode, abandonCode, evictAnswerCode, evictNodeCode, renewCode}
+use Rattle.rules.specs.Refusals.{columns, client, shape, stepCode, beginCode, abandonCode, evictAnswerCode, evictNodeCode, renewCode}
 use Rattle.rules.specs.Outcome.{Result, result, StepResult, resultWith, number}
 use Rattle.rules.specs.Steps.{nowAt, storeBack, answered, lookResult, fetchResult, tableResult, fileResult, readResult, announceResult, writeTableResult, endOf}
 use Rattle.rules.specs.Steps.{raiseResult, writeResult, progressOf, progress}
-use Rattle.rules.specs.Calls.{unless, beginResult, stepResult, releaseResult, abandonedOf, abandoned, abandonResult, evictAnswerResult, evictNodeResult, renewResult}
+use Rattle.rules.specs.Calls.{unless, beginResult, stepResult, pastTable, announcedLabels, labelsLeft, retireResult, abandonedWrite, abandonedOf, abandoned, abandonResult, evictAnswerResult, evictNodeResult, renewResult}
 use Rattle.rules.specs.History.{Call, begin, step, abandon, evictAnswer, evictNode, renew, callResult, isAccepted, untrayed}
 use Rattle.rules.specs.Sound.{Busy}
-use Rattle.rules.proofs.PassedChecks.{step-passed, abandon-passed, steps-before, evict-node-passed}
+use Rattle.rules.proofs.PassedChecks.{step-passed, abandon-passed, evict-node-passed}
 use Rattle.rules.proofs.WorkLaws.{read-label-wide, write-label-wide}
 use Rattle.revisions.specs.EffectiveRevision.{NoDup}
 use Rattle.revisions.proofs.NodeRows.{AllRows, Each}
 use Rattle.revisions.proofs.NodeOperations.{EnsuredOk, ensured-ok, AnnouncedOk, announced-ok, RetiredOk, retired-ok, evict-ok}
 use Rattle.revisions.proofs.RevisionBounds.{Below, BelowIn, below-more, ensured-bound, announced-bound, raised-bound, released-all-bound, evict-bound}
-use Rattle.revisions.proofs.OperationsGo.{ensured-some, announced-some, raised-some, released-some}
+use Rattle.revisions.proofs.OperationsGo.{ensured-some, announced-some, retired-some}
 use Rattle.machine.specs.Machine as machine
 use Rattle.machine.specs.Machine.{WriteFits, announcing, raising}
-use Rattle.machine.proofs.PendingLabels.{holds}
-use Rattle.machine.proofs.StateInv.{StateInv, transition-inv}
-use Rattle.machine.proofs.Headroom.{Headroom, liftAt, liftOf, Lifted, transition-headroom, few-marks, held-marked, raise-marked, raise-room, all-held, marks-held, held-few}
+use Rattle.machine.proofs.PendingLabels.{holds, Leaves, one-leaves, all-leave}
+use Rattle.machine.proofs.StateInv.{StateInv, fit-at, transition-inv}
+use Rattle.machine.proofs.Headroom.{Headroom, liftAt, liftAll, liftOf, Lifted, transition-headroom, few-marks, held-marked, raises-go, all-held, marks-held, held-few}
 use Rattle.refinement.proofs.Abstraction.{stateOf, callOf, Fits}
-use Rattle.refinement.proofs.ClientPhases.{fits-at, raising-phase}
+use Rattle.refinement.proofs.ClientPhases.{fits-at}
 use Rattle.refinement.proofs.MemoryReads.{length-nodes, store-with, rows-held}
-use Rattle.refinement.proofs.StepFrame.{stepsAt, client-at, announcing-at}
+use Rattle.refinement.proofs.StepFrame.{stepsAt, announcing-at, raising-at}
 use Rattle.refinement.proofs.Refinement.{refines}
-use Rattle.refinement.proofs.SoundCodes.{begin-sound, step-sound, abandon-sound, evict-answer-sound, evict-node-sound, renew-sound, step-taken}
+use Rattle.refinement.proofs.SoundCodes.{begin-sound, step-sound, abandon-sound, evict-answer-sound, evict-node-sound, renew-sound, step-taken, abandon-taken}
 
 pub record Lasting (m : Mem) : Type 0 where
   pub fits : Fits m
@@ -149,10 +149,12 @@ module _ (m : Mem) (g : Lasting m) (b n : ℕ) (low : Below b (storeIn narrow (m
   raise-goes tray d true ps (some t) i k l = let z = few-nodes m g in let y = k .2 in stored (endOf (client m d)) t _ tray (end-accepted (client m d)) refl (k .1) (omega arith) l
   raise-goes tray d false ps (some t) i k l = let z = few-nodes m g in let y = k .2 in stored Accepted t _ tray refl refl (k .1) (omega arith) l
 
-  release-goes : (d : ℕ) (ps : List Words) (o : Option Store) → IsSome o → RetiredOk false ps (nodesOf m) o → BelowIn b o → Went b n (untrayed (releaseResult m d o))
-  unfolding releaseResult untrayed nowAt storeBack isAccepted number
-  release-goes d ps none i k l = absurd i
-  release-goes d ps (some t) i k l = let z = few-nodes m g in let y = k .2 in stored Accepted t _ [] refl refl (k .1) (omega arith) (below-more t (omega arith) l)
+  -- marks taken off by an abandoning
+  retire-goes : (d : ℕ) (lift : Bool) (ps : List Words) (out : Outcome) (o : Option Store) → isAccepted (number out) ≡ true → IsSome o → RetiredOk lift ps (nodesOf m) o → BelowIn (b + n) o
+      → Went b n (untrayed (retireResult m d out o))
+  unfolding retireResult untrayed nowAt storeBack
+  retire-goes d lift ps out none a i k l = absurd i
+  retire-goes d lift ps out (some t) a i k l = let z = few-nodes m g in let y = k .2 in stored out t _ [] a refl (k .1) (omega arith) l
 
 -- ---- A step of a write: only a raise lifts
 module _ (m : Mem) (g : Lasting m) (b : ℕ) (low : Below b (storeIn narrow (m .nodes))) (tray : List ℕ) (d : ℕ) (h : d < maxClients)
@@ -175,18 +177,43 @@ module _ (m : Mem) (g : Lasting m) (b : ℕ) (low : Below b (storeIn narrow (m .
   abbrev raises : ℕ
   raises = stepsAt m d - (labels + 1)
 
-  raised-goes : {c f : Bool} → stateOf m .clients d ≡ raising w raises c f → IsSome (retired narrow true (getD (writeLabels w) raises [] ∷ []) (nodesOf m))
+  -- one of the raises that are left, or all of them
+  raised-goes : (ps rest : List Words) {c f : Bool} → stateOf m .clients d ≡ raising w raises c f → Leaves w raises ps rest → IsSome (retired narrow true ps (nodesOf m))
   unfolding stateOf
-  raised-goes e =
-      let p : Words = getD (writeLabels w) raises [] in
-      raised-some p (nodesOf m) (raise-marked (stateOf m) d w raises (g .inv) h e) (raise-room (stateOf m) d w raises p (g .inv) (g .room) h e)
+  raised-goes ps rest {c} {f} e lv =
+      let k = raises-go (stateOf m) d w raises c f ps rest (g .inv) (g .room) h e lv in
+      retired-some true ps (nodesOf m) (once m g) (rows-held m (g .fits)) (λ q. k q .0) (λ t q. k q .1)
 
   raising-goes : (isLast : Bool) {c f : Bool} → stateOf m .clients d ≡ raising w raises c f
       → Went b (liftAt (stateOf m .clients d)) (raiseResult m tray d isLast (retired narrow true (getD (writeLabels w) raises [] ∷ []) (nodesOf m)))
-  raising-goes isLast e =
-      let p : Words = getD (writeLabels w) raises [] in
-      rw e (raise-goes m g b 1 low tray d isLast (p ∷ []) _ (raised-goes e)
-      (retired-ok true (p ∷ []) (nodesOf m) (once m g) (rows-held m (g .fits))) (raised-bound (p ∷ []) b (nodesOf m) low))
+  raising-goes isLast {c} {f} e =
+      let ps : List Words = getD (writeLabels w) raises [] ∷ [] in
+      let o = fit-at (stateOf m) d (raising w raises c f) (g .inv) e .1 in
+      rw e (raise-goes m g b 1 low tray d isLast ps _ (raised-goes ps _ e (one-leaves w raises o))
+      (retired-ok true ps (nodesOf m) (once m g) (rows-held m (g .fits))) (raised-bound ps b (nodesOf m) low))
+
+  -- ---- Its abandoning: all raises that are left, or the marks taken back
+  raises-left-go : labels < stepsAt m d → Went b (liftAll (stateOf m .clients d)) (untrayed (retireResult m d (endOf (client m d)) (retired narrow true (labelsLeft w (stepsAt m d)) (nodesOf m))))
+  raises-left-go z =
+      let ps : List Words = labelsLeft w (stepsAt m d) in
+      let e = raising-at m d h y z in
+      let k = raised-bound ps b (nodesOf m) low in
+      rw e (retire-goes m g b (labels - raises) low d true ps _ _ (end-accepted m g b 0 low (client m d)) (raised-goes ps [] e (all-leave w raises))
+      (retired-ok true ps (nodesOf m) (once m g) (rows-held m (g .fits))) (subst (λ i. BelowIn (b + i) (retired narrow true ps (nodesOf m))) (length-drop raises (writeLabels w)) k))
+
+  release-goes : stepsAt m d ≤ labels → Went b (liftAll (stateOf m .clients d)) (untrayed (retireResult m d Accepted (retired narrow false (announcedLabels w (stepsAt m d)) (nodesOf m))))
+  unfolding stateOf holds isAccepted number
+  release-goes z =
+      let ps : List Words = announcedLabels w (stepsAt m d) in
+      let e = announcing-at m d h y z in
+      rw e (retire-goes m g b 0 low d false ps Accepted _ refl
+      (retired-some false ps (nodesOf m) (once m g) (rows-held m (g .fits)) (λ q. held-marked (stateOf m) d (announcing w (stepsAt m d)) q (g .inv) h e) (λ t. absurd (false≢true t)))
+      (retired-ok false ps (nodesOf m) (once m g) (rows-held m (g .fits))) (released-all-bound ps (b + 0) (nodesOf m) (below-more (nodesOf m) (omega arith) low)))
+
+  abandoned-write-goes : Went b (liftAll (stateOf m .clients d)) (untrayed (abandonedWrite m d w (stepsAt m d)))
+  unfolding abandonedWrite pastTable
+  abandoned-write-goes =
+      byTest (ltb labels (stepsAt m d)) (λ t. rw t (raises-left-go (ltb-true labels _ t))) (λ t. rw t (release-goes (ltb-false labels _ t)))
 
   write-goes : Went b (liftAt (stateOf m .clients d)) (writeResult m tray d w (stepsAt m d))
   unfolding writeResult writeTableResult nowAt isAccepted number
@@ -196,7 +223,7 @@ module _ (m : Mem) (g : Lasting m) (b : ℕ) (low : Below b (storeIn narrow (m .
       (λ t. rw t (mark-goes _ (ltb-true i labels t)))
       (λ t. let z = ltb-false i labels t in rw t (byTest (eqb i labels)
       (λ u. rw u (quiet m g b _ low Accepted _ tray refl refl))
-      (λ u. let v = eqb-false i labels u in rw u (raising-goes _ (client-at m d h ∙ raising-phase y (omega arith))))))
+      (λ u. let v = eqb-false i labels u in rw u (raising-goes _ (raising-at m d h y (omega arith))))))
 
 -- ---- A step
 progress-goes : (m : Mem) → Lasting m → (b : ℕ) → Below b (storeIn narrow (m .nodes)) → (tray : List ℕ) (d : ℕ) → d < maxClients → (w : Work)
@@ -241,22 +268,22 @@ step-passes m g tray d =
     (λ e. rw e (went-passed m (machine.step d) _ g (λ b low. taken-goes m g b low tray d (eqb-true (stepCode m tray d) 0 e))))
     (λ e. rw e (refused-passed m (machine.step d) (stepCode m tray d) tray (step-sound m (g .fits) tray d)))
 
--- an abandoning takes back marks that are there
+-- an abandoning takes off marks that are there
 abandoned-goes : (m : Mem) → Lasting m → (b : ℕ) → Below b (storeIn narrow (m .nodes)) → (d : ℕ) → d < maxClients → (w : Work) → Busy narrow (shape m) (client m d) w
-    → isCommitted (shape m) (client m d) ≡ false → Went b 0 (untrayed (abandonedOf m d w))
-unfolding abandonedOf untrayed nowAt isAccepted number stateOf holds
-abandoned-goes m g b low d h (asking x) y e = quiet m g b 0 low Accepted _ [] refl refl
-abandoned-goes m g b low d h (writing w) y e =
-    let ps : List Words = take (stepsAt m d) (writeLabels w) in
-    release-goes m g b 0 low d ps _
-    (released-some ps (nodesOf m) (once m g) (rows-held m (g .fits))
-    (λ q. held-marked (stateOf m) d (announcing w (stepsAt m d)) q (g .inv) h (announcing-at m d h y (steps-before m d w y e))))
-    (retired-ok false ps (nodesOf m) (once m g) (rows-held m (g .fits))) (released-all-bound ps b (nodesOf m) low)
+    → Went b (liftAll (stateOf m .clients d)) (untrayed (abandonedOf m d w))
+unfolding abandonedOf untrayed nowAt isAccepted number
+abandoned-goes m g b low d h (asking x) y = quiet m g b _ low Accepted _ [] refl refl
+abandoned-goes m g b low d h (writing w) y = abandoned-write-goes m g b low [] d h y
+
+abandoning-goes : (m : Mem) → Lasting m → (b : ℕ) → Below b (storeIn narrow (m .nodes)) → (d : ℕ) → abandonCode m d ≡ 0
+    → Went b (liftAll (stateOf m .clients d)) (untrayed (abandoned m d))
+unfolding abandoned
+abandoning-goes m g b low d e = let t = abandon-passed m d e in abandoned-goes m g b low d (t .1) _ (t .2)
 
 abandon-passes : (m : Mem) → Lasting m → (d : ℕ) → Passed m (machine.abandon d) (untrayed (abandonResult m d))
-unfolding abandonResult abandoned
+unfolding abandonResult
 abandon-passes m g d = unless-passed m _ (abandonCode m d) _ (abandon-sound m (g .fits) d) (λ e.
-    let t = abandon-passed m d e in went-passed m _ _ g (λ b low. abandoned-goes m g b low d (t .0 .1) _ (t .0 .2) (t .1)))
+    went-passed m _ _ g (λ b low. abandoning-goes m g b low d e))
 
 -- the nodes stay
 still-passes : (m : Mem) → Lasting m → (c : machine.Call) (t : Mem) → t .nodes ≡ m .nodes → Passed m c (untrayed (result Accepted t))
@@ -301,3 +328,10 @@ unfolding stepResult
 step-accepted m g tray d h l e =
     let z = step-taken m (g .fits) tray d h l e in
     rw (eq-eqb (stepCode m tray d) 0 z) (taken-goes m g (g .room .0) (unfold stateOf in g .room .1) tray d z .accepted)
+
+-- an abandoning of a busy desk goes through, whatever is under way there
+pub abandon-accepted : (m : Mem) → Lasting m → (d : ℕ) → d < maxClients → isIdle narrow (client m d) ≡ false → isAccepted (number (abandonResult m d .out)) ≡ true
+unfolding abandonResult unless untrayed
+abandon-accepted m g d l e =
+    let z = abandon-taken m (g .fits) d l e in
+    rw (eq-eqb (abandonCode m d) 0 z) (abandoning-goes m g (g .room .0) (unfold stateOf in g .room .1) d z .accepted)

@@ -3,11 +3,12 @@ use mathlib.Core.Path.{_≡_, refl, ap, _∙_}
 use mathlib.Core.Logic.{inl}
 use mathlib.Core.Bool.{Bool, true, false}
 use mathlib.Core.List.{List, []}
+use mathlib.Core.Option.{some}
 use Prim.Native.Nat.{ℕ, _+_, _<_}
 use native.Mathlib.Omega.{arith}
 use lib.Dec.{eqb, ltb, leb}
-use lib.ListN.{length, getD, take, length-map}
-use borrow.Author.Tests.{ltb-true}
+use lib.ListN.{length, getD, length-map}
+use borrow.Author.Tests.{ltb-true, ltb-false}
 use Rattle.lists.specs.Lists.{without}
 use Rattle.laws.proofs.TestLaws.{byTest}
 use Rattle.laws.proofs.ListLaws.{length-without}
@@ -17,23 +18,24 @@ use Rattle.query.specs.Encoding.{queryOf}
 use Rattle.query.specs.Shape.{Shape, narrow}
 use Rattle.query.proofs.EncodingLaws.{is-query-length}
 use Rattle.rules.specs.Layout.{maxClients, answerCountOffset, entryWidth}
+use Rattle.rules.specs.declared.Outcome.{Outcome}
 use Rattle.rules.specs.declared.Outcome.the-variants.{Accepted}
-use Rattle.rules.specs.Work.{writeLabels, Ask, Work, askOf, asking, deleteOf, insertOf, readLabels, readOf, workOf, writing, isWrite, Request}
+use Rattle.rules.specs.Work.{Write, writeLabels, Ask, Work, askOf, asking, deleteOf, insertOf, readLabels, readOf, workOf, writing, isWrite, Request}
 use Rattle.rules.specs.Work.{faultOf}
-use Rattle.rules.specs.Nodes.{store, evictNode}
+use Rattle.rules.specs.Nodes.{Words, Store, store, retired, evictNode}
 use Rattle.rules.specs.Answers.{Entry}
 use Rattle.rules.specs.Client.{sawPending, isIdle}
 use Rattle.rules.specs.Memory.{Mem, withFiled, storeIn, answersIn, withAnswers, renewed}
-use Rattle.rules.specs.Refusals.{columns, client, beginCode, abandonCode, evictAnswerCode, evictNodeCode, renewCode, shape, isCommitted}
+use Rattle.rules.specs.Refusals.{columns, client, beginCode, abandonCode, evictAnswerCode, evictNodeCode, renewCode, shape}
 use Rattle.rules.specs.Outcome.{result}
 use Rattle.rules.specs.Steps.{storeBack}
-use Rattle.rules.specs.Calls.{beginResult, releaseResult, abandoned, abandonResult, evictAnswerResult, evictNodeResult, renewResult, abandonedOf}
+use Rattle.rules.specs.Calls.{beginResult, pastTable, announcedLabels, labelsLeft, retireResult, abandonedWrite, abandoned, abandonResult, evictAnswerResult, evictNodeResult, renewResult, abandonedOf}
 use Rattle.rules.specs.History.{untrayed}
 use Rattle.rules.specs.Sound.{Busy}
-use Rattle.rules.proofs.PassedChecks.{Begins, begin-passed, abandon-passed, steps-before, evict-answer-passed, evict-node-passed, renew-passed}
+use Rattle.rules.proofs.PassedChecks.{Begins, begin-passed, abandon-passed, evict-answer-passed, evict-node-passed, renew-passed}
 use Rattle.rules.proofs.PassedChecks.{read-good, insert-good, delete-good}
 use Rattle.rules.proofs.WorkLaws.{target-insert, target-delete}
-use Rattle.revisions.specs.EffectiveRevision.{NoDup}
+use Rattle.revisions.specs.EffectiveRevision.{NoDup, Retired}
 use Rattle.revisions.proofs.NodeRows.{Each}
 use Rattle.revisions.proofs.NodeOperations.{evict-ok}
 use Rattle.machine.specs.Machine.{idle, State, begin, abandon, evict-answer, evict-node, renew, with-store, with-filed, cut, WorkFits, went}
@@ -46,7 +48,7 @@ use Rattle.refinement.proofs.StatesAfter.{After, Simulated, simulated, 
 use Rattle.refinement.proofs.RefusedCalls.{refused-simulated, unless-simulated, begin-coded, abandon-low, evict-answer-low, evict-node-low}
 use Rattle.refinement.proofs.RefusedCalls.{renew-low}
 use Rattle.refinement.proofs.AnswersRefined.{map-without, in-without}
-use Rattle.refinement.proofs.StepFrame.{stepsAt, entryAt, client-at, by-retired, announcing-at}
+use Rattle.refinement.proofs.StepFrame.{stepsAt, entryAt, client-at, by-retired, ended-simulated, announcing-at, raising-at}
 
 -- ---- Begins
 -- what a request asks or writes is of the hall
@@ -84,20 +86,32 @@ module _ (m : Mem) (f : Fits m) (once : NoDup (storeIn narrow (m .nodes) .nodes)
   unfolding busyPhase
   reader-at {x} b = rw (client-at m d low, busy-phase b) (reader-is (shape m) x (entryAt m d) (stepsAt m d) (sawPending (client m d)))
 
-  abandoned-simulated : (w : Work) → Busy narrow (shape m) (client m d) w → isCommitted (shape m) (client m d) ≡ false
-      → Simulated m (abandon d) (untrayed (abandonedOf m d w))
-  unfolding abandonedOf releaseResult untrayed responseIn stateOf
-  abandoned-simulated (asking x) b e = simulated Accepted [] (then-idle (as-it-was m f) d low) (steps-of.abandoned-read low (reader-at b))
-  abandoned-simulated (writing w) b e =
-      by-retired m f once false (take (stepsAt m d) (writeLabels w)) (λ o. Simulated m (abandon d) (untrayed (releaseResult m d o)))
-      (refused-simulated m (abandon d) 3 [] f (inl (omega arith)) (λ z. omega arith))
-      (λ t k a. simulated Accepted [] (then-idle a d low)
-      (steps-of.abandoned-write low (announcing-at m d low b (steps-before m d w b e)) k))
+  -- marks taken off, with a lift or without
+  retired-simulated : (lift : Bool) (ps : List Words) (o : Outcome)
+      → ((t : Store) → Retired lift ps (storeIn narrow (m .nodes)) t → After m (storeBack m t) (with-store (stateOf m) t) → Simulated m (abandon d) (untrayed (retireResult m d o (some t))))
+      → Simulated m (abandon d) (untrayed (retireResult m d o (retired narrow lift ps (storeIn narrow (m .nodes)))))
+  retired-simulated lift ps o h =
+      by-retired m f once lift ps (λ x. Simulated m (abandon d) (untrayed (retireResult m d o x)))
+      (unfold retireResult in unfold untrayed in refused-simulated m (abandon d) 3 [] f (inl (omega arith)) (λ z. omega arith)) h
+
+  writer-simulated : (w : Write) → Busy narrow (shape m) (client m d) (writing w) → Simulated m (abandon d) (untrayed (abandonedWrite m d w (stepsAt m d)))
+  unfolding abandonedWrite pastTable retireResult untrayed responseIn stateOf
+  writer-simulated w b =
+      byTest (ltb (length (writeLabels w)) (stepsAt m d))
+      (λ e. rw e (retired-simulated true (labelsLeft w (stepsAt m d)) _ (λ t k a.
+      ended-simulated [] d a low (steps-of.abandoned-raising low (raising-at m d low b (ltb-true _ _ e)) k))))
+      (λ e. rw e (retired-simulated false (announcedLabels w (stepsAt m d)) _ (λ t k a.
+      simulated Accepted [] (then-idle a d low) (steps-of.abandoned-write low (announcing-at m d low b (ltb-false _ _ e)) k))))
+
+  abandoned-simulated : (w : Work) → Busy narrow (shape m) (client m d) w → Simulated m (abandon d) (untrayed (abandonedOf m d w))
+  unfolding abandonedOf untrayed responseIn
+  abandoned-simulated (asking x) b = simulated Accepted [] (then-idle (as-it-was m f) d low) (steps-of.abandoned-read low (reader-at b))
+  abandoned-simulated (writing w) b = writer-simulated w b
 
 pub abandon-simulated : (m : Mem) (d : ℕ) → Fits m → NoDup (storeIn narrow (m .nodes) .nodes) → Simulated m (abandon d) (untrayed (abandonResult m d))
 unfolding abandonResult abandoned
 abandon-simulated m d f once = unless-simulated m _ (abandonCode m d) _ f (inl (abandon-low m d)) (λ e.
-    let t = abandon-passed m d e in abandoned-simulated m f once d (t .0 .1) _ (t .0 .2) (t .1))
+    let t = abandon-passed m d e in abandoned-simulated m f once d (t .1) _ (t .2))
 
 -- ---- Puttings out
 evicted-simulated : (m : Mem) (i : ℕ) → Fits m → i < getD (m .answers) answerCountOffset 0
@@ -127,7 +141,7 @@ evict-node-simulated m i f once = unless-simulated m _ (evictNodeCode m i) _ f (
     simulated Accepted [] (at-store m f (evictNode narrow i (storeIn narrow (m .nodes))) (k .1) (λ l. let z = k .2 in omega arith)) (steps-of.evicted-node (omega arith) (k .0)))
 
 -- ---- Renewals
-all-idle : (m : Mem) → ((d : ℕ) → d < maxClients → isIdle narrow (client m d) ≡ true) → (d : ℕ) → stateOf m .clients d ≡ idle
+pub all-idle : (m : Mem) → ((d : ℕ) → d < maxClients → isIdle narrow (client m d) ≡ true) → (d : ℕ) → stateOf m .clients d ≡ idle
 unfolding stateOf phasesOf
 all-idle m h d = byTest (ltb d maxClients) (λ t. rw t (idle-at (shape m) (client m d) (h d (ltb-true d maxClients t)))) (λ t. rw t)
 

@@ -19,7 +19,7 @@ use Rattle.rules.specs.Nodes.{isWorn, pending}
 use Rattle.rules.specs.Client.{isIdle, isBad}
 use Rattle.rules.specs.Memory.{Mem, storeIn}
 use Rattle.rules.specs.Outcome.{Result, result, resultWith}
-use Rattle.rules.specs.Refusals.{client, isShort, isUnsound, noClient, isCommitted, allIdle, atClient, beginCode, stepCode, abandonCode}
+use Rattle.rules.specs.Refusals.{client, isShort, isUnsound, noClient, allIdle, atClient, beginCode, stepCode, abandonCode}
 use Rattle.rules.specs.Refusals.{evictAnswerCode, evictNodeCode, renewCode, shape}
 use Rattle.rules.specs.Calls.{unless}
 use Rattle.rules.specs.History.{isAccepted, untrayed}
@@ -34,7 +34,7 @@ use Rattle.refinement.proofs.StatesAfter.{Simulated, simulated, as-it-w
 abbrev pub IsCode : ℕ → Type 0
 IsCode n = (n ≤ refusedOccupied) ⊎ (n ≡ refusedReversed)
 
-turned-down : (n : ℕ) → IsCode n → (n ≡ 0 → ⊥) → isAccepted n ≡ false
+pub turned-down : (n : ℕ) → IsCode n → (n ≡ 0 → ⊥) → isAccepted n ≡ false
 unfolding isAccepted
 turned-down n (inl l) ne = rw (ne-eqb n 0 ne, ne-eqb n 12 (λ e. omega arith), ne-eqb n 13 (λ e. omega arith))
 turned-down n (inr l) ne = rw l
@@ -97,9 +97,7 @@ step-low m tray d = low (isShort narrow (shape m) m || ltb (length tray) trayLea
 
 pub abandon-low : (m : Mem) (d : ℕ) → abandonCode m d ≤ 11
 unfolding abandonCode
-abandon-low m d =
-    low (isShort narrow (shape m) m) 1 _ (omega arith) (low (not (eqb (atClient m d) 0)) (atClient m d) _ (atClient-low m d)
-    (low (isCommitted (shape m) (client m d)) 7 0 (omega arith) (omega arith)))
+abandon-low m d = low (isShort narrow (shape m) m) 1 _ (omega arith) (atClient-low m d)
 
 -- ---- Puttings out, renewals
 pub evict-answer-low : (m : Mem) (i : ℕ) → evictAnswerCode m i ≤ 11

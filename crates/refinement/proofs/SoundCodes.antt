@@ -18,7 +18,7 @@ use Rattle.rules.specs.Nodes.{isWorn, pending}
 use Rattle.rules.specs.Answers.{Entry, isLong, someLong}
 use Rattle.rules.specs.Client.{isIdle, isBad}
 use Rattle.rules.specs.Memory.{Mem, storeIn, answersIn}
-use Rattle.rules.specs.Refusals.{columns, client, isShort, badColumns, isUnsound, noClient, isCommitted, allIdle, atClient, beginCode, stepCode, abandonCode}
+use Rattle.rules.specs.Refusals.{columns, client, isShort, badColumns, isUnsound, noClient, allIdle, atClient, beginCode, stepCode, abandonCode}
 use Rattle.rules.specs.Refusals.{evictAnswerCode, evictNodeCode, renewCode, shape}
 use Rattle.rules.specs.Work.{Request, faultOf, isWrite}
 use Rattle.refinement.proofs.Abstraction.{Fits}
@@ -95,9 +95,7 @@ step-sound m f tray d = other (isShort narrow (shape m) m || ltb (length tray) t
 
 pub abandon-sound : (m : Mem) → Fits m → (d : ℕ) → abandonCode m d ≡ 3 → ⊥
 unfolding abandonCode
-abandon-sound m f d =
-    other (isShort narrow (shape m) m) 1 _ (λ e. omega arith) (other (not (eqb (atClient m d) 0)) (atClient m d) _ (at-sound m f d)
-    (other (isCommitted (shape m) (client m d)) 7 0 (λ e. omega arith) (λ e. omega arith)))
+abandon-sound m f d = other (isShort narrow (shape m) m) 1 _ (λ e. omega arith) (at-sound m f d)
 
 pub evict-answer-sound : (m : Mem) → Fits m → (i : ℕ) → evictAnswerCode m i ≡ 3 → ⊥
 unfolding evictAnswerCode
@@ -117,8 +115,15 @@ unfolding renewCode
 renew-sound m f =
     other (isShort narrow (shape m) m) 1 _ (λ e. omega arith) (unmet (isUnsound m) 3 _ (sound m f) (other (not (allIdle m)) 11 0 (λ e. omega arith) (λ e. omega arith)))
 
--- ---- A step at a busy desk, with room in the tray
+-- ---- A step at a busy desk, with room in the tray; an abandoning of a busy desk
+busy-taken : (m : Mem) → Fits m → (d : ℕ) → d < maxClients → isIdle narrow (client m d) ≡ false → atClient m d ≡ 0
+unfolding atClient noClient
+busy-taken m f d l e = rw (sound m f, lt-leb maxClients d l, f .sound d l, e) refl
+
 pub step-taken : (m : Mem) → Fits m → (tray : List ℕ) (d : ℕ) → trayLeast ≤ length tray → d < maxClients → isIdle narrow (client m d) ≡ false → stepCode m tray d ≡ 0
-unfolding stepCode atClient noClient
-step-taken m f tray d h l e =
-    rw (not-short m f, le-ltb (length tray) trayLeast h, sound m f, lt-leb maxClients d l, f .sound d l, e) refl
+unfolding stepCode
+step-taken m f tray d h l e = rw (not-short m f, le-ltb (length tray) trayLeast h) (busy-taken m f d l e)
+
+pub abandon-taken : (m : Mem) → Fits m → (d : ℕ) → d < maxClients → isIdle narrow (client m d) ≡ false → abandonCode m d ≡ 0
+unfolding abandonCode
+abandon-taken m f d l e = rw (not-short m f) (busy-taken m f d l e)

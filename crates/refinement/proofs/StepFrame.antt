@@ -3,7 +3,7 @@ use mathlib.Core.Path.{_≡_, refl, sym, _∙_}
 use mathlib.Core.Option.{Option, none, some}
 use mathlib.Core.Bool.{Bool, true, false}
 use mathlib.Core.List.{List}
-use Prim.Native.Nat.{ℕ, _*_, _≤_, _<_}
+use Prim.Native.Nat.{ℕ, _+_, _-_, _*_, _≤_, _<_}
 use native.Mathlib.Omega.{arith}
 use lib.ListN.{length, drop, length-drop}
 use lib.Seq.{length-take-le}
@@ -16,21 +16,23 @@ use Rattle.rules.specs.Layout.{maxClients, listOffset, entryWidth}
 use Rattle.rules.specs.declared.Outcome.the-variants.{Answered}
 use Rattle.rules.specs.Work.{Value, Write, writing, writeLabels}
 use Rattle.rules.specs.Answers.{Entry, lengthIn, isCount, isLong, listIn, valueIn}
-use Rattle.rules.specs.Client.{steps, entryOf, isIdle, workAt}
+use Rattle.rules.specs.Client.{Client, steps, didChange, foundFull, entryOf, isIdle, workAt}
+use Rattle.rules.specs.Client as rules-client
 use Rattle.rules.specs.Memory.{Mem, storeIn}
 use Rattle.rules.specs.Refusals.{client, shape}
 use Rattle.rules.specs.Nodes.{Words, Store, retired}
-use Rattle.rules.specs.Steps.{storeBack}
+use Rattle.rules.specs.Outcome.{resultWith}
+use Rattle.rules.specs.Steps.{nowAt, storeBack, endOf}
 use Rattle.rules.specs.Steps as rules-steps
 use Rattle.rules.specs.Sound.{Busy}
 use Rattle.rules.proofs.ClientLaws.{busy-of, client-wide, list-room, list-short}
 use Rattle.rules.proofs.HoldingLaws.{Whole}
 use Rattle.revisions.specs.EffectiveRevision.{NoDup, Retired}
 use Rattle.revisions.proofs.NodeOperations.{RetiredOk, retired-ok}
-use Rattle.machine.specs.Machine.{idle, State, Call, answered, at-client, with-store, announcing}
+use Rattle.machine.specs.Machine.{idle, State, Call, answered, write-end, at-client, with-store, announcing, raising}
 use Rattle.machine.specs.Transition.{Transition}
 use Rattle.refinement.proofs.Abstraction.{phaseOf, phasesOf, stateOf, said, responseIn, countsAt, Fits}
-use Rattle.refinement.proofs.ClientPhases.{announcing-phase}
+use Rattle.refinement.proofs.ClientPhases.{announcing-phase, raising-phase}
 use Rattle.refinement.proofs.MemoryReads.{rows-held}
 use Rattle.refinement.proofs.StatesAfter.{After, Simulated, simulated, at-store, then-idle}
 
@@ -58,6 +60,11 @@ pub announcing-at : (m : Mem) (d : ℕ) {w : Write} → d < maxClients → Busy 
     → stateOf m .clients d ≡ announcing w (stepsAt m d)
 announcing-at m d low b h = client-at m d low ∙ announcing-phase b h
 
+-- and past it, by the raises that it has made
+pub raising-at : (m : Mem) (d : ℕ) {w : Write} → d < maxClients → Busy narrow (shape m) (client m d) (writing w) → length (writeLabels w) < stepsAt m d
+    → stateOf m .clients d ≡ raising w (stepsAt m d - (length (writeLabels w) + 1)) (didChange (client m d)) (foundFull (client m d))
+raising-at m d low b h = client-at m d low ∙ raising-phase b h
+
 -- ---- Marks taken off, or a refusal
 pub by-retired : (m : Mem) → Fits m → NoDup (storeIn narrow (m .nodes) .nodes) → (lift : Bool) (ps : List Words) (P : Option Store → Type 0) → P none
     → ((t : Store) → Retired lift ps (storeIn narrow (m .nodes)) t → After m (storeBack m t) (with-store (stateOf m) t) → P (some t))
@@ -68,6 +75,17 @@ by-retired m f once lift ps P z s =
     go : (o : Option Store) → RetiredOk lift ps (storeIn narrow (m .nodes)) o → P o
     go none k = z
     go (some t) k = s t (k .0) (at-store m f t (k .1) (λ l. let e = k .2 in omega arith))
+
+-- ---- A write's end, by its last raise or by an abandoning
+end-is : (sh : Shape) (counts : Bool) (tray : List ℕ) (c : Client) → responseIn sh counts tray (endOf c) ≡ write-end (didChange c) (foundFull c)
+unfolding responseIn endOf write-end
+end-is sh counts tray c = byTest (foundFull c) (λ e. rw e) (λ e. rw e)
+
+pub ended-simulated : {m n : Mem} {s : State} {c : Call} (tray : List ℕ) (d : ℕ) → After m n s → d < maxClients
+    → Transition (stateOf m) c (write-end (didChange (client m d)) (foundFull (client m d))) (at-client s d idle)
+    → Simulated m c (resultWith (endOf (client m d)) (nowAt n d (rules-client.idle narrow)) tray)
+ended-simulated {m} {c = c} tray d a h y =
+    simulated (endOf (client m d)) tray (then-idle a d h) (rw (end-is (shape m) (countsAt m c) tray (client m d)) y)
 
 -- ---- An answer
 -- what the tray says of what was written there

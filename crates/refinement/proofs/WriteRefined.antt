@@ -1,5 +1,5 @@
 -- Each step of a write is a step of the machine: mark, table, raise. Leans on StepFrame and PhaseSteps. Assumes nothing.
-use mathlib.Core.Path.{_≡_, refl, _∙_}
+use mathlib.Core.Path.{_≡_, refl}
 use mathlib.Core.Logic.{inl}
 use mathlib.Core.Option.{Option, none, some}
 use mathlib.Core.Bool.{Bool, true, false}
@@ -16,24 +16,23 @@ use Rattle.rules.specs.declared.Outcome.the-variants.{Accepted}
 use Rattle.rules.specs.Table.{Table, effect, changes, noRoom, Change}
 use Rattle.rules.specs.Work.{Write, writeLabels, writing, stepsInAll}
 use Rattle.rules.specs.Nodes.{Store, retired}
-use Rattle.rules.specs.Client.{didChange, foundFull}
 use Rattle.rules.specs.Memory.{Mem, recordsIn, storeIn}
 use Rattle.rules.specs.Refusals.{shape, columns, client}
-use Rattle.rules.specs.Steps.{storeBack, announceResult, writeTableResult, endOf, raiseResult, writeResult}
+use Rattle.rules.specs.Steps.{storeBack, announceResult, writeTableResult, raiseResult, writeResult}
 use Rattle.rules.specs.Sound.{Busy}
 use Rattle.rules.proofs.WorkLaws.{write-label-wide}
 use Rattle.records.proofs.RecordWrites.{of-width, effect-wide, effect-few}
 use Rattle.revisions.specs.EffectiveRevision.{NoDup, Retired}
 use Rattle.revisions.proofs.NodeOperations.{AnnouncedOk, announced-ok}
-use Rattle.machine.specs.Machine.{idle, step, write-end, at-client, with-store, WriteFits, raising}
+use Rattle.machine.specs.Machine.{step, with-store, WriteFits}
 use Rattle.machine.specs.Transition as transition
-use Rattle.refinement.proofs.Abstraction.{stateOf, responseIn, countsAt, Fits}
-use Rattle.refinement.proofs.ClientPhases.{fits-at, raising-phase}
+use Rattle.refinement.proofs.Abstraction.{stateOf, responseIn, Fits}
+use Rattle.refinement.proofs.ClientPhases.{fits-at}
 use Rattle.refinement.proofs.PhaseSteps.{announced-left, wrote-left, raised-left}
 use Rattle.refinement.proofs.MemoryReads.{length-records, records-held, rows-held}
-use Rattle.refinement.proofs.StatesAfter.{After, Simulated, simulated, at-store, at-table, then-now, then-idle}
+use Rattle.refinement.proofs.StatesAfter.{After, Simulated, simulated, at-store, at-table, then-now}
 use Rattle.refinement.proofs.RefusedCalls.{refused-simulated}
-use Rattle.refinement.proofs.StepFrame.{stepsAt, client-at, by-retired, announcing-at}
+use Rattle.refinement.proofs.StepFrame.{stepsAt, by-retired, ended-simulated, announcing-at, raising-at}
 
 module _ (m : Mem) (f : Fits m) (once : NoDup (storeIn narrow (m .nodes) .nodes)) (tray : List ℕ) (d : ℕ) (low : d < maxClients)
     {w : Write} (b : Busy narrow (shape m) (client m d) (writing w)) where
@@ -72,30 +71,20 @@ module _ (m : Mem) (f : Fits m) (once : NoDup (storeIn narrow (m .nodes) .nodes)
       (transition.wrote low (announcing-at m d low b (omega arith)) (omega arith))
 
   -- ---- A raise
-  -- what the last one returns
-  end-is : responseIn (shape m) (countsAt m (step d)) tray (endOf (client m d)) ≡ write-end (didChange (client m d)) (foundFull (client m d))
-  unfolding responseIn endOf write-end
-  end-is = byTest (foundFull (client m d)) (λ e. rw e) (λ e. rw e)
-
-  raising-at : labels < stepsAt m d → stateOf m .clients d ≡ raising w raises (didChange (client m d)) (foundFull (client m d))
-  raising-at h = client-at m d low ∙ raising-phase b h
-
   raised-simulated : (isLast : Bool) (t : Store) → labels < stepsAt m d → eqb (stepsAt m d) (labels + labels) ≡ isLast
       → Retired true (getD (writeLabels w) raises [] ∷ []) (storeIn narrow (m .nodes)) t
       → After m (storeBack m t) (with-store (stateOf m) t) → Simulated m (step d) (raiseResult m tray d isLast (some t))
   unfolding raiseResult responseIn stateOf stepsInAll
   raised-simulated true t h l k a =
       let z = eqb-true (stepsAt m d) (labels + labels) l in
-      let y : transition.Transition (stateOf m) (step d) (write-end (didChange (client m d)) (foundFull (client m d))) (at-client (with-store (stateOf m) t) d idle) =
-      transition.last low (raising-at h) (omega arith) k in
-      simulated (endOf (client m d)) tray (then-idle a d low) (rw end-is y)
+      ended-simulated tray d a low (transition.last low (raising-at m d low b h) (omega arith) k)
   raised-simulated false t h l k a =
       let z = eqb-false (stepsAt m d) (labels + labels) l in
       let y = b .going in
       let j : suc raises < labels = omega arith in
       simulated Accepted tray
       (then-now a d low (raised-left b h j))
-      (transition.raised low (raising-at h) j k)
+      (transition.raised low (raising-at m d low b h) j k)
 
   raise-simulated : (isLast : Bool) → labels < stepsAt m d → eqb (stepsAt m d) (labels + labels) ≡ isLast
       → Simulated m (step d) (raiseResult m tray d isLast (retired narrow true (getD (writeLabels w) raises [] ∷ []) (storeIn narrow (m .nodes))))

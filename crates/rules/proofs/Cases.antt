@@ -1,13 +1,13 @@
--- Document 01, "On each side of a line": cases 1 to 12 as rows of one table, S-1's counts beside case 10 and S-3's ranges, with one computed test. Rows
--- 1 to 5 are those that query states about nodes; 6 to 12 are played on memories of full size that held other numbers before the opening.
--- Leans on the rules' definitions. Assumes nothing.
+-- Document 01, "On each side of a line": cases 1 to 12 as rows of one table, S-1's counts beside case 10, S-3's ranges and S-4's abandoned writes,
+-- with one computed test. Rows 1 to 5 are those that query states about nodes; 6 to 12 are played on memories of full size that held other numbers
+-- before the opening. Leans on the rules' definitions. Assumes nothing.
 use mathlib.Core.Bool.{Bool, true, false, not, _&&_}
 use mathlib.Core.List.{List, [], _∷_, _++_}
 use Prim.Native.Nat.{ℕ, zero, suc, _+_, _-_}
 use lib.Dec.{T, eqb}
 use lib.ListN.{length, getD, take, drop, set, replicate}
 use Rattle.lists.specs.Lists.{same, before, keep, place, without, allBelow, listed, padded, written, rows, flat, entriesIn, withEntries}
-use Rattle.query.specs.Query.{admits, lies, naming, pick, readNode, writeNode, named, readCount, writeCount, readNodes, writeNodes, value, Label}
+use Rattle.query.specs.Query.{admits, lies, naming, pick, readNode, writeNode, named, readCount, writeCount, readNodes, writeNodes, value, wildcard, Label}
 use Rattle.query.specs.Sheet.{turned, looks, sheetEntry, wildcardsIn, wildcardsOf}
 use Rattle.query.specs.Encoding.{columnOf, queryOf, wellMarked, isQuery, namesAll, recordOf, termValue, columnValue, tag, tags, labelWords, marks, keyWords, columnsIn, queryIn, countsIn, countKey, rangeOf, rangeIn, rangeKey, wantedKey, unranged, bareKey}
 use Rattle.query.specs.declared.Range.the-variants.{None, Between}
@@ -22,11 +22,11 @@ use Rattle.rules.specs.Nodes.{labelIn, pending, revision, withPending, w
 use Rattle.rules.specs.Answers.{keyIn, lengthIn, revisionIn, isCount, mostIn, listIn, valueIn, hasKeyOf, atLeast, serves, fetchPlace, keyPlace, filed, isLong, someLong}
 use Rattle.rules.specs.Client.{kind, steps, sawPending, didChange, foundFull, entryOf, idle, isIdle, begun, workAt, isBad, stepped, flag, noted, holding, wrote}
 use Rattle.rules.specs.Memory.{Mem, mem, withTable, withNodes, recordsIn, withRecords, storeIn, withStore, answersIn, withAnswers, clientIn, withClient, cleared, opened, renewed}
-use Rattle.rules.specs.Refusals.{columns, client, isShort, badColumns, isUnsound, noClient, isCommitted, allIdle, openCode, beginCode, atClient, stepCode, abandonCode, evictAnswerCode, evictNodeCode, renewCode}
+use Rattle.rules.specs.Refusals.{columns, client, isShort, badColumns, isUnsound, noClient, allIdle, openCode, beginCode, atClient, stepCode, abandonCode, evictAnswerCode, evictNodeCode, renewCode}
 use Rattle.rules.specs.Steps.{nowAt, storeBack, answered, lookResult, fetchResult, tableResult, fileResult, readResult, announceResult, writeTableResult, endOf, raiseResult, writeResult, progressOf, progress}
-use Rattle.rules.specs.Calls.{unless, openResult, beginResult, stepResult, releaseResult, abandonedOf, abandoned, abandonResult, evictAnswerResult, evictNodeResult, renewResult}
+use Rattle.rules.specs.Calls.{unless, openResult, beginResult, stepResult, pastTable, retireResult, abandonedWrite, abandonedOf, abandoned, abandonResult, evictAnswerResult, evictNodeResult, renewResult}
 use Rattle.query.specs.Shape.{narrow}
-use Rattle.rules.specs.History.{Call, begin, step, evictNode as dropNode, untrayed, callResult}
+use Rattle.rules.specs.History.{Call, begin, step, abandon, evictNode as dropNode, untrayed, callResult}
 
 -- memories that held other numbers, as an opening with k columns leaves them
 abbrev fresh : ℕ → Mem
@@ -115,6 +115,7 @@ pub data Line : Type 0 where
   table-count : ℕ → Line
   floor-is : ℕ → Line
   node-is : ℕ → Label → ℕ → Line
+  marks-at : ℕ → ℕ → Line
 
 abbrev plays : Mem → List Line → Bool
 plays m [] = true
@@ -126,6 +127,7 @@ plays m (table-count n ∷ ls) = eqb (length (recordsIn 1 (m .table))) n && play
 plays m (node-is i p x ∷ ls) =
     let n = getD (storeIn narrow (m .nodes) .nodes) i [] in
     same (labelIn n) (labelWords p) && (eqb (revision narrow n) x && plays m ls)
+plays m (marks-at i x ∷ ls) = eqb (pending (getD (storeIn narrow (m .nodes) .nodes) i [])) x && plays m ls
 plays m (floor-is f ∷ ls) = eqb (storeIn narrow (m .nodes) .floor) f && plays m ls
 
 pub data Row : Type 0 where
@@ -251,6 +253,31 @@ case-range-refused = from (fresh 1)
     (does (begin 12 (readOf false (Between 0 9 4) (0 ∷ 0 ∷ []))) (refuses 14) ∷ does (begin 12 (readOf false (Between 1 9 4) (0 ∷ 0 ∷ []))) (refuses 2)
     ∷ does (begin 12 (readOf true (Between 0 9 4) (one 5))) (refuses 2) ∷ does (begin 12 (readOf true (Between 0 4 9) (0 ∷ 0 ∷ []))) (refuses 4) ∷ [])
 
+-- S-4, "Abandoning after the table step now performs all remaining raises itself and reports the write's end as its last raise would have":
+-- insert 5 abandoned after its two marks, which are taken back; after its table step, with both raises left; with the last one left, when 5 is
+-- there already; and a full one. A read of 5 is then answered from file at its second time: no mark has stayed
+abbrev begins5 : ℕ → List Line
+begins5 n = does (begin 1 (insertOf (one 5))) goesOn ∷ going 1 n
+
+abbrev both-nodes : ℕ → List Line
+both-nodes x = node-is 0 (value 5 ∷ []) x ∷ marks-at 0 0 ∷ node-is 1 (wildcard ∷ []) x ∷ marks-at 1 0 ∷ []
+
+abbrev read-twice : List ℕ → List Line
+read-twice l = (read5 0 ∷ going 0 4) ++ (does (step 0 tray) (answers l false) ∷ read5 0 ∷ going 0 2) ++ (does (step 0 tray) (answers l true) ∷ [])
+
+abbrev case-abandoned-marking : Row
+case-abandoned-marking = from (fresh 1) (begins5 2 ++ (marks-at 0 1 ∷ marks-at 1 1 ∷ does (abandon 1) goesOn ∷ both-nodes 1) ++ read-twice [])
+
+abbrev case-abandoned-raising : Row
+case-abandoned-raising = from (fresh 1) (begins5 3 ++ (does (abandon 1) (ends true) ∷ both-nodes 2) ++ read-twice (5 ∷ []) ++ (does (abandon 1) (refuses 6) ∷ []))
+
+abbrev case-abandoned-last : Row
+case-abandoned-last = from (fresh 1) (inserts5 1 true ++ begins5 4 ++ (marks-at 0 0 ∷ marks-at 1 1 ∷ does (abandon 1) (ends false) ∷ both-nodes 3) ++ read-twice (5 ∷ []))
+
+abbrev case-abandoned-full : Row
+case-abandoned-full = from (stocked (numbers 2048))
+    ((does (begin 1 (insertOf (one 5000))) goesOn ∷ going 1 3) ++ (does (abandon 1) full ∷ table-count 2048 ∷ marks-at 0 0 ∷ marks-at 1 0 ∷ does (abandon 1) (refuses 6) ∷ []))
+
 -- 11. Table of 2,048: inserting one already there ends unchanged; a new one gives 13.
 abbrev case-11 : Row
 case-11 = from (stocked (numbers 2048))
@@ -271,8 +298,8 @@ case-12-floor =
 abbrev pub cases : List Row
 cases =
     stated nodes.cases
-    ++ (case-6 ∷ case-7 ∷ case-8 ∷ case-9 ∷ case-10-at ∷ case-10-above ∷ case-count-above ∷ case-count-beside ∷ case-list-beside ∷ case-range ∷ case-range-whole ∷ case-range-equal ∷ case-range-refused ∷ case-11 ∷ case-12-at ∷ case-12-above ∷ case-12-floor)
+    ++ (case-6 ∷ case-7 ∷ case-8 ∷ case-9 ∷ case-10-at ∷ case-10-above ∷ case-count-above ∷ case-count-beside ∷ case-list-beside ∷ case-range ∷ case-range-whole ∷ case-range-equal ∷ case-range-refused ∷ case-abandoned-marking ∷ case-abandoned-raising ∷ case-abandoned-last ∷ case-abandoned-full ∷ case-11 ∷ case-12-at ∷ case-12-above ∷ case-12-floor)
 
 pub cases-1-to-12 : T (all cases)
-unfolding readNodes writeNodes sheetEntry turned looks wildcardsOf wildcardsIn same keep place without allBelow listed padded written rows flat entriesIn withEntries admits lies naming pick readNode writeNode named readCount writeCount columnOf queryOf wellMarked isQuery namesAll recordOf termValue columnValue tag tags labelWords marks keyWords columnsIn queryIn countsIn countKey rangeOf rangeIn rangeKey wantedKey unranged bareKey range.within isNamed isRange isReversed listOf before has putIn target isFull outside effect noRoom changes labelIn pending revision withPending withRevision hasLabel nodePlace isPresent nodeOf withNode evictNode added isFree oldestFree makeRoom addedIn ensured announcedIn announced isPending released lifted mayRetire retired isHigh isWorn keyIn lengthIn revisionIn isCount mostIn listIn valueIn hasKeyOf atLeast serves fetchPlace keyPlace filed isLong someLong kind steps sawPending didChange foundFull entryOf idle isIdle begun workAt isBad stepped flag noted holding wrote recordsIn withRecords storeIn withStore answersIn withAnswers clientIn withClient cleared opened renewed columns client isShort badColumns isUnsound noClient isCommitted allIdle openCode beginCode atClient stepCode abandonCode evictAnswerCode evictNodeCode renewCode nowAt storeBack answered lookResult fetchResult tableResult fileResult readResult announceResult writeTableResult endOf raiseResult writeResult progressOf progress unless openResult beginResult stepResult releaseResult abandonedOf abandoned abandonResult evictAnswerResult evictNodeResult renewResult untrayed callResult ofRecords ofNumber askFault listWithin valueOf mayAnswer readLabels askKey askIn writeLabels changeKind kindOf keyOf changeIn writeIn workIn workFault stepsInAll isWrite askOf workOf faultOf
+unfolding readNodes writeNodes sheetEntry turned looks wildcardsOf wildcardsIn same keep place without allBelow listed padded written rows flat entriesIn withEntries admits lies naming pick readNode writeNode named readCount writeCount columnOf queryOf wellMarked isQuery namesAll recordOf termValue columnValue tag tags labelWords marks keyWords columnsIn queryIn countsIn countKey rangeOf rangeIn rangeKey wantedKey unranged bareKey range.within isNamed isRange isReversed listOf before has putIn target isFull outside effect noRoom changes labelIn pending revision withPending withRevision hasLabel nodePlace isPresent nodeOf withNode evictNode added isFree oldestFree makeRoom addedIn ensured announcedIn announced isPending released lifted mayRetire retired isHigh isWorn keyIn lengthIn revisionIn isCount mostIn listIn valueIn hasKeyOf atLeast serves fetchPlace keyPlace filed isLong someLong kind steps sawPending didChange foundFull entryOf idle isIdle begun workAt isBad stepped flag noted holding wrote recordsIn withRecords storeIn withStore answersIn withAnswers clientIn withClient cleared opened renewed columns client isShort badColumns isUnsound noClient allIdle openCode beginCode atClient stepCode abandonCode evictAnswerCode evictNodeCode renewCode nowAt storeBack answered lookResult fetchResult tableResult fileResult readResult announceResult writeTableResult endOf raiseResult writeResult progressOf progress unless openResult beginResult stepResult pastTable retireResult abandonedWrite abandonedOf abandoned abandonResult evictAnswerResult evictNodeResult renewResult untrayed callResult ofRecords ofNumber askFault listWithin valueOf mayAnswer readLabels askKey askIn writeLabels changeKind kindOf keyOf changeIn writeIn workIn workFault stepsInAll isWrite askOf workOf faultOf
 cases-1-to-12 = tt

@@ -133,7 +133,7 @@ unfolding kindOf workAt workIn askAt
 asks-at {sh} {c} {x} b = let z = (rw (eq-eqb (kind c) reads (b .kind)) at (b .work)) in cc
 
 -- what a writer writes; it is no reader
-pub no-reader : {sh : Shape} {c : Client} {w : Write} → Busy narrow sh c (writing w) → kind c ≡ reads → ⊥
+no-reader : {sh : Shape} {c : Client} {w : Write} → Busy narrow sh c (writing w) → kind c ≡ reads → ⊥
 unfolding kindOf
 no-reader {sh} {c} {w} b e = let k = change-known (w .change) in let z = b .kind in omega (arith, k .0)
 
@@ -166,7 +166,7 @@ pub looks-at : (sh : Shape) (c : Client) → length (readLabels (askAt sh c)) �
 unfolding askAt askIn queryAt
 looks-at sh c = length-readLabels (askAt sh c)
 
-pub announcements-at : (sh : Shape) (c : Client) → length (writeLabels (writeAt sh c)) ≡ writeCount (queryAt sh c)
+announcements-at : (sh : Shape) (c : Client) → length (writeLabels (writeAt sh c)) ≡ writeCount (queryAt sh c)
 unfolding writeAt writeIn queryAt writeCount
 announcements-at sh c =
     length-writeLabels (writeAt sh c)

@@ -6,7 +6,7 @@ use mathlib.Core.List.{List, []}
 use Prim.Native.Nat.{ℕ, _≤_, _<_}
 use native.Mathlib.Omega.{arith}
 use lib.Dec.{eqb, ltb, leb}
-use borrow.Author.Tests.{ltb-false, leb-false, eqb-true, eqb-false, ne-eqb, not-false}
+use borrow.Author.Tests.{ltb-false, leb-false, eqb-true, eqb-false, not-false}
 use lib.ListN.{length, getD}
 use Rattle.laws.proofs.ListLaws.{below-at, and-left, and-right}
 use Rattle.laws.proofs.TestLaws.{or-false, passed}
@@ -15,15 +15,15 @@ use Rattle.query.specs.declared.Range.{Range}
 use Rattle.rules.specs.Layout.{recordCountOffset, nodeCountOffset, answerCountOffset, maxRecords, maxNodes, maxAnswers, maxClients, tableLeast, nodesLeast, answersLeast, clientsLeast, trayLeast}
 use Rattle.rules.specs.Nodes.{isWorn, pending}
 use Rattle.rules.specs.Answers.{someLong}
-use Rattle.rules.specs.Client.{kind, steps, isIdle, isBad, writeAt, workAt}
-use Rattle.rules.specs.Work.{Write, writing, writeLabels, Request, readOf, insertOf, deleteOf, askFault, askOf, isWrite, faultOf}
-use Rattle.rules.specs.Layout.{reads, refusedColumns}
+use Rattle.rules.specs.Client.{isIdle, isBad, workAt}
+use Rattle.rules.specs.Work.{Request, readOf, insertOf, deleteOf, askFault, askOf, isWrite, faultOf}
+use Rattle.rules.specs.Layout.{refusedColumns}
 use Rattle.rules.specs.Memory.{Mem, storeIn, answersIn}
 use Rattle.query.specs.Shape.{Shape, narrow, shapeOf, maxColumns}
 use Rattle.rules.specs.Sound.{Long, Sound, Busy}
-use Rattle.rules.proofs.ClientLaws.{busy-of, client-wide, no-reader, writes-at}
+use Rattle.rules.proofs.ClientLaws.{busy-of, client-wide}
 use Rattle.rules.specs.Refusals.{shape}
-use Rattle.rules.specs.Refusals.{columns, client, isShort, badColumns, isUnsound, noClient, isCommitted, allIdle, openCode, atClient, beginCode, stepCode, abandonCode, evictAnswerCode, evictNodeCode, renewCode}
+use Rattle.rules.specs.Refusals.{columns, client, isShort, badColumns, isUnsound, noClient, allIdle, openCode, atClient, beginCode, stepCode, abandonCode, evictAnswerCode, evictNodeCode, renewCode}
 
 -- ---- Memories that are long
 pub long : (sh : Shape) (m : Mem) → isShort narrow sh m ≡ false → Long m
@@ -75,7 +75,7 @@ client-passed d e = leb-false _ _ e
 abbrev pub AtWork : Mem → ℕ → Type 0
 AtWork m d = Sound m × (d < maxClients) × Busy narrow (shape m) (client m d) (workAt (shape m) (client m d))
 
-pub busy-passed : (m : Mem) (d : ℕ) → isShort narrow (shape m) m ≡ false → atClient m d ≡ 0 → AtWork m d
+busy-passed : (m : Mem) (d : ℕ) → isShort narrow (shape m) m ≡ false → atClient m d ≡ 0 → AtWork m d
 unfolding atClient client
 busy-passed m d s e =
     let p3 = passed (isUnsound m) 2 _ e in
@@ -104,6 +104,12 @@ step-passed m tray d e =
     let q = or-false _ _ (p .0) in
     (ltb-false _ _ (q .1), busy-passed m d (q .0) (p .1))
 
+pub abandon-passed : (m : Mem) (d : ℕ) → abandonCode m d ≡ 0 → AtWork m d
+unfolding abandonCode
+abandon-passed m d e =
+    let p = passed (isShort narrow (shape m) m) 0 _ e in
+    busy-passed m d (p .0) (p .1)
+
 -- a code that stood for another was passed over
 code-passed : (n rest : ℕ) → cond (not (eqb n 0)) n rest ≡ 0 → (n ≡ 0) × (rest ≡ 0)
 code-passed n rest e = go (eqb n 0) refl e
@@ -111,19 +117,6 @@ code-passed n rest e = go (eqb n 0) refl e
     go : (b : Bool) → eqb n 0 ≡ b → cond (not b) n rest ≡ 0 → (n ≡ 0) × (rest ≡ 0)
     go true q f = (eqb-true n 0 q, f)
     go false q f = absurd (eqb-false n 0 q f)
-
-pub abandon-passed : (m : Mem) (d : ℕ) → abandonCode m d ≡ 0 → AtWork m d × (isCommitted (shape m) (client m d) ≡ false)
-unfolding abandonCode
-abandon-passed m d e =
-    let p = passed (isShort narrow (shape m) m) 0 _ e in
-    let q = code-passed (atClient m d) _ (p .1) in
-    (busy-passed m d (p .0) (q .0), passed (isCommitted (shape m) (client m d)) 6 0 (q .1) .0)
-
--- a write that is not committed has made no more steps than it has nodes to mark
-pub steps-before : (m : Mem) (d : ℕ) (w : Write) → Busy narrow (shape m) (client m d) (writing w) → isCommitted (shape m) (client m d) ≡ false
-    → steps (client m d) ≤ length (writeLabels w)
-unfolding isCommitted
-steps-before m d w b e = rw (← writes-at b) (ltb-false _ _ (rw (ne-eqb (kind (client m d)) reads (no-reader b)) at e))
 
 -- ---- Begins
 pub record Begins (m : Mem) (d : ℕ) (r : Request) : Type 0 where

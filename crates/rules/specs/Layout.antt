@@ -203,9 +203,9 @@ refusedTaken = 5
 abbrev pub refusedIdle : ℕ
 refusedIdle = 6
 
--- 7 committed
-abbrev pub refusedCommitted : ℕ
-refusedCommitted = 7
+-- 7 is not among them: "7 is given no longer" (S-4), and the number stays unused
+abbrev pub notGiven : ℕ
+notGiven = 7
 
 -- 8 no entry
 abbrev pub refusedNoEntry : ℕ

@@ -113,8 +113,8 @@ lifted f lift p s = cond lift (withNode p (withRevision f (nodeOf p s) (revision
 unfoldable pub mayRetire : Form → Bool → Words → Store → Bool
 mayRetire f lift p s = isPending p s && (not lift || ltb (revision f (nodeOf p s)) (maxRevision f))
 
--- A mark taken off the node of each label, one after another, or none where one cannot be. With a lift, of one label, it is the *raise*:
--- "counter up by one, marks down by one"; without, of as many as there are, "takes back the marks it has set".
+-- A mark taken off the node of each label, one after another, or none where one cannot be. With a lift it is the *raise*, "counter up by one,
+-- marks down by one": of one label a step's, of all that are left an abandoning's (S-4). Without, it "takes back the marks it has set".
 unfoldable pub retired : Form → Bool → List Words → Store → Option Store
 retired f lift [] s = some s
 retired f lift (p ∷ ps) s = cond (mayRetire f lift p s) (retired f lift ps (released p (lifted f lift p s))) none

@@ -10,12 +10,12 @@ use lib.ListN.{length, getD}
 use Rattle.lists.specs.Lists.{allBelow}
 use Rattle.query.specs.Shape.{Form, narrow, Shape, shapeOf, maxColumns}
 use Rattle.rules.specs.Layout.{maxRecords, maxNodes, maxAnswers, maxClients, tableLeast, nodesLeast, answersLeast, clientsLeast, trayLeast}
-use Rattle.rules.specs.Layout.{recordCountOffset, nodeCountOffset, answerCountOffset, reads, refusedShort, refusedColumns, refusedUnsound, refusedNoClient}
-use Rattle.rules.specs.Layout.{refusedTaken, refusedIdle, refusedCommitted, refusedNoEntry, refusedPending, refusedWorn, refusedOccupied}
-use Rattle.rules.specs.Work.{writeLabels, Request, isWrite, faultOf}
+use Rattle.rules.specs.Layout.{recordCountOffset, nodeCountOffset, answerCountOffset, refusedShort, refusedColumns, refusedUnsound, refusedNoClient}
+use Rattle.rules.specs.Layout.{refusedTaken, refusedIdle, refusedNoEntry, refusedPending, refusedWorn, refusedOccupied}
+use Rattle.rules.specs.Work.{Request, isWrite, faultOf}
 use Rattle.rules.specs.Nodes.{isWorn, pending}
 use Rattle.rules.specs.Answers.{someLong}
-use Rattle.rules.specs.Client.{Client, kind, steps, isIdle, isBad, writeAt}
+use Rattle.rules.specs.Client.{Client, isIdle, isBad}
 use Rattle.rules.specs.Memory.{Mem, formIn, shapeIn, clientIn, storeIn, answersIn}
 
 -- the hall's form and shape as the desks memory tells them, and its k
@@ -54,10 +54,6 @@ isUnsound m =
 unfoldable pub noClient : ℕ → Bool
 noClient d = leb maxClients d
 
--- 7 committed: "abandon of a write after its table step"
-unfoldable pub isCommitted : Shape → Client → Bool
-isCommitted sh c = not (eqb (kind c) reads) && ltb (length (writeLabels (writeAt sh c))) (steps c)
-
 -- 11 occupied: "renew with a busy desk"
 unfoldable pub allIdle : Mem → Bool
 allIdle m = allBelow maxClients (λ d. isIdle (form m) (client m d))
@@ -91,10 +87,9 @@ atClient m d =
 unfoldable pub stepCode : Mem → List ℕ → ℕ → ℕ
 stepCode m tray d = refuse (isShort (form m) (shape m) m || ltb (length tray) trayLeast) refusedShort (atClient m d)
 
+-- "7 is given no longer" (S-4): an abandoning has no number of its own
 unfoldable pub abandonCode : Mem → ℕ → ℕ
-abandonCode m d =
-    refuse (isShort (form m) (shape m) m) refusedShort
-    (refuse (not (eqb (atClient m d) 0)) (atClient m d) (refuse (isCommitted (shape m) (client m d)) refusedCommitted 0))
+abandonCode m d = refuse (isShort (form m) (shape m) m) refusedShort (atClient m d)
 
 -- "8 no entry: place to put out not below the count"; "9 marked: node to put out has marks"
 unfoldable pub evictAnswerCode : Mem → ℕ → ℕ

@@ -81,7 +81,8 @@ writeTableResult m tray d w =
     (nowAt (withTable m (withRecords (columns m) (m .table) (effect w (recordsIn (columns m) (m .table))))) d
     (wrote (changes w (recordsIn (columns m) (m .table))) (noRoom w (recordsIn (columns m) (m .table))) (client m d))) tray
 
--- "The last raise ends the write and says whether the table changed."; 13 is "given at the last raise"
+-- "The last raise ends the write and says whether the table changed."; 13 is "given at the last raise". An abandoning after the table step
+-- reports the same (Calls; S-4)
 unfoldable pub endOf : Client → Outcome
 endOf c = cond (foundFull c) Full (Ended (didChange c))
 

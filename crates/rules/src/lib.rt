@@ -2,7 +2,7 @@
 
 // What a call answers with. specs/Outcome.antt gives the paper's number, count and flags of each.
 pub enum Outcome {
-    // 1 to 11, or 14: turned down, no memory altered.
+    // 1 to 11 but 7, or 14: turned down, no memory altered.
     Refused(u32),
     // 0: accepted, and nothing has ended.
     Accepted,

@@ -1,8 +1,8 @@
 -- What a step's refusals and an abandoning's have ruled out once none applies, for the callers: that a client which is no reader is a
--- writer, and that its next step or the taking back of its marks is the call's. Leans on rules, clients and table. Assumes nothing.
+-- writer, and that its next step or its abandoning is the call's. Leans on rules, clients and table. Assumes nothing.
 use mathlib.Core.Path.{_≡_, _∙_}
 use mathlib.Core.List.{List}
-use Prim.Native.Nat.{ℕ, _≤_}
+use Prim.Native.Nat.{ℕ}
 use native.Mathlib.Omega.{arith}
 use borrow.Author.Tests.{eq-eqb, ne-eqb}
 use Rattle.query.specs.Shape.{narrow}
@@ -14,11 +14,11 @@ use Rattle.rules.specs.Refusals.{shape, client, stepCode, abandonCode}
 use Rattle.rules.specs.Sound.{Sound}
 use Rattle.rules.specs.Steps.{progressOf, progress}
 use Rattle.rules.specs.Calls.{unless, stepResult, abandonedOf, abandoned, abandonResult}
-use Rattle.rules.proofs.PassedChecks.{AtWork, step-passed, abandon-passed, steps-before}
+use Rattle.rules.proofs.PassedChecks.{AtWork, step-passed, abandon-passed}
 use Rattle.table.specs.TableContracts
 use Rattle.clients.specs.declared.Held.{Held}
 use Rattle.clients.specs.ClientContracts.{IsHeld, Writer, writtenAt}
-use Rattle.writing.specs.WriteContracts.{stepAt, countAt, stepOf, backOf}
+use Rattle.writing.specs.WriteContracts.{stepOf, abandonOf}
 
 -- h is what was read of the client
 -- the table has as many columns as were read
@@ -51,13 +51,8 @@ module _ (m : Mem) (d : ℕ) (h : Held) (i : IsHeld h (m .clients) d) (x : h .ki
 
   module _ (e : abandonCode m d ≡ 0) where
     pub gives-up : Writer h (m .clients) d
-    gives-up = writer-at (abandon-passed m d e .0)
+    gives-up = writer-at (abandon-passed m d e)
 
-    -- it has not come to its table step
-    pub before-table : stepAt (m .clients) d ≤ countAt (m .clients) d
-    unfolding client
-    before-table = steps-before m d (writtenAt (m .clients) d) (gives-up .busy) (abandon-passed m d e .1)
-
-    pub back-due : backOf m d ≡ abandonResult m d
+    pub abandon-due : abandonOf m d ≡ abandonResult m d
     unfolding abandonResult unless abandoned abandonedOf client
-    back-due = rw (eq-eqb (abandonCode m d) 0 e, writes)
+    abandon-due = rw (eq-eqb (abandonCode m d) 0 e, writes)

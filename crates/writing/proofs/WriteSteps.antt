@@ -1,4 +1,4 @@
--- Laws of a write's steps: what is known of a writer, and what each step leaves, in the terms of the code.
+-- Laws of a write's steps and of its abandoning: what is known of a writer, and what each leaves, in the terms of the code.
 -- Leans on rules and on the laws of clients, nodes, table and columns. Assumes nothing.
 use mathlib.Core.Path.{_≡_, refl, sym, ap, _∙_}
 use mathlib.Core.Bool.{Bool, true, false, cond, not}
@@ -7,8 +7,8 @@ use mathlib.Core.Option.{Option, some}
 use Prim.Native.Nat.{ℕ, zero, suc, _+_, _-_, _^_, _≤_, _<_}
 use native.Mathlib.Omega.{arith}
 use lib.Dec.{eqb}
-use lib.ListN.{length, getD, take, drop, length-map}
-use lib.Seq.{drop-cons, take-take}
+use lib.ListN.{length, getD, take, drop, length-map, length-drop}
+use lib.Seq.{drop-cons, take-take, take-all}
 use borrow.Author.Tests.{eq-eqb, ne-eqb, lt-ltb, le-ltb}
 use Rattle.lists.specs.Lists.{listed, padded}
 use Rattle.laws.proofs.ListLaws.{same-eq, take-padded}
@@ -30,7 +30,7 @@ use Rattle.rules.specs.Memory.{shapeIn, Mem, mem, recordsIn, withRecords, store
 use Rattle.rules.specs.Outcome.{result, resultWith}
 use Rattle.rules.specs.Refusals.{client}
 use Rattle.rules.specs.Steps.{nowAt, storeBack, announceResult, writeTableResult, endOf, raiseResult, writeResult}
-use Rattle.rules.specs.Calls.{releaseResult}
+use Rattle.rules.specs.Calls.{pastTable, announcedLabels, labelsLeft, retireResult, abandonedWrite}
 use Rattle.rules.proofs.ClientLaws.{busy-key, announcement-count-of}
 use Rattle.columns.specs.ColumnContracts.{four}
 use Rattle.columns.proofs.ColumnLoops.{four-back}
@@ -83,7 +83,7 @@ record-in sh key l e =
     ∙ key-record (queryIn sh key) (omega arith)
 
 -- ---- what is known of a writer
--- a raise, with the label of its node, and whether it is the last
+-- after its table step: the raise that is due, with the label of its node, and whether it is the last; and all that are left, with their labels
 pub record Raise (h : Held) (s : List ℕ) (d count : ℕ) : Type 0 where
   pub past : countAt s d < stepAt s d
   pub small : stepAt s d ≤ maxList
@@ -92,11 +92,14 @@ pub record Raise (h : Held) (s : List ℕ) (d count : ℕ) : Type 0 where
   pub fits : h .steps - (count + 1) + 1 ≤ writeCount (heldQuery h)
   pub label : labelsFrom (heldQuery h) (h .steps - (count + 1)) 1 ≡ getD (labelsAt s d) (stepAt s d - (countAt s d + 1)) [] ∷ []
   pub last : eqb (h .steps) (count + count) ≡ eqb (stepAt s d) (countAt s d + countAt s d)
+  pub due : h .steps - (count + 1) ≤ count
+  pub all-fit : h .steps - (count + 1) + (count - (h .steps - (count + 1))) ≤ writeCount (heldQuery h)
+  pub labels : labelsFrom (heldQuery h) (h .steps - (count + 1)) (count - (h .steps - (count + 1))) ≡ labelsLeft (writtenAt s d) (stepAt s d)
 
--- a taking back, with the labels of the nodes that are marked
+-- before it: a taking back, with the labels of the nodes that are marked
 pub record Release (h : Held) (s : List ℕ) (d : ℕ) : Type 0 where
   pub fits : 0 + h .steps ≤ writeCount (heldQuery h)
-  pub labels : labelsFrom (heldQuery h) 0 (h .steps) ≡ take (stepAt s d) (labelsAt s d)
+  pub labels : labelsFrom (heldQuery h) 0 (h .steps) ≡ announcedLabels (writtenAt s d) (stepAt s d)
 
 module _ {h : Held} {s : List ℕ} {d : ℕ} (w : Writer h s d) where
   -- it has not made its last step yet
@@ -127,6 +130,12 @@ module _ {h : Held} {s : List ℕ} {d : ℕ} (w : Writer h s d) where
   unfolding labelsFrom
   labels-held i n l = listed-part (labelAt (heldQuery h)) (labelsAt s d) [] (writer-label w) i n l
 
+  -- those from number i on are the rest of them
+  labels-left : (i : ℕ) → i ≤ countAt s d → labelsFrom (heldQuery h) i (countAt s d - i) ≡ drop i (labelsAt s d)
+  labels-left i l =
+      let n : length (drop i (labelsAt s d)) ≡ countAt s d - i = length-drop i (labelsAt s d) in
+      labels-held i (countAt s d - i) (omega arith) ∙ take-all (countAt s d - i) (drop i (labelsAt s d)) (omega arith)
+
   -- the label of the mark that is due
   pub announce-label : (p : Words) → p ≡ labelAt (heldQuery h) (h .steps) → stepAt s d < countAt s d → p ≡ getD (labelsAt s d) (stepAt s d) []
   announce-label p g l = g ∙ ap (labelAt (heldQuery h)) (w .held .steps) ∙ writer-label w (stepAt s d) l
@@ -148,6 +157,9 @@ module _ {h : Held} {s : List ℕ} {d : ℕ} (w : Writer h s d) where
         fits = omega arith;
         label = rw (e, c) (labels-held i 1 (omega arith) ∙ ap (take 1) (drop-cons (labelsAt s d) i [] j));
         last = rw (e, c);
+        due = omega arith;
+        all-fit = omega arith;
+        labels = rw (e, c) (labels-left i (omega arith));
       }
 
   pub release-read : stepAt s d ≤ countAt s d → Release h s d
@@ -218,27 +230,40 @@ module _ (t n a s y : List ℕ) (d : ℕ) (w : Write) (i : ℕ) (b : Bool) (u : 
         let r = ap (λ (l : List Words). retired narrow true l (storeIn narrow n)) (sym e) ∙ x .is in
         raise-stored t n a s y d w i u (x .store) v h r (x .mem) last o m l
 
--- ---- the taking back
-back-stored : (t n a s : List ℕ) (d : ℕ) (o : Option Store) (u : List ℕ) (st : Store) (v : List ℕ) → o ≡ some st → u ≡ withStore narrow n st
-    → v ≡ withClient narrow s d (idle narrow) → result Accepted (mem t u a v) ≡ releaseResult (mem t n a s) d o
-unfolding releaseResult nowAt storeBack
-back-stored t n a s d o u st v e f l = rw (e, f, l)
+-- ---- the abandoning
+-- marks are taken off the nodes of some labels, and the client is idle: with and without a lift, and with any outcome
+off-stored : (t n a s : List ℕ) (d : ℕ) (o : Outcome) (r : Option Store) (u : List ℕ) (st : Store) (v : List ℕ) → r ≡ some st → u ≡ withStore narrow n st
+    → v ≡ withClient narrow s d (idle narrow) → result o (mem t u a v) ≡ retireResult (mem t n a s) d o r
+unfolding retireResult nowAt storeBack
+off-stored t n a s d o r u st v e f l = rw (e, f, l)
 
 module _
-    (t n a s : List ℕ) (d : ℕ) (b : Bool) (u : List ℕ) (ps qs : List Words) (e : ps ≡ qs)
-    (g : attempt b u ≡ tried n (retired narrow false ps (storeIn narrow n))) where
-  pub back-refused : b ≡ false
-      → result (Refused 3) (mem t u a s) ≡ releaseResult (mem t n a s) d (retired narrow false qs (storeIn narrow n))
-  unfolding releaseResult
-  back-refused z =
-      let x = went-not n (retired narrow false ps (storeIn narrow n)) u (rw z at g) in
+    (t n a s : List ℕ) (d : ℕ) (lift b : Bool) (u : List ℕ) (ps qs : List Words) (e : ps ≡ qs)
+    (g : attempt b u ≡ tried n (retired narrow lift ps (storeIn narrow n))) (o : Outcome) where
+  pub off-refused : b ≡ false
+      → result (Refused 3) (mem t u a s) ≡ retireResult (mem t n a s) d o (retired narrow lift qs (storeIn narrow n))
+  unfolding retireResult
+  off-refused z =
+      let x = went-not n (retired narrow lift ps (storeIn narrow n)) u (rw z at g) in
       rw (← e, x .0, x .1)
 
-  pub back-done : b ≡ true → (v : List ℕ) → v ≡ withClient narrow s d (idle narrow)
-      → result Accepted (mem t u a v) ≡ releaseResult (mem t n a s) d (retired narrow false qs (storeIn narrow n))
-  back-done z v l =
-      let x : Went n (retired narrow false ps (storeIn narrow n)) u = went-well n _ u (rw z at g) in
-      rw (← e) (back-stored t n a s d (retired narrow false ps (storeIn narrow n)) u (x .store) v (x .is) (x .mem) l)
+  pub off-done : b ≡ true → (r : Outcome) (v : List ℕ) → (r ≡ o) × (v ≡ withClient narrow s d (idle narrow))
+      → result r (mem t u a v) ≡ retireResult (mem t n a s) d o (retired narrow lift qs (storeIn narrow n))
+  off-done z r v l =
+      let x : Went n (retired narrow lift ps (storeIn narrow n)) u = went-well n _ u (rw z at g) in
+      rw (← e, l .0) (off-stored t n a s d o (retired narrow lift ps (storeIn narrow n)) u (x .store) v (x .is) (x .mem) (l .1))
+
+-- before the table step the marks are taken back, after it the raises that are left are made
+module _ (m : Mem) (d : ℕ) (w : Write) (i : ℕ) where
+  pub abandon-before : i ≤ length (writeLabels w)
+      → retireResult m d Accepted (retired narrow false (announcedLabels w i) (storeIn narrow (m .nodes))) ≡ abandonedWrite m d w i
+  unfolding abandonedWrite pastTable
+  abandon-before h = rw (le-ltb (length (writeLabels w)) i h)
+
+  pub abandon-past : length (writeLabels w) < i
+      → retireResult m d (endOf (clientIn narrow (m .clients) d)) (retired narrow true (labelsLeft w i) (storeIn narrow (m .nodes))) ≡ abandonedWrite m d w i
+  unfolding abandonedWrite pastTable client
+  abandon-past h = rw (lt-ltb (length (writeLabels w)) i h)
 
 pub table-done : (t n a s y : List ℕ) (d k : ℕ) (w : Write) (c : Change) (i : ℕ) (x v : List ℕ) (r : Report) → i ≡ length (writeLabels w)
     → k ≡ shapeIn s .columns → c ≡ w .change → (r ≡ reported c (recordsIn k t)) × (x ≡ withRecords k t (effect c (recordsIn k t)))

@@ -21,7 +21,7 @@ use Rattle.rules.specs.Client.{Client, steps, idle, stepped}
 use Rattle.rules.specs.Memory.{Mem, clientIn, storeIn}
 use Rattle.rules.specs.Outcome.{Result, StepResult}
 use Rattle.rules.specs.Steps.{writeResult, endOf}
-use Rattle.rules.specs.Calls.{releaseResult}
+use Rattle.rules.specs.Calls.{announcedLabels, labelsLeft, retireResult, abandonedWrite}
 use Rattle.nodes.specs.NodeContracts.{nodeAt, retiredAt}
 use Rattle.clients.specs.declared.Held.{Held}
 use Rattle.clients.specs.ClientContracts.{heldQuery, writtenAt}
@@ -41,9 +41,18 @@ countAt s d = length (labelsAt s d)
 abbrev pub stepOf : Mem → List ℕ → ℕ → StepResult
 stepOf m tray d = writeResult m tray d (writtenAt (m .clients) d) (stepAt (m .clients) d)
 
--- what the taking back of its marks leaves
+-- what the taking back of its marks leaves; and what the raises that are left leave, all at once (S-4)
 abbrev pub backOf : Mem → ℕ → Result
-backOf m d = releaseResult m d (retired narrow false (take (stepAt (m .clients) d) (labelsAt (m .clients) d)) (storeIn narrow (m .nodes)))
+backOf m d = retireResult m d Accepted (retired narrow false (announcedLabels (writtenAt (m .clients) d) (stepAt (m .clients) d)) (storeIn narrow (m .nodes)))
+
+abbrev pub raisedOf : Mem → ℕ → Result
+raisedOf m d =
+    retireResult m d (endOf (clientIn narrow (m .clients) d))
+    (retired narrow true (labelsLeft (writtenAt (m .clients) d) (stepAt (m .clients) d)) (storeIn narrow (m .nodes)))
+
+-- what its abandoning leaves: the one before its table step, the other after it
+abbrev pub abandonOf : Mem → ℕ → Result
+abandonOf m d = abandonedWrite m d (writtenAt (m .clients) d) (stepAt (m .clients) d)
 
 -- what a write does to the table, by what was read of its client
 unfoldable pub heldChange : Held → Change

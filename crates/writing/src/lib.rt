@@ -1,7 +1,7 @@
-// The steps of a write at its client: a mark for each of its nodes, the table, a raise for each; and the taking back of its marks.
-// A raise and a taking back are the same removal of marks, with a lift and without: both call `retire`.
-// h is what the check has read of the client. The rules stand in rules (Steps, Calls), what a function takes for granted in
-// specs/WriteContracts.antt.
+// The steps of a write at its client: a mark for each of its nodes, the table, a raise for each; and its abandoning, which takes back its
+// marks before the table step, and after it makes the raises that are left. A raise, the raises that are left and a taking back are the same
+// removal of marks, with a lift or without: all three call `retire`. h is what the check has read of the client. The rules stand in rules
+// (Steps, Calls), what a function takes for granted in specs/WriteContracts.antt.
 use clients::Held;
 use hall::Hall;
 ghost use mathlib.Core.Path.{_≡_};
@@ -19,7 +19,7 @@ ghost use Rattle.nodes.specs.NodeContracts;
 ghost use Rattle.clients.specs.ClientContracts;
 ghost use Rattle.clients.specs.ClientContracts.{Writer};
 ghost use Rattle.table.specs.TableContracts;
-ghost use Rattle.writing.specs.WriteContracts.{stepAt, countAt, stepOf, backOf, heldChange, reported, raiseEnd, raiseLeft};
+ghost use Rattle.writing.specs.WriteContracts.{stepAt, countAt, stepOf, backOf, raisedOf, abandonOf, heldChange, reported, raiseEnd, raiseLeft};
 use rules::Outcome;
 use table::Inserted;
 
@@ -167,9 +167,9 @@ pub fn write_step(
     raise_step(nodes, clients, d, h)
 }
 
-// ---- The taking back of marks
+// ---- Abandonings
 // Takes back the marks of a write before its table step; the client is idle then. Refused where one of them is not there.
-pub fn release_all(nodes: &mut [u32], clients: &mut [u32], d: usize, h: Held) -> Outcome
+fn release_all(nodes: &mut [u32], clients: &mut [u32], d: usize, h: Held) -> Outcome
     requires { ⌜ Writer h (now clients) d ⌝ }
     requires { ⌜ NodeContracts.Fit (now nodes) ⌝ }
     requires { ⌜ stepAt (now clients) d ≤ countAt (now clients) d ⌝ }
@@ -180,4 +180,33 @@ pub fn release_all(nodes: &mut [u32], clients: &mut [u32], d: usize, h: Held) ->
     }
     clients::set_idle(clients, d);
     Outcome::Accepted
+}
+
+// Makes all raises that are left of a write after its table step: the write ends as its last raise would have ended it. Refused where one of
+// their nodes is missing, has no pending write or cannot be raised.
+fn raise_all(nodes: &mut [u32], clients: &mut [u32], d: usize, h: Held) -> Outcome
+    requires { ⌜ Writer h (now clients) d ⌝ }
+    requires { ⌜ NodeContracts.Fit (now nodes) ⌝ }
+    requires { ⌜ countAt (now clients) d < stepAt (now clients) d ⌝ }
+    ensures { λ r. ⌜ ((t a : List ℕ) → result r (mem t (now (nodes .exit)) a (now (clients .exit))) ≡ raisedOf (mem t (now (nodes .entry)) a (now (clients .entry))) d) ⌝ }
+{
+    let count = columns::keys::power(h.columns) as usize;
+    let first = h.steps - (count + 1);
+    if !retire::retire(nodes, h, first, count - first, true) {
+        return Outcome::Refused(Hall::REFUSED_UNSOUND);
+    }
+    end(clients, d)
+}
+
+// Abandons a write: before its table step its marks are taken back, after it all raises that are left are made, and that is its end.
+pub fn abandon_write(nodes: &mut [u32], clients: &mut [u32], d: usize, h: Held) -> Outcome
+    requires { ⌜ Writer h (now clients) d ⌝ }
+    requires { ⌜ NodeContracts.Fit (now nodes) ⌝ }
+    ensures { λ r. ⌜ ((t a : List ℕ) → result r (mem t (now (nodes .exit)) a (now (clients .exit))) ≡ abandonOf (mem t (now (nodes .entry)) a (now (clients .entry))) d) ⌝ }
+{
+    let count = columns::keys::power(h.columns) as usize;
+    if h.steps <= count {
+        return release_all(nodes, clients, d, h);
+    }
+    raise_all(nodes, clients, d, h)
 }

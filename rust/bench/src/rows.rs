@@ -280,7 +280,12 @@ fn abandonings(rows: &mut Vec<Row>) {
     row(rows, "abandon", "a write with no mark", write(0), Act::Abandon(CLIENT), ACCEPTED);
     row(rows, "abandon", "a write with 1 mark", write(1), Act::Abandon(CLIENT), ACCEPTED);
     row(rows, "abandon", "a write with 16 marks", write(16), Act::Abandon(CLIENT), ACCEPTED);
-    row(rows, "abandon", "refused: committed", write(17), Act::Abandon(CLIENT), refused(7));
+    row(rows, "abandon", "a write with 16 raises left", write(17), Act::Abandon(CLIENT), UNCHANGED);
+    row(rows, "abandon", "a write with 1 raise left", write(32), Act::Abandon(CLIENT), UNCHANGED);
+    let few = |steps| light(&own).begun(Kind::Insert, CLIENT, asked, steps);
+    row(rows, "abandon", "96 nodes, a write with 16 marks", few(16), Act::Abandon(CLIENT), ACCEPTED);
+    row(rows, "abandon", "96 nodes, a write with 16 raises left", few(17), Act::Abandon(CLIENT), UNCHANGED);
+    row(rows, "abandon", "96 nodes, a write with 1 raise left", few(32), Act::Abandon(CLIENT), UNCHANGED);
 }
 
 fn evictions(rows: &mut Vec<Row>) {
@@ -333,15 +338,19 @@ fn whole_writes_in(rows: &mut Vec<Row>, k: usize, text: &str, around: impl Fn(&[
     row(rows, "whole delete", &format!("k {k}{text}, 1 of 2,048"), hall(there, RECORDS), delete, CHANGED);
 }
 
-/// The same reads and writes in a hall with few nodes and answers.
+/// A hall with few nodes and answers, its own nodes standing last.
+fn light(own: &[Label]) -> Hall {
+    Hall::opened(4).with_records(RECORDS, |i| record(4, i)).with_nodes(96, own, 96 - own.len()).with_answers(12, None)
+}
+
+/// The same reads and writes in such a hall.
 fn light_halls(rows: &mut Vec<Row>) {
     let asked = all_named(4);
-    let own = read_labels(4, asked);
-    let hall = Hall::opened(4).with_records(RECORDS, |i| record(4, i)).with_nodes(96, &own, 96 - own.len());
+    let hall = light(&read_labels(4, asked));
     let filed = hall.clone().with_answers(12, Some((11, hall.entry_for(asked))));
     let old = hall.clone().with_answers(12, Some((11, outdated(&hall, asked))));
     let read = Act::Whole(Kind::Read, CLIENT, asked);
     row(rows, "whole read", "k 4, 96 nodes, 12 answers, filed", filed, read, from_file(1));
     row(rows, "whole read", "k 4, 96 nodes, 12 answers, from the table", old, read, from_table(1));
-    whole_writes_in(rows, 4, ", 96 nodes, 12 answers", |own| Hall::opened(4).with_nodes(96, own, 96 - own.len()).with_answers(12, None));
+    whole_writes_in(rows, 4, ", 96 nodes, 12 answers", light);
 }

@@ -38,6 +38,9 @@ Calls, tried on copies
   a step at desk 0 would give 0, accepted
   a step at desk 11 would give 0, accepted
   a step at any other desk would give 6, idle
+  an abandoning at desk 0 would give 0, accepted; the write would end, and has changed the table
+  an abandoning at desk 11 would give 0, accepted; nothing would be left of what is under way
+  an abandoning at any other desk would give 6, idle
   a write begun at desk 1 would give 0, accepted
 
 Marked nodes, oldest first (all with --all)
@@ -63,11 +66,32 @@ fn a_busy_hall() {
     }
 }
 
+/// What an abandoning of a write would do, at each number of steps that it has made.
+#[test]
+fn a_bench_that_was_pulled_out() {
+    for (record, end) in [([3, 41], "has changed the table"), ([3, 40], "has not changed the table")] {
+        let mut hall = Hall::open(2).unwrap();
+        hall.begin_insert(0, &[3, 40]).unwrap();
+        assert_eq!(hall.run(0), Ok(Outcome::Changed));
+        hall.begin_insert(4, &record).unwrap();
+        for made in 0..9 {
+            let text = describe(&hall.to_bytes(), false);
+            let left = if made <= 4 { "nothing would be left of what is under way".to_string() } else { format!("the write would end, and {end}") };
+            assert!(text.contains(&format!("\n  an abandoning at desk 4 would give 0, accepted; {left}\n")), "{made} steps: {text}");
+            assert_eq!(hall.step(4).unwrap().has_ended(), made == 8);
+        }
+    }
+}
+
 #[test]
 fn a_new_hall_and_a_long_table() {
     let mut hall = Hall::open(1).unwrap();
     let text = describe(&hall.to_bytes(), true);
-    for line in ["  all 12 are idle\n", "  a renewal would give 0, accepted\n  a step at any desk would give 6, idle\n", "Records\n  none\n"] {
+    for line in [
+        "  all 12 are idle\n",
+        "  a renewal would give 0, accepted\n  a step at any desk would give 6, idle\n  an abandoning at any desk would give 6, idle\n",
+        "Records\n  none\n",
+    ] {
         assert!(text.contains(line), "{line}: {text}");
     }
     for value in 0..20 {
@@ -100,7 +124,7 @@ fn corrupt_halls_are_told_with_the_numbers_that_calls_give() {
         (16_415, 33, &["0: (3, *)  revisions 2 1  the list's length out of range: 33", "a step at any desk would give 3, unsound"]),
         (desk_11, 9, &["desk 11: the kind of a busy desk out of range: 9", "a step at desk 11 would give 3, unsound", "at desk 0 would give 0, acc"]),
         (8_200, u32::MAX, &["floor    4294967295", "a write begun at desk 1 would give 10, worn"]),
-        (8_208 + 16, 9, &["2: no label: the label's tags out of range: 9", "counter 2  marks 1"]),
+        (8_208 + 16, 9, &["2: no label: the label's tags out of range: 9", "counter 2  marks 1", "abandoning at desk 0 would give 3, unsound"]),
     ];
     for (place, number, said) in cases {
         let mut numbers = saved::numbers_of(&busy_hall().to_bytes());
@@ -288,9 +312,13 @@ fn bytes_of_any_kind_and_length() {
         let text = describe(&bytes, round % 2 == 0);
         let mut numbers = saved::numbers_of(&bytes);
         let step = saved::memories(&mut numbers.clone()).step(&mut [0; TRAY_LEAST], 11).number;
+        let abandoning = saved::memories(&mut numbers.clone()).abandon(11).number;
         let renewal = saved::memories(&mut numbers).renew().number;
         assert!(text.contains(&format!("a renewal would give {renewal}, {}\n", number::name(renewal))), "{text}");
-        let told = ["at desk 11", "at any desk", "at any other desk"].map(|at| format!("a step {at} would give {step}, {}", number::name(step)));
-        assert!(told.iter().any(|words| text.contains(words)), "{step}: {text}");
+        for (call, number) in [("a step", step), ("an abandoning", abandoning)] {
+            let told =
+                ["at desk 11", "at any desk", "at any other desk"].map(|at| format!("{call} {at} would give {number}, {}", number::name(number)));
+            assert!(told.iter().any(|words| text.contains(words)), "{call}, {number}: {text}");
+        }
     }
 }

@@ -128,6 +128,10 @@ pub const KIND_NAMES: [&str; 12] = [
     "renew",
 ];
 
+/// The places of steps and of abandonings in `KIND_NAMES`.
+pub const STEP: usize = 7;
+pub const ABANDON: usize = 8;
+
 impl Call {
     /// Its place in `KIND_NAMES`; none for damage.
     pub fn kind(&self) -> Option<usize> {
@@ -139,8 +143,8 @@ impl Call {
             Call::BeginCountWithin { .. } => Some(4),
             Call::BeginInsert { .. } => Some(5),
             Call::BeginDelete { .. } => Some(6),
-            Call::Step { .. } => Some(7),
-            Call::Abandon { .. } => Some(8),
+            Call::Step { .. } => Some(STEP),
+            Call::Abandon { .. } => Some(ABANDON),
             Call::EvictAnswer { .. } => Some(9),
             Call::EvictNode { .. } => Some(10),
             Call::Renew => Some(11),

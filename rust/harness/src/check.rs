@@ -1,6 +1,7 @@
 //! The checker of demand 3 on executed histories: document 01, "A history and the plain table". It is fed the calls' arguments and
-//! what they returned, and keeps a plain table of its own; nothing in it leans on the library or the twin. Beside it, filing checks
-//! demand 2's last sentence.
+//! what they returned, and keeps a plain table of its own; nothing in it leans on the library or the twin. It checks two things more that
+//! the rules give: a write's end, by its last raise or by an abandoning (document 02, S-4), is told as its table step was; and with every desk
+//! idle no node has a mark. Beside it, filing checks demand 2's last sentence.
 
 use crate::call::{tray_of, Ask, Asked, Call, Within};
 use crate::filing::{Filing, Wrong};
@@ -27,6 +28,10 @@ pub enum Complaint {
     Endless { client: u32 },
     /// an ending of something that is not under way at the desk
     Ending { client: u32 },
+    /// an end of a write that is not what its table step did; any that an abandoning tells where no table step of a write was made
+    End { client: u32 },
+    /// every desk is idle and a node has a mark
+    Marked,
     /// demand 2's last sentence: the read was owed the filed answer and did not get exactly it
     NotFetched { client: u32 },
     /// an answer on file that no read filed, or one from file that is not what the last read to file under its query gave
@@ -42,6 +47,8 @@ impl fmt::Display for Complaint {
             Complaint::Long { client } => write!(f, "desk {client}: a count has ended with 12"),
             Complaint::Endless { client } => write!(f, "desk {client}: not ended with its last step"),
             Complaint::Ending { client } => write!(f, "desk {client}: an ending of nothing that is under way there"),
+            Complaint::End { client } => write!(f, "desk {client}: the end of a write is not told as its table step was"),
+            Complaint::Marked => write!(f, "every desk is idle and a node has a mark (marked)"),
             Complaint::NotFetched { client } => {
                 write!(f, "desk {client}: the fetch was owed the filed answer and did not get exactly it (not fetched)")
             }
@@ -59,6 +66,25 @@ enum Kind {
     Delete,
 }
 
+/// What a write's table step did to the plain table.
+#[derive(Clone, Copy, PartialEq, Eq)]
+enum Effect {
+    Changed,
+    Unchanged,
+    Full,
+}
+
+/// What the call that ends a write returns, its last raise or an abandoning (S-4), after what its table step did; before that nothing ends.
+fn end_of(effect: Option<Effect>) -> Reply {
+    let (number, ending) = match effect {
+        None => (0, 0),
+        Some(Effect::Changed) => (0, 3),
+        Some(Effect::Unchanged) => (0, 4),
+        Some(Effect::Full) => (13, 0),
+    };
+    Reply { number, count: 0, ending }
+}
+
 /// What a read gets: its query's list, of those in its range if it gave one, as the numbers of its records, or how many records that list has.
 #[derive(PartialEq, Eq)]
 enum Value {
@@ -73,6 +99,8 @@ struct Note {
     ask: Ask,
     steps: u32,
     ended: bool,
+    /// of a write: what its table step did, once it is made
+    effect: Option<Effect>,
     /// of a read: what would have been right at each moment since its begin; a list that no tray can hold is left out
     values: Vec<Value>,
 }
@@ -91,6 +119,10 @@ pub struct Checker {
     pub counts: u64,
     /// how many of them were of reads with a range
     pub ranges: u64,
+    /// after how many calls every desk was idle
+    pub rests: u64,
+    /// how many writes were abandoned before their table step, and after one that changed the table, did not, or found it full
+    pub abandoned: [u64; 4],
     filing: Filing,
 }
 
@@ -98,12 +130,12 @@ impl Checker {
     /// At an accepted opening.
     pub fn opened(k: u32) -> Checker {
         let (plain, filing) = (Vec::new(), Filing::opened());
-        Checker { k: k as usize, plain, notes: [const { None }; 12], answers: 0, counts: 0, ranges: 0, filing }
+        Checker { k: k as usize, plain, notes: [const { None }; 12], answers: 0, counts: 0, ranges: 0, rests: 0, abandoned: [0; 4], filing }
     }
 
-    /// How many answers were seen, how many of them were counts, and how many of reads with a range.
-    pub fn seen(&self) -> [u64; 3] {
-        [self.answers, self.counts, self.ranges]
+    /// How many answers were seen, how many of them were counts, and how many of reads with a range; after how many calls every desk was idle.
+    pub fn seen(&self) -> [u64; 4] {
+        [self.answers, self.counts, self.ranges, self.rests]
     }
 
     /// How many fetches were owed the filed answer by demand 2's last sentence, how many of them of reads begun before the read that
@@ -125,7 +157,10 @@ impl Checker {
             Wrong::NotFetched => Complaint::NotFetched { client },
             Wrong::NotFiled => Complaint::NotFiled { client },
         });
-        complaint.or_else(|| (!self.holds(hall.table())).then_some(Complaint::Table)).or(wrong)
+        let rests = self.notes.iter().flatten().all(|note| note.ended);
+        self.rests += rests as u64;
+        let marked = (rests && has_marks(hall.nodes())).then_some(Complaint::Marked);
+        complaint.or_else(|| (!self.holds(hall.table())).then_some(Complaint::Table)).or(wrong).or(marked)
     }
 
     fn feed(&mut self, call: &Call, reply: Reply, hall: &Hall) -> Option<Complaint> {
@@ -140,7 +175,7 @@ impl Checker {
                 let kept = hall.tray().iter().copied().eq(tray_of(*tray, *fill));
                 return self.step(*client, reply, hall.tray(), kept);
             }
-            Call::Abandon { client } => self.notes[*client as usize] = None,
+            Call::Abandon { client } => return self.abandon(*client, reply),
             _ => {}
         }
         None
@@ -148,7 +183,18 @@ impl Checker {
 
     fn begin(&mut self, client: u32, kind: Kind, ask: Ask) {
         let values = self.value(kind, &ask).into_iter().collect();
-        self.notes[client as usize] = Some(Note { kind, ask, steps: 0, ended: false, values });
+        self.notes[client as usize] = Some(Note { kind, ask, steps: 0, ended: false, effect: None, values });
+    }
+
+    /// The note is taken away. A write that has made its table step ends as its last raise would have told; of all else nothing ends.
+    fn abandon(&mut self, client: u32, reply: Reply) -> Option<Complaint> {
+        let Some(note) = self.notes[client as usize].take().filter(|note| !note.ended) else {
+            return Some(Complaint::Ending { client });
+        };
+        if note.kind != Kind::Read {
+            self.abandoned[note.effect.map_or(0, |effect| 1 + effect as usize)] += 1;
+        }
+        (reply != end_of(note.effect)).then_some(Complaint::End { client })
     }
 
     /// kept: the tray is as it was lent
@@ -160,7 +206,7 @@ impl Checker {
         note.steps += 1;
         let (kind, ask, steps) = (note.kind, note.ask, note.steps);
         if kind != Kind::Read && steps == (1 << k) + 1 {
-            self.take_effect(kind, ask.asked);
+            self.take_effect(client, kind, ask.asked);
         }
         if ask.counts && reply.number == 12 {
             return Some(Complaint::Long { client });
@@ -179,6 +225,9 @@ impl Checker {
             return Some(Complaint::Ending { client });
         }
         note.ended = ends_read || ends_write;
+        if ends_write && reply != end_of(note.effect) {
+            return Some(Complaint::End { client });
+        }
         if matches!(reply.ending, 1 | 2) {
             self.answers += 1;
             self.counts += note.ask.counts as u64;
@@ -194,28 +243,39 @@ impl Checker {
         (note.steps >= last && !note.ended).then_some(Complaint::Endless { client })
     }
 
-    fn take_effect(&mut self, kind: Kind, asked: Asked) {
-        let (k, before) = (self.k, self.plain.len());
-        if kind == Kind::Insert {
-            self.insert(&asked);
-        } else {
-            let kept = self.plain.chunks(k).filter(|record| !lies(record, &asked));
-            self.plain = kept.flatten().copied().collect();
-        }
-        if self.plain.len() != before {
+    fn take_effect(&mut self, client: u32, kind: Kind, asked: Asked) {
+        let effect = if kind == Kind::Insert { self.insert(&asked) } else { self.delete(&asked) };
+        self.notes[client as usize].iter_mut().for_each(|note| note.effect = Some(effect));
+        if effect == Effect::Changed {
             self.note_values();
         }
     }
 
+    /// Every record in its subspace goes.
+    fn delete(&mut self, asked: &Asked) -> Effect {
+        let before = self.plain.len();
+        let kept = self.plain.chunks(self.k).filter(|record| !lies(record, asked));
+        self.plain = kept.flatten().copied().collect();
+        if self.plain.len() == before {
+            Effect::Unchanged
+        } else {
+            Effect::Changed
+        }
+    }
+
     /// In its ascending place, unless it is there already or 2,048 records are.
-    fn insert(&mut self, asked: &Asked) {
+    fn insert(&mut self, asked: &Asked) -> Effect {
         let record: Vec<u32> = asked.words().chunks(2).map(|column| column[1]).collect();
         let k = self.k;
         let place = self.plain.chunks(k).position(|other| other >= &record[..]).unwrap_or(self.plain.len() / k);
-        let there = self.plain.chunks(k).nth(place) == Some(&record[..]);
-        if !there && self.plain.len() < 2048 * k {
-            self.plain.splice(place * k..place * k, record);
+        if self.plain.chunks(k).nth(place) == Some(&record[..]) {
+            return Effect::Unchanged;
         }
+        if self.plain.len() == 2048 * k {
+            return Effect::Full;
+        }
+        self.plain.splice(place * k..place * k, record);
+        Effect::Changed
     }
 
     /// The table has changed: a new moment for each read under way.
@@ -258,6 +318,11 @@ impl Checker {
     fn holds(&self, table: &[u32]) -> bool {
         table[0] as usize == self.plain.len() / self.k && table[8..8 + self.plain.len()] == self.plain
     }
+}
+
+/// The nodes memory: how many at place 1, 8 numbers each from place 8 on, of which the marks are number 5.
+fn has_marks(nodes: &[u32]) -> bool {
+    nodes[8..].chunks_exact(8).take(nodes[1] as usize).any(|node| node[5] != 0)
 }
 
 /// "exactly the subspace's records within": both ends are included.

@@ -85,6 +85,7 @@ impl Mixing {
         let mut mixing = Mixing::new(1 + rng.below(2), 0, 14, [1, 12, 1]);
         mixing.band = 2048;
         mixing.before_drain = 30_000;
+        mixing.abandonings = 40;
         mixing
     }
 
@@ -99,6 +100,7 @@ impl Mixing {
     pub fn in_hall(rng: &mut Rng, hall: &Hall) -> Mixing {
         let mut mixing = Mixing::new(hall.columns().clamp(1, 4), rng.pick(&[2, 4, 70]), 2 + rng.below(14), [4, 4, 1]);
         mixing.band = rng.pick(&[0, 33, 2048]);
+        mixing.abandonings = 40;
         mixing
     }
 
@@ -118,7 +120,7 @@ impl Mixing {
             return eviction(rng, hall);
         }
         if roll < self.evictions + self.abandonings {
-            return Call::Abandon { client: rng.below(12) };
+            return abandoning(rng, hall);
         }
         let client = self.client(rng);
         if hall.kind_at(client) == IDLE {
@@ -308,6 +310,15 @@ fn eviction(rng: &mut Rng, hall: &Hall) -> Call {
     } else {
         Call::EvictNode { place: place(rng, hall.get(1, NODE_COUNT)) }
     }
+}
+
+/// Of any desk; half of them of one that writes and has made its table step, if there is one.
+fn abandoning(rng: &mut Rng, hall: &Hall) -> Call {
+    let first = rng.below(12);
+    let nodes = 1 << hall.columns().min(4);
+    let past_table = |client: &u32| hall.kind_at(*client) > READ && hall.client_number(*client, CLIENT_STEPS) > nodes;
+    let found = (0..12).map(|i| (first + i) % 12).find(past_table).filter(|_| rng.chance(1, 2));
+    Call::Abandon { client: found.unwrap_or(first) }
 }
 
 fn odd_client(rng: &mut Rng) -> u32 {

@@ -18,7 +18,7 @@ use crate::hall::Hall;
 use crate::side::Reply;
 use std::collections::HashSet;
 
-/// What is under way at a desk: a write is open until it is taken away.
+/// What is under way at a desk: a write is open until it is taken away, by its last raise or by an abandoning.
 struct Work {
     reads: bool,
     /// of a write: its query, no count and no range

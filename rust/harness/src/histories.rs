@@ -39,14 +39,16 @@ pub struct Findings {
     pub trays: u64,
     /// answers on file or from it that were not filed so; each ends its history
     pub not_filed: u64,
-    /// the table memory, a step limit, an ending of nothing, a count that ended with 12: each ends its history
+    /// nodes with a mark while every desk was idle; each ends its history
+    pub marked: u64,
+    /// the table memory, a step limit, an ending of nothing or one told wrongly, a count that ended with 12: each ends its history
     pub others: u64,
     /// the first complaint, with the history up to it
     pub first: Option<(Script, Complaint)>,
 }
 
 impl Findings {
-    /// Every answer was right and on file as it should be, and nothing else was complained of, but for fetches and trays.
+    /// Every answer was right and on file as it should be, and nothing else was complained of, but for fetches, trays and marks.
     pub fn is_otherwise_true(&self) -> bool {
         self.stale + self.not_filed + self.others == 0
     }
@@ -84,6 +86,7 @@ fn one_history(side: &dyn Side, rng: &mut Rng, mut mixing: Mixing, length: u64, 
                 Complaint::NotFetched { .. } => findings.not_fetched += 1,
                 Complaint::Tray { .. } => findings.trays += 1,
                 Complaint::NotFiled { .. } => findings.not_filed += 1,
+                Complaint::Marked => findings.marked += 1,
                 _ => findings.others += 1,
             }
             if !matches!(complaint, Complaint::Stale { .. } | Complaint::NotFetched { .. } | Complaint::Tray { .. }) {

@@ -22,7 +22,7 @@ const USAGE: &str = "usage: harness [--seed N] [--calls N] [--gate | --limits | 
                  the checkers' own findings, the limits
   --limits       both sides of every limit of the documents, library and twin each held to its number; --verbose prints every row
   --fault NAME   build this fault into the twin: early-raise, back-at-one, one-bit, late-look, stacked, no-marks, one-key,
-                 count-on-tray, plain-key, wide-range
+                 count-on-tray, plain-key, wide-range, taken-back, marks-left
   --all-faults   each fault in turn; status 0 only if every one is found
   --check        run the checkers over the library's histories (the default); --no-check leaves them out
   --check-twin   histories of the twin alone (with its fault) under the checkers; nothing is compared
@@ -194,9 +194,10 @@ type Tried = (&'static str, &'static dyn Side, fn(&Findings) -> bool);
 
 /// The checkers find something where there is something, each its own: stale answers where looks pay no heed to marks, fetches that
 /// do not get the filed answer where none does, answers of the other wanting or of another range where a key does not tell it, trays
-/// that counts have written, records just outside a range. In the plain twin they find nothing.
+/// that counts have written, records just outside a range, stale answers and marks for good where abandonings raise nothing. In the plain
+/// twin they find nothing.
 fn checkers(options: &Options) -> u8 {
-    let tried: [Tried; 7] = [
+    let tried: [Tried; 9] = [
         ("the plain twin: nothing is found", twin_with(Fault::None), |f| f.first.is_none() && f.owed > 0),
         ("looks that see no marks: stale answers are found", twin_with(Fault::NoPending), |f| f.stale > 0),
         ("fetches that find no answer: not fetched is found", &WithoutFetch, |f| f.not_fetched > 0 && f.is_otherwise_true()),
@@ -205,6 +206,10 @@ fn checkers(options: &Options) -> u8 {
         ("keys that do not tell a range: answers that were not filed so are found", twin_with(Fault::PlainKey), |f| f.not_filed > 0),
         ("ranges that take one value too many: stale answers are found, and nothing else", twin_with(Fault::WideRange), |f| {
             f.stale > 0 && f.not_filed + f.not_fetched + f.others == 0
+        }),
+        ("abandonings after the table step that take the marks back: stale answers are found", twin_with(Fault::TakenBack), |f| f.stale > 0),
+        ("abandonings after the table step that leave the marks: they are found, and nothing else", twin_with(Fault::MarksLeft), |f| {
+            f.marked > 0 && f.not_fetched == 0 && f.is_otherwise_true()
         }),
     ];
     let mut missed = 0;

@@ -1,6 +1,6 @@
 //! What a run prints: counts, limits met, and a failure with the shortened script that leads to it. Leans on run and shrink.
 
-use crate::call::{Call, KIND_NAMES};
+use crate::call::{Call, ABANDON, KIND_NAMES};
 use crate::check::Complaint;
 use crate::hall::{describe, Hall, MEMORY_NAMES};
 use crate::histories::{complaint_in, Findings};
@@ -40,9 +40,7 @@ pub fn print_tally(tally: &Tally, checked: bool) {
     for (name, row) in KIND_NAMES.iter().zip(&tally.outcomes) {
         println!("  {name:<18}{}", row.iter().map(|count| format!("{count:>8}")).collect::<String>());
     }
-    let [none, filed, table, changed, unchanged] = tally.endings.map(grouped);
-    println!("endings: {filed} answered from file, {table} answered from the table, {changed} writes changed the table, {unchanged} did not,");
-    println!("  {none} calls with none of these; {} numbers damaged", grouped(tally.damages));
+    print_endings(tally);
     println!("limits met (times):");
     for (name, times) in LIMITS.iter().zip(tally.limits) {
         println!("  {name:<52}{:>9}{}", grouped(times), if times == 0 { "  not met in this run" } else { "" });
@@ -50,11 +48,27 @@ pub fn print_tally(tally: &Tally, checked: bool) {
     println!("  ways of lengths 0, least-1, least, least+1: {} of 256", tally.ways.iter().filter(|way| **way).count());
     println!("{} calls, {} numbers compared", grouped(tally.calls), grouped(tally.numbers));
     if checked {
-        let ([checked, counts, ranges], [owed, earlier, of_counts, of_ranges]) = (tally.checked.map(grouped), tally.owed.map(grouped));
+        let ([checked, counts, ranges, rests], [owed, earlier, of_counts, of_ranges]) = (tally.checked.map(grouped), tally.owed.map(grouped));
+        let [before, changed, unchanged, full] = tally.abandoned.map(grouped);
         println!("checkers: {checked} answers of histories looked at, {counts} of them counts, {ranges} of reads with a range;");
         println!("  {owed} fetches owed the filed answer, {earlier} of them of reads begun before the read that filed it, {of_counts} of counts,");
-        println!("  {of_ranges} of reads with a range");
+        println!("  {of_ranges} of reads with a range;");
+        println!("  {before} writes abandoned before their table step, {changed} after one that changed the table, {unchanged} that did not,");
+        println!("  {full} that found it full; no node with a mark after {rests} calls with every desk idle");
     }
+}
+
+/// Of all calls, and what abandonings have to it.
+fn print_endings(tally: &Tally) {
+    let of_abandonings = tally.endings[ABANDON].map(grouped);
+    let all: [u64; 5] = std::array::from_fn(|ending| tally.endings.iter().map(|of_kind| of_kind[ending]).sum());
+    let [none, filed, table, changed, unchanged] = all.map(grouped);
+    println!("endings: {filed} answered from file, {table} answered from the table,");
+    println!(
+        "  {changed} writes changed the table, {} of them abandoned, {unchanged} did not, {} of them abandoned,",
+        of_abandonings[3], of_abandonings[4]
+    );
+    println!("  {none} calls with none of these; {} numbers damaged", grouped(tally.damages));
 }
 
 /// What the checkers found in one side's histories.
@@ -63,6 +77,7 @@ pub fn print_findings(findings: &Findings) {
     println!("    stale answers: {} of {}", grouped(findings.stale), grouped(findings.answers));
     println!("    not fetched: {} of {} fetches owed the filed answer", grouped(findings.not_fetched), grouped(findings.owed));
     println!("    trays written by a count: {}; answers that were not filed so: {}", grouped(findings.trays), grouped(findings.not_filed));
+    println!("    marks while every desk was idle: {}", grouped(findings.marked));
     println!("    other complaints (table, step limits, endings, counts that ended with 12): {}", grouped(findings.others));
 }
 

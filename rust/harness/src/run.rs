@@ -16,7 +16,7 @@ use std::time::{Duration, Instant};
 pub const SORTS: [(&str, i64); 5] =
     [("histories from an opening", 50), ("halls near a limit", 18), ("noise", 12), ("damaged halls", 14), ("lengths", 6)];
 
-/// The numbers that a call can return: 0 to 14.
+/// The numbers that a call can return: 0 to 14, of which 7 is given no longer.
 pub const NUMBERS: usize = 15;
 
 /// How long a run says nothing.
@@ -35,12 +35,15 @@ pub struct Tally {
     pub calls_of_columns: [u64; 5],
     /// by kind of call and number returned
     pub outcomes: [[u64; NUMBERS]; KIND_NAMES.len()],
-    pub endings: [u64; 5],
+    /// by kind of call and ending
+    pub endings: [[u64; 5]; KIND_NAMES.len()],
     pub limits: [u64; LIMITS.len()],
     /// ways to give the four memories lengths, of 256
     pub ways: [bool; 256],
-    /// answers that the checker has looked at, those of them that are counts, those of reads with a range
-    pub checked: [u64; 3],
+    /// answers that the checker has looked at, those of them that are counts, those of reads with a range; calls after which every desk was idle
+    pub checked: [u64; 4],
+    /// writes that the checker has seen abandoned before their table step, and after one that changed the table, did not, or found it full
+    pub abandoned: [u64; 4],
     /// fetches that demand 2's last sentence owed the filed answer, those of them of reads begun before the filing read, those of counts,
     /// those of reads with a range
     pub owed: [u64; 4],
@@ -57,10 +60,11 @@ impl Tally {
             accepted_of_sort: [0; 5],
             calls_of_columns: [0; 5],
             outcomes: [[0; NUMBERS]; KIND_NAMES.len()],
-            endings: [0; 5],
+            endings: [[0; 5]; KIND_NAMES.len()],
             limits: [0; LIMITS.len()],
             ways: [false; 256],
-            checked: [0; 3],
+            checked: [0; 4],
+            abandoned: [0; 4],
             owed: [0; 4],
         }
     }
@@ -169,7 +173,7 @@ impl<'a> Run<'a> {
         if let Some(count) = self.tally.outcomes[kind].get_mut(reply.number as usize) {
             *count += 1;
         }
-        if let Some(count) = self.tally.endings.get_mut(reply.ending as usize) {
+        if let Some(count) = self.tally.endings[kind].get_mut(reply.ending as usize) {
             *count += 1;
         }
     }
@@ -185,9 +189,10 @@ impl<'a> Run<'a> {
         let Some(checker) = &mut made.checker else {
             return Ok(());
         };
-        let (seen, owed) = (checker.seen(), checker.owed());
+        let (seen, abandoned, owed) = (checker.seen(), checker.abandoned, checker.owed());
         let complaint = checker.after(call, reply, &made.left);
         add(&mut self.tally.checked, checker.seen(), seen);
+        add(&mut self.tally.abandoned, checker.abandoned, abandoned);
         add(&mut self.tally.owed, checker.owed(), owed);
         match complaint {
             Some(complaint) => Err(made.failure(Some(complaint))),

@@ -1,15 +1,15 @@
-//! Which limits of document 01, and of S-1 and S-3 in document 02, a run has met, on which side. It looks at one hall before and after a call;
-//! the other is the same. Leans on call, hall and the twin's layout, queries and ranges.
+//! Which limits of document 01, and of S-1, S-3 and S-4 in document 02, a run has met, on which side. It looks at one hall before and after a
+//! call; the other is the same. Leans on call, hall and the twin's layout, queries and ranges.
 
 use crate::call::{Asked, Call, Within};
 use crate::hall::{Hall, LEAST};
 use crate::side::Reply;
 use twin::layout::*;
-use twin::query::Query;
+use twin::query::{Label, Query};
 use twin::range::Range;
 use twin::PLAIN;
 
-pub const LIMITS: [&str; 45] = [
+pub const LIMITS: [&str; 52] = [
     "a list of 32 records is taken",
     "33 records: 12",
     "an insert at 2,047 records goes in",
@@ -55,6 +55,13 @@ pub const LIMITS: [&str; 45] = [
     "a range of a named column: 2",
     "the called desk holds a range reversed by one: 3",
     "the called desk holds a range of column k: 3",
+    "a write is abandoned after its last mark",
+    "a write is abandoned with all raises left",
+    "a write is abandoned with one raise left",
+    "a write is abandoned, a raised node is not there",
+    "an abandoning raises a counter to its largest",
+    "a node unmarked or missing among the raises left: 3",
+    "a counter at its largest among the raises left: 3",
 ];
 
 /// What is known before a call.
@@ -104,6 +111,11 @@ pub enum Before {
     Raise {
         revision: Option<u32>,
     },
+    /// a write's: the limit in `LIMITS` that is met if it is accepted, and if it is 3
+    Abandon {
+        accepted: Option<usize>,
+        unsound: Option<usize>,
+    },
 }
 
 pub fn before(call: &Call, hall: &Hall) -> Before {
@@ -118,6 +130,7 @@ pub fn before(call: &Call, hall: &Hall) -> Before {
             Before::WriteBegin { highest: revisions.fold(hall.nodes()[FLOOR], u32::max) }
         }
         Call::Step { client, .. } if *client < 12 => before_step(*client, hall),
+        Call::Abandon { client } if *client < 12 => before_abandoning(*client, hall),
         Call::BeginRead { .. } | Call::BeginCount { .. } => before_filed(hall),
         _ => Before::Nothing,
     }
@@ -133,14 +146,23 @@ fn before_filed(hall: &Hall) -> Before {
     }
 }
 
-fn before_step(client: u32, hall: &Hall) -> Before {
+/// The numbers of a desk, and its key among them.
+fn at_client(client: u32, hall: &Hall) -> (&[u32], &[u32; KEY_WIDTH]) {
     let own = &hall.clients()[HEAD + client as usize * CLIENT_WIDTH..][..CLIENT_WIDTH];
-    let key = own[CLIENT_ENTRY..].first_chunk().unwrap();
+    (own, own[CLIENT_ENTRY..].first_chunk().unwrap())
+}
+
+fn node_of(hall: &Hall, label: &Label) -> Option<[u32; NODE_WIDTH]> {
+    twin::nodes::find(hall.nodes(), label).map(|place| twin::nodes::all(hall.nodes())[place])
+}
+
+fn before_step(client: u32, hall: &Hall) -> Before {
+    let (own, key) = at_client(client, hall);
     let Some(query) = Query::kept(hall.columns() as usize, key) else {
         return if own[CLIENT_KIND] == READ { before_unsound(hall, key) } else { Before::Nothing };
     };
     let (kind, steps, nodes) = (own[CLIENT_KIND], own[CLIENT_STEPS], hall.nodes()[NODE_COUNT]);
-    let node = |label| twin::nodes::find(hall.nodes(), &label).map(|place| twin::nodes::all(hall.nodes())[place]);
+    let node = |label| node_of(hall, &label);
     let (looks, announcements) = (query.looks(), query.announcements());
     let length = own[CLIENT_ENTRY + ENTRY_LENGTH] as usize;
     match kind {
@@ -162,6 +184,32 @@ fn before_step(client: u32, hall: &Hall) -> Before {
         }
         _ => Before::Nothing,
     }
+}
+
+/// Of a desk that writes: how far it is from its table step, and what stands at the nodes that it has raised and has still to raise.
+fn before_abandoning(client: u32, hall: &Hall) -> Before {
+    let (own, key) = at_client(client, hall);
+    let (kind, steps) = (own[CLIENT_KIND], own[CLIENT_STEPS]);
+    let Some(query) = Query::kept(hall.columns() as usize, key).filter(|_| [INSERT, DELETE].contains(&kind)) else {
+        return Before::Nothing;
+    };
+    let announcements = query.announcements();
+    if steps <= announcements || steps > 2 * announcements {
+        return Before::Abandon { accepted: (steps == announcements).then_some(45), unsound: None };
+    }
+    let node = |number| node_of(hall, &query.write_label::<PLAIN>(number));
+    let raised = steps - announcements - 1;
+    let left = || (raised..announcements).map(node);
+    let is_at = |revision| left().flatten().any(|node| node[NODE_REVISION] == revision);
+    let unmarked = left().any(|node| node.is_none_or(|node| node[NODE_PENDING] == 0));
+    let unsound = if unmarked { Some(50) } else { is_at(u32::MAX).then_some(51) };
+    let accepted = match announcements - raised {
+        _ if is_at(u32::MAX - 1) => Some(49),
+        _ if (0..raised).map(node).any(|node| node.is_none()) => Some(48),
+        1 => Some(47),
+        left => (left == announcements).then_some(46),
+    };
+    Before::Abandon { accepted, unsound }
 }
 
 /// What is wrong with a desk's range.
@@ -193,7 +241,6 @@ fn edge(hall: &Hall, query: &Query) -> Option<usize> {
 
 /// Which limit the call has met, as a place in `LIMITS`.
 pub fn limit_met(call: &Call, before: Before, reply: Reply, hall: &Hall) -> Option<usize> {
-    let accepted = reply.number == 0;
     match (before, reply.number) {
         (Before::ReadTable { matches: 32 }, 0) => Some(0),
         (Before::ReadTable { matches: 33 }, 12) => Some(1),
@@ -228,7 +275,8 @@ pub fn limit_met(call: &Call, before: Before, reply: Reply, hall: &Hall) -> Opti
         },
         (Before::HoldsReversed, 3) => Some(43),
         (Before::HoldsColumn, 3) => Some(44),
-        _ => by_argument(call, accepted, reply.number, hall.columns()),
+        (Before::Abandon { accepted: Some(limit), .. }, 0 | 13) | (Before::Abandon { unsound: Some(limit), .. }, 3) => Some(limit),
+        _ => by_argument(call, reply.number == 0, reply.number, hall.columns()),
     }
 }
 

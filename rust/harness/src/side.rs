@@ -77,8 +77,8 @@ impl<const FAULT: u8> Side for Twin<FAULT> {
     }
 }
 
-/// The faults by name; the first five are those of document 01, the last four of counts (S-1) and of ranges (S-3).
-pub const FAULTS: [(&str, Fault); 10] = [
+/// The faults by name; the first five are those of document 01, the last six of counts (S-1), of ranges (S-3) and of abandonings (S-4).
+pub const FAULTS: [(&str, Fault); 12] = [
     ("early-raise", Fault::EarlyRaise),
     ("back-at-one", Fault::BackAtOne),
     ("one-bit", Fault::OneBit),
@@ -89,6 +89,8 @@ pub const FAULTS: [(&str, Fault); 10] = [
     ("count-on-tray", Fault::CountOnTray),
     ("plain-key", Fault::PlainKey),
     ("wide-range", Fault::WideRange),
+    ("taken-back", Fault::TakenBack),
+    ("marks-left", Fault::MarksLeft),
 ];
 
 pub fn fault_named(name: &str) -> Option<Fault> {
@@ -109,5 +111,7 @@ pub fn twin_with(fault: Fault) -> &'static dyn Side {
         Fault::CountOnTray => &Twin::<{ Fault::CountOnTray as u8 }>,
         Fault::PlainKey => &Twin::<{ Fault::PlainKey as u8 }>,
         Fault::WideRange => &Twin::<{ Fault::WideRange as u8 }>,
+        Fault::TakenBack => &Twin::<{ Fault::TakenBack as u8 }>,
+        Fault::MarksLeft => &Twin::<{ Fault::MarksLeft as u8 }>,
     }
 }

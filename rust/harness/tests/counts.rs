@@ -1,21 +1,16 @@
 //! Counts under the checkers: which fetches of counts demand 2's last sentence binds, and what the checkers say of a count that is not true, of
 //! a tray that one has written, of one that ends with 12 or does not end, and of one that was served from a list.
 
+mod played;
+
 use harness::call::{Asked, Call};
-use harness::check::{Checker, Complaint};
-use harness::hall::{Hall, LEAST};
+use harness::check::Complaint;
 use harness::side::{twin_with, Reply, Side};
 use harness::without_fetch::WithoutFetch;
+use played::Played;
 use twin::Fault;
 
 const STEP: Call = Call::Step { client: 0, tray: 128, fill: 7 };
-
-/// A history of a hall of one column, under the checkers.
-struct Played {
-    side: &'static dyn Side,
-    hall: Hall,
-    checker: Checker,
-}
 
 /// All records, or those of one value.
 fn asked(value: Option<u32>) -> Asked {
@@ -23,15 +18,9 @@ fn asked(value: Option<u32>) -> Asked {
 }
 
 impl Played {
-    fn of(side: &'static dyn Side) -> Played {
-        let mut hall = Hall::zeros(LEAST);
-        assert_eq!(Call::Open { k: 1 }.make(side, &mut hall).number, 0);
-        Played { side, hall, checker: Checker::opened(1) }
-    }
-
-    /// With so many records.
+    /// A hall of one column with so many records.
     fn with(side: &'static dyn Side, records: u32) -> Played {
-        let mut h = Played::of(side);
+        let mut h = Played::opened(side, 1);
         (0..records).for_each(|value| h.insert(value));
         h
     }
@@ -40,28 +29,10 @@ impl Played {
         Played::with(twin_with(Fault::None), records)
     }
 
-    /// What the checkers say if something is done to a call's reply and to the hall after it.
-    fn bent(&mut self, call: Call, bend: impl Fn(&mut Reply, &mut Hall)) -> (Reply, Option<Complaint>) {
-        self.checker.before(&call, &self.hall);
-        let mut reply = call.make(self.side, &mut self.hall);
-        bend(&mut reply, &mut self.hall);
-        (reply, self.checker.after(&call, reply, &self.hall))
-    }
-
-    fn tell(&mut self, call: Call) -> (Reply, Option<Complaint>) {
-        self.bent(call, |_, _| {})
-    }
-
-    fn make(&mut self, call: Call) -> Reply {
-        let (reply, complaint) = self.tell(call);
-        assert_eq!((reply.number, complaint), (0, None), "{call}");
-        reply
-    }
-
     /// Desk 1 inserts.
     fn insert(&mut self, value: u32) {
         self.make(Call::BeginInsert { client: 1, asked: asked(Some(value)) });
-        while self.make(Call::Step { client: 1, tray: 128, fill: 7 }).ending == 0 {}
+        while self.steps(1, 1).ending == 0 {}
     }
 
     /// Desk 0 reads or counts, up to before its last step.

@@ -1,18 +1,13 @@
 //! Which fetches demand 2's last sentence binds, word by word, in histories of one column; and what its checker says where one is not kept.
 
-use harness::call::{Asked, Call};
-use harness::check::{Checker, Complaint};
-use harness::hall::{Hall, LEAST};
-use harness::side::{twin_with, Reply, Side};
-use harness::without_fetch::WithoutFetch;
-use twin::Fault;
+mod played;
 
-/// A history of a hall of one column, under the checker.
-struct Played {
-    side: &'static dyn Side,
-    hall: Hall,
-    checker: Checker,
-}
+use harness::call::{Asked, Call};
+use harness::check::Complaint;
+use harness::side::{twin_with, Side};
+use harness::without_fetch::WithoutFetch;
+use played::Played;
+use twin::Fault;
 
 fn read(client: u32, value: u32) -> Call {
     Call::BeginRead { client, asked: Asked::new(&[1, value]) }
@@ -24,29 +19,11 @@ fn insert(client: u32, value: u32) -> Call {
 
 impl Played {
     fn of(side: &'static dyn Side) -> Played {
-        let mut hall = Hall::zeros(LEAST);
-        assert_eq!(Call::Open { k: 1 }.make(side, &mut hall).number, 0);
-        Played { side, hall, checker: Checker::opened(1) }
+        Played::opened(side, 1)
     }
 
     fn plain() -> Played {
         Played::of(twin_with(Fault::None))
-    }
-
-    fn tell(&mut self, call: Call) -> (Reply, Option<Complaint>) {
-        self.checker.before(&call, &self.hall);
-        let reply = call.make(self.side, &mut self.hall);
-        (reply, self.checker.after(&call, reply, &self.hall))
-    }
-
-    fn make(&mut self, call: Call) -> Reply {
-        let (reply, complaint) = self.tell(call);
-        assert_eq!((reply.number, complaint), (0, None), "{call}");
-        reply
-    }
-
-    fn steps(&mut self, client: u32, times: u32) -> Reply {
-        (0..times).map(|_| self.make(Call::Step { client, tray: 128, fill: 7 })).last().unwrap()
     }
 
     /// To its end.
@@ -89,6 +66,24 @@ fn a_write_counts_that_was_open_at_the_filing_reads_begin_and_not_one_that_ended
     ended.run(insert(1, 5));
     ended.run(read(3, 5));
     assert_eq!(ended.owed_after_reading(), [1, 0]);
+}
+
+/// Two marks, the table step, and no raise or one. After the raise of node 5 a read of it sees no mark and files, though the write is open.
+#[test]
+fn a_write_is_open_until_the_abandoning_that_ends_it() {
+    for steps in [3, 4] {
+        let [mut open, mut ended] = [Played::plain(), Played::plain()].map(|mut h| {
+            h.make(insert(1, 5));
+            h.steps(1, steps);
+            h
+        });
+        open.run(read(3, 5));
+        assert_eq!(open.make(Call::Abandon { client: 1 }).ending, 3);
+        assert_eq!(open.owed_after_reading(), [0, 0], "{steps} steps");
+        assert_eq!(ended.make(Call::Abandon { client: 1 }).ending, 3);
+        ended.run(read(3, 5));
+        assert_eq!(ended.owed_after_reading(), [1, 0], "{steps} steps");
+    }
 }
 
 #[test]
@@ -226,11 +221,8 @@ fn another_list_than_the_filed_one_is_complained_of() {
 #[test]
 fn a_tray_written_past_the_answer_is_complained_of() {
     let mut h = about_to_fetch();
-    let call = Call::Step { client: 0, tray: 128, fill: 7 };
-    h.checker.before(&call, &h.hall);
-    let reply = call.make(h.side, &mut h.hall);
-    h.hall.memories[4][127] += 1;
-    assert_eq!(h.checker.after(&call, reply, &h.hall), Some(Complaint::NotFetched { client: 0 }));
+    let (_, complaint) = h.bent(Call::Step { client: 0, tray: 128, fill: 7 }, |_, hall| hall.memories[4][127] += 1);
+    assert_eq!(complaint, Some(Complaint::NotFetched { client: 0 }));
 }
 
 #[test]

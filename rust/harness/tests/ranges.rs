@@ -1,30 +1,23 @@
 //! Ranges under the checkers: which records belong to one, which fetches demand 2's last sentence binds and which writes unbind them, and what the
 //! checkers say of a record just outside, of one that is missing, and of an answer that was filed for another range or for none.
 
+mod played;
+
 use harness::call::{Ask, Asked, Call, Within};
-use harness::check::{Checker, Complaint};
-use harness::hall::{Hall, LEAST};
+use harness::check::Complaint;
 use harness::side::{twin_with, Reply, Side};
 use harness::without_fetch::WithoutFetch;
+use played::Played;
 use twin::Fault;
 
 const STEP: Call = Call::Step { client: 0, tray: 128, fill: 7 };
 const STALE: Option<Complaint> = Some(Complaint::Stale { client: 0 });
 const NOT_FILED: Option<Complaint> = Some(Complaint::NotFiled { client: 0 });
 
-/// A history of a hall of two columns, under the checkers.
-struct Played {
-    side: &'static dyn Side,
-    hall: Hall,
-    checker: Checker,
-}
-
 impl Played {
-    /// With the records (i, 1), i from 0 to 9.
+    /// A hall of two columns with the records (i, 1), i from 0 to 9.
     fn of(side: &'static dyn Side) -> Played {
-        let mut hall = Hall::zeros(LEAST);
-        assert_eq!(Call::Open { k: 2 }.make(side, &mut hall).number, 0);
-        let mut h = Played { side, hall, checker: Checker::opened(2) };
+        let mut h = Played::opened(side, 2);
         (0..10).for_each(|value| h.insert(value, 1));
         h
     }
@@ -33,28 +26,10 @@ impl Played {
         Played::of(twin_with(Fault::None))
     }
 
-    /// What the checkers say if something is done to a call's reply and to the hall after it.
-    fn bent(&mut self, call: Call, bend: impl Fn(&mut Reply, &mut Hall)) -> (Reply, Option<Complaint>) {
-        self.checker.before(&call, &self.hall);
-        let mut reply = call.make(self.side, &mut self.hall);
-        bend(&mut reply, &mut self.hall);
-        (reply, self.checker.after(&call, reply, &self.hall))
-    }
-
-    fn tell(&mut self, call: Call) -> (Reply, Option<Complaint>) {
-        self.bent(call, |_, _| {})
-    }
-
-    fn make(&mut self, call: Call) -> Reply {
-        let (reply, complaint) = self.tell(call);
-        assert_eq!((reply.number, complaint), (0, None), "{call}");
-        reply
-    }
-
     /// Desk 1 inserts.
     fn insert(&mut self, one: u32, two: u32) {
         self.make(insert(one, two));
-        while self.make(Call::Step { client: 1, tray: 128, fill: 7 }).ending == 0 {}
+        while self.steps(1, 1).ending == 0 {}
     }
 
     /// Desk 0 reads, up to before its last step.

@@ -39,14 +39,15 @@ fn each_fault_is_found_and_shortened() {
     }
 }
 
-/// Each fault gives stale answers, but for the one whose counts are right and go to the tray.
+/// Each fault gives stale answers, but for the one whose counts are right and go to the tray, and the one that leaves marks for good.
 #[test]
 fn the_checker_finds_what_each_fault_does() {
     for (name, fault) in FAULTS {
         let side = twin_with(fault);
         let findings = check_alone(side, 5, 100_000);
-        let tray = fault == Fault::CountOnTray;
-        assert_eq!((findings.stale > 0, findings.trays > 0), (!tray, tray), "{name}: {} stale of {}", findings.stale, findings.answers);
+        let (tray, marks) = (fault == Fault::CountOnTray, fault == Fault::MarksLeft);
+        let found = (findings.stale > 0, findings.trays > 0, findings.marked > 0);
+        assert_eq!(found, (!tray && !marks, tray, marks), "{name}: {} stale of {}", findings.stale, findings.answers);
         let (script, _) = findings.first.unwrap();
         let shorter = shorten(script, SHORTENING, &|s| complaint_in(side, s).is_some());
         assert!(shorter.calls.len() <= 100, "{name}: {} calls", shorter.calls.len());

@@ -1,7 +1,8 @@
-//! Three desks at one table, as a model for a program in Rust. An answer is filed and given again; a record is corrected, by a delete and an
-//! insert, step by step while other desks read; a refusal is met and named; a read of too many records and an insert into a full table come to
-//! their ends; a range asks for some of them; a count tells how many there are. Leans on the crate
-//! alone. The C example tells the same and prints the same.
+//! Three desks at one table, as a model for a program in Rust. An answer is filed and given again; a
+//! record is corrected, by a delete and an insert, step by step while other desks read; a bench is
+//! pulled out in the middle of a write; a read of too many records and an insert into a full table
+//! come to their ends; a range asks for some of them, and one is refused and named; a count tells
+//! how many there are. Leans on the crate alone. The C example tells the same and prints the same.
 use mondzafeky::{number, Hall, Outcome, Query, Refusal, LIST};
 use std::ops::RangeInclusive;
 
@@ -80,6 +81,13 @@ fn steps(hall: &mut Hall, row: &[u32]) {
     }
 }
 
+/// The bench of a desk is pulled out: what is under way there is abandoned. A write that has reached
+/// the table ends with that, as with its last step; of anything else nothing is left.
+fn pull_out(hall: &mut Hall, desk: u32) -> Result<(), Refusal> {
+    println!("the bench of desk {desk} is pulled out: {}", hall.abandon(desk)?);
+    Ok(())
+}
+
 /// So many records of a bench, settings 1, 2 and so on, inserted at desk 0.
 fn fill(hall: &mut Hall, bench: u32, count: u32) -> Result<(), Refusal> {
     for setting in 1..=count {
@@ -99,18 +107,13 @@ fn main() -> Result<(), Refusal> {
     println!("-- an answer is filed at the first read and given again at the second");
     begin_insert(&mut hall, 0, [3, 40])?;
     run(&mut hall, 0);
-    for desk in [1, 2] {
-        begin_read(&mut hall, desk, 3)?;
-        run(&mut hall, desk);
-    }
+    read_twice(&mut hall)?;
     println!("-- a correction is a delete and an insert; a read meets the delete's marks");
     begin_delete(&mut hall, 0, [3, 40])?;
     steps(&mut hall, &[0, 0, 0]);
     begin_read(&mut hall, 1, 3)?;
     steps(&mut hall, &[1, 0, 1, 1, 1, 0]);
-    println!("-- the delete has reached the table, so it cannot be given up; a read sees the gap");
-    print!("desk 0 would abandon it: ");
-    tell(hall.abandon(0).map(|()| Outcome::UnderWay));
+    println!("-- the delete has reached the table: a read sees the gap");
     begin_read(&mut hall, 2, 3)?;
     steps(&mut hall, &[2, 0, 2, 0, 2, 0, 2, 0]);
     println!("-- the insert closes the gap while a read is under way");
@@ -119,11 +122,32 @@ fn main() -> Result<(), Refusal> {
     begin_read(&mut hall, 1, 3)?;
     steps(&mut hall, &[1, 0, 1, 1, 1, 0, 0, 0, 0]);
     println!("-- a read that begins after the insert's end sees it; its answer is filed");
-    for desk in [1, 2] {
-        begin_read(&mut hall, desk, 3)?;
-        run(&mut hall, desk);
-    }
+    read_twice(&mut hall)?;
+    cut_short(&mut hall)?;
     ends(&mut hall)
+}
+
+/// Reads of bench 3 at two desks, one after the other.
+fn read_twice(hall: &mut Hall) -> Result<(), Refusal> {
+    for desk in [1, 2] {
+        begin_read(hall, desk, 3)?;
+        run(hall, desk);
+    }
+    Ok(())
+}
+
+/// An insert is cut short on each side of its table step; its marks do not stay.
+fn cut_short(hall: &mut Hall) -> Result<(), Refusal> {
+    println!("-- a bench is pulled out before its insert's table step: what was filed holds");
+    begin_insert(hall, 0, [3, 42])?;
+    steps(hall, &[0; 4]);
+    pull_out(hall, 0)?;
+    read_twice(hall)?;
+    println!("-- and after it: the insert ends at once, and the next answer is filed");
+    begin_insert(hall, 0, [3, 42])?;
+    steps(hall, &[0; 6]);
+    pull_out(hall, 0)?;
+    read_twice(hall)
 }
 
 /// 12, a range, a count, 13.

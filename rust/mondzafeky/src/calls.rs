@@ -11,7 +11,7 @@ use crate::Memories;
 #[repr(C)]
 #[derive(Clone, Copy, Debug, PartialEq, Eq)]
 pub struct Reply {
-    /// 0 accepted, 1 to 11 and 14 refused, 12 long, 13 full: see [`crate::number`].
+    /// 0 accepted, 1 to 6, 8 to 11 and 14 refused, 12 long, 13 full: see [`crate::number`].
     pub number: u32,
     /// How many records were answered. Of a list, `count` times k numbers lie in the tray from its
     /// start; of a count, begun by `begin_count` or `begin_count_within`, the tray is as it was.

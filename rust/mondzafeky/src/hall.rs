@@ -1,9 +1,9 @@
 //! A hall that owns its memories and its tray, so that no memory can be exchanged for another and a call has only what it is about. Thin over the
-//! low calls of `Memories`: each method is one of them, with its reply as a `Result`. Leans on saved, outcome, query and inspect.
+//! low calls of `Memories`: each method is one of them, with its reply as a `Result`. Leans on saved, outcome, abandoned, query and inspect.
 use crate::inspect::Inspect;
 use crate::outcome::accepted;
 use crate::saved::{self, WrongLength};
-use crate::{layout, Memories, Outcome, Query, Refusal, Reply, CLIENTS, TRAY_LEAST};
+use crate::{layout, Abandoned, Memories, Outcome, Query, Refusal, Reply, CLIENTS, TRAY_LEAST};
 use std::fmt;
 use std::ops::RangeInclusive;
 
@@ -149,9 +149,30 @@ impl Hall {
         Outcome::of(reply, &self.tray, self.columns(), counts)
     }
 
-    /// Gives up a read, or a write before its table step. Refusals: `Unsound`, `NoClient`, `Idle`, `Committed`.
-    pub fn abandon(&mut self, client: u32) -> Result<(), Refusal> {
-        accepted(self.memories().abandon(client))
+    /// Ends what is under way at `client`, the desk, in one call and at any time: for a bench that
+    /// was pulled out. Of a read, and of a write before its table step, nothing is left
+    /// ([`Abandoned::GivenUp`]). A write that has made its table step has taken effect: all of its
+    /// remaining raises are made here, and its end is told as its last step would have told it. No
+    /// mark of it stays, and the desk is idle. Refusals: `Unsound`, `NoClient`, `Idle`.
+    ///
+    /// ```
+    /// # fn main() -> Result<(), mondzafeky::Refusal> {
+    /// use mondzafeky::{Abandoned, Hall, Outcome, Refusal};
+    /// let mut hall = Hall::open(1)?;
+    /// // An insert makes two marks here, then its table step, then two raises.
+    /// for (steps, abandoned) in [(2, Abandoned::GivenUp), (3, Abandoned::Changed)] {
+    ///     hall.begin_insert(4, &[5])?;
+    ///     for _ in 0..steps {
+    ///         assert_eq!(hall.step(4)?, Outcome::UnderWay);
+    ///     }
+    ///     assert_eq!(hall.abandon(4)?, abandoned);
+    /// }
+    /// assert_eq!(hall.abandon(4), Err(Refusal::Idle));
+    /// # Ok(())
+    /// # }
+    /// ```
+    pub fn abandon(&mut self, client: u32) -> Result<Abandoned, Refusal> {
+        Abandoned::of(self.memories().abandon(client))
     }
 
     /// Puts out the filed answer at `place`, 0 the oldest. Never needed: a full file puts out its oldest by itself. Refusals: `Unsound`, `NoEntry`.

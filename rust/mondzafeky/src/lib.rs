@@ -17,14 +17,15 @@
 //!
 //! # How to call it
 //!
-//! [`Hall`] owns its memories. A call that is turned down returns a [`Refusal`], 1 to 11 or 14, and
-//! has altered nothing. **12 and 13 are ends**, not refusals: the read found more than 32 records
-//! ([`Outcome::Long`]), the insert found the table full ([`Outcome::Full`]), and the desk is idle
-//! after them as after every other end ([`Outcome::has_ended`]). How many they are is told by a
-//! count ([`Hall::begin_count`], [`Outcome::Counted`]), which never ends with 12; a range
-//! ([`Hall::begin_read_within`]) asks for some of them, "classes 4 to 9". A correction is a delete
-//! and an insert, and between their ends neither record is there, or both are: the caller chooses
-//! by their order.
+//! [`Hall`] owns its memories. A call that is turned down returns a [`Refusal`], 1 to 11 or 14 (7
+//! is unused), and has altered nothing. **12 and 13 are ends**, not refusals: the read found more
+//! than 32 records ([`Outcome::Long`]), the insert found the table full ([`Outcome::Full`]), and
+//! the desk is idle after them as after every other end ([`Outcome::has_ended`]). How many they are
+//! is told by a count ([`Hall::begin_count`], [`Outcome::Counted`]), which never ends with 12; a
+//! range ([`Hall::begin_read_within`]) asks for some of them, "classes 4 to 9". A correction is a
+//! delete and an insert, and between their ends neither record is there, or both are: the caller
+//! chooses by their order. A bench can be pulled out at any time: [`Hall::abandon`] gives up a
+//! read, or a write that has not reached the table, and ends a write that has ([`Abandoned`]).
 //!
 //! Calls are **indivisible towards each other, but not thread-safe**: steps of different desks may follow each other in any order, two calls at
 //! once on one hall may not. Where threads share a hall, put one lock (a `Mutex<Hall>`) around each call; it need not be held from a begin to
@@ -73,6 +74,7 @@
 #![deny(unsafe_code, unsafe_op_in_unsafe_fn)]
 #![warn(missing_docs)]
 
+mod abandoned;
 #[allow(unsafe_code)]
 mod calls;
 mod hall;
@@ -84,6 +86,7 @@ mod query;
 mod refusal;
 pub mod saved;
 
+pub use abandoned::Abandoned;
 pub use calls::Reply;
 pub use hall::Hall;
 pub use outcome::{Outcome, Records};
@@ -113,7 +116,7 @@ pub const CLIENTS: u32 = 12;
 pub const LIST: u32 = 32;
 
 /// The numbers that a call returns in [`Reply::number`]. 1 to 11, and 14, are refusals: no memory
-/// is altered.
+/// is altered. 7 is not among them: it is given no longer, and the number stays unused.
 pub mod number {
     pub use crate::names::{name, sentence};
 
@@ -133,8 +136,6 @@ pub mod number {
     pub const TAKEN: u32 = 5;
     /// A step or an abandoning at an idle desk.
     pub const IDLE: u32 = 6;
-    /// An abandoning of a write after its table step.
-    pub const COMMITTED: u32 = 7;
     /// No answer or node at that place.
     pub const NO_ENTRY: u32 = 8;
     /// A write is pending at that node: it is marked.
@@ -145,7 +146,8 @@ pub mod number {
     pub const OCCUPIED: u32 = 11;
     /// The read has ended: more than 32 records match, and the tray is untouched. A count is never ended so.
     pub const LONG: u32 = 12;
-    /// The insert has ended: the table held 2,048 records and not this one.
+    /// The insert has ended, with its last step or an abandoning: the table held 2,048 records and
+    /// not this one.
     pub const FULL: u32 = 13;
     /// The lowest value of a range is above its highest.
     pub const REVERSED: u32 = 14;
@@ -226,7 +228,11 @@ impl Memories<'_> {
         calls::step(self, tray, client)
     }
 
-    /// Gives up a read, or a write before its table step. Refusals: 1, 3, 4, 6, 7.
+    /// Ends what is under way at `client`, the desk, in one call and at any time. Of a read, and of
+    /// a write before its table step, whose marks are taken back, nothing is left: 0 with ending 0.
+    /// A write that has made its table step makes all of its remaining raises, and the reply is its
+    /// end as its last step would have told it: 0 with ending 3 or 4, or 13. The desk is idle.
+    /// Refusals: 1, 3, 4, 6.
     pub fn abandon(&mut self, client: u32) -> Reply {
         calls::abandon(self, client)
     }

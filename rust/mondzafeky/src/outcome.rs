@@ -94,18 +94,20 @@ pub(crate) fn accepted(reply: Reply) -> Result<(), Refusal> {
 
 /// Of a reply that is known to be none of the others. The library is proved to give nothing else, so what is left is an archive of another
 /// version: it is better to say so than to take its number for something.
-fn refusal_of(reply: Reply) -> Refusal {
+pub(crate) fn refusal_of(reply: Reply) -> Refusal {
     Refusal::try_from(reply.number).unwrap_or_else(|_| panic!("the linked archive gave {reply:?}, which this version of mondzafeky does not know"))
 }
 
 impl Reply {
     /// Whether a read or write has ended with this reply: an ending, or 12 or 13, whose ending is 0.
+    /// Of an abandoning's reply it tells whether the write had made its table step; the desk is idle
+    /// after it either way.
     #[must_use]
     pub fn has_ended(self) -> bool {
         self.ending != ending::NONE || matches!(self.number, number::LONG | number::FULL)
     }
 
-    /// What the call was turned down with, if it was: 1 to 11, or 14.
+    /// What the call was turned down with, if it was: 1 to 6, 8 to 11 or 14.
     #[must_use]
     pub fn refusal(self) -> Option<Refusal> {
         Refusal::try_from(self.number).ok()

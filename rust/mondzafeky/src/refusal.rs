@@ -1,12 +1,12 @@
-//! What a call is turned down with: the numbers 1 to 11, and 14, as an error. Leans on names and on
-//! the numbers in lib.
+//! What a call is turned down with: the numbers 1 to 6, 8 to 11 and 14, as an error. Leans on names
+//! and on the numbers in lib.
 use crate::number;
 use std::error::Error;
 use std::fmt;
 
 /// A call was turned down and altered nothing. The first number that applies is given, in the order
 /// 1, 2, 14, 3, 4 and so on. 12 and 13 are not among these: they end a read or a write, and are
-/// [`crate::Outcome::Long`] and [`crate::Outcome::Full`].
+/// [`crate::Outcome::Long`] and [`crate::Outcome::Full`]. 7 is given no longer and stays unused.
 ///
 /// ```
 /// let refusal = mondzafeky::Hall::open(5).unwrap_err();
@@ -31,8 +31,6 @@ pub enum Refusal {
     Taken = number::TAKEN,
     /// 6: a step or an abandoning at an idle desk.
     Idle = number::IDLE,
-    /// 7: an abandoning of a write after its table step.
-    Committed = number::COMMITTED,
     /// 8: no answer or node at that place.
     NoEntry = number::NO_ENTRY,
     /// 9: a write is pending at that node: it is marked.
@@ -47,14 +45,13 @@ pub enum Refusal {
 
 impl Refusal {
     /// All of them, by their number.
-    pub const ALL: [Refusal; 12] = [
+    pub const ALL: [Refusal; 11] = [
         Refusal::Short,
         Refusal::Columns,
         Refusal::Unsound,
         Refusal::NoClient,
         Refusal::Taken,
         Refusal::Idle,
-        Refusal::Committed,
         Refusal::NoEntry,
         Refusal::Pending,
         Refusal::Worn,
@@ -62,7 +59,7 @@ impl Refusal {
         Refusal::Reversed,
     ];
 
-    /// The number that the call returned, 1 to 11 or 14.
+    /// The number that the call returned: 1 to 6, 8 to 11 or 14.
     #[must_use]
     pub fn number(self) -> u32 {
         self as u32
@@ -99,13 +96,13 @@ impl TryFrom<u32> for Refusal {
     }
 }
 
-/// A number that is none of 1 to 11, nor 14.
+/// A number that is no refusal's: none of 1 to 6, 8 to 11 and 14.
 #[derive(Clone, Copy, Debug, PartialEq, Eq)]
 pub struct NoRefusal(pub u32);
 
 impl fmt::Display for NoRefusal {
     fn fmt(&self, f: &mut fmt::Formatter<'_>) -> fmt::Result {
-        write!(f, "{}, {}, is no refusal: those are 1 to 11 and 14", self.0, number::name(self.0))
+        write!(f, "{}, {}, is no refusal: those are 1 to 6, 8 to 11 and 14", self.0, number::name(self.0))
     }
 }
 

@@ -145,9 +145,6 @@ fn the_refusals_that_a_caller_can_meet() {
     assert_eq!(m.renew(), refused(number::OCCUPIED));
     assert_eq!(m.step(&mut tray, 3), accepted());
     assert_eq!(m.evict_node(0), refused(number::PENDING));
-    assert_eq!(m.step(&mut tray, 3), accepted());
-    assert_eq!(m.step(&mut tray, 3), accepted());
-    assert_eq!(m.abandon(3), refused(number::COMMITTED));
     m.nodes[0] = 4_294_967_104;
     assert_eq!(m.begin_insert(0, &[1, 6]), refused(number::WORN));
     assert_eq!(m.begin_count(0, &[1, 6]), accepted(), "worn is for writes");

@@ -1,6 +1,6 @@
 //! The owned hall: each of its calls, each refusal with its number, the ends 12 and 13, queries, records, and the saved form.
 use mondzafeky::saved::{self, WrongLength};
-use mondzafeky::{ending, number, Hall, Memories, NoRefusal, Outcome, Query, Refusal, Reply, RECORDS, TRAY_LEAST};
+use mondzafeky::{ending, number, Abandoned, Hall, Memories, NoRefusal, Outcome, Query, Refusal, Reply, RECORDS, TRAY_LEAST};
 
 fn insert(hall: &mut Hall, client: u32, record: &[u32]) -> Outcome<'static> {
     hall.begin_insert(client, record).unwrap();
@@ -114,7 +114,7 @@ fn lists_and_counts_at_neighbouring_desks() {
     }
     hall.begin_count(11, &bench_3).unwrap();
     assert_eq!(hall.begin_count(11, &bench_3), Err(Refusal::Taken));
-    assert_eq!((hall.abandon(11), hall.step(11)), (Ok(()), Err(Refusal::Idle)));
+    assert_eq!((hall.abandon(11), hall.step(11)), (Ok(Abandoned::GivenUp), Err(Refusal::Idle)));
 }
 
 #[test]
@@ -171,7 +171,6 @@ fn each_refusal_is_met_with_its_number() {
     hall.begin_insert(7, &[9, 9]).unwrap();
     met.extend([hall.begin_insert(7, &[9, 9]).unwrap_err(), hall.renew().unwrap_err()]);
     (0..5).for_each(|_| assert_eq!(hall.step(7), Ok(Outcome::UnderWay)));
-    met.push(hall.abandon(7).unwrap_err());
     let marked = hall.inspect().nodes().position(|node| node.unwrap().pending > 0).unwrap();
     met.push(hall.evict_node(marked as u32).unwrap_err());
     hall.memories().nodes[0] = 4_294_967_104;
@@ -179,8 +178,9 @@ fn each_refusal_is_met_with_its_number() {
     hall.memories().clients[0] = 5;
     met.push(hall.run(7).unwrap_err());
     let numbers: Vec<u32> = met.into_iter().map(Refusal::number).collect();
-    assert_eq!(numbers, [2, 2, 1, 4, 6, 6, 8, 8, 5, 11, 7, 9, 10, 3]);
-    assert!((1..=11).all(|n| numbers.contains(&n)), "14 is met in tests/ranges.rs");
+    assert_eq!(numbers, [2, 2, 1, 4, 6, 6, 8, 8, 5, 11, 9, 10, 3]);
+    let all = Refusal::ALL.map(Refusal::number);
+    assert!(all.iter().all(|n| numbers.contains(n) || *n == number::REVERSED), "14 is met in tests/ranges.rs");
 }
 
 #[test]
@@ -198,27 +198,28 @@ fn refused_calls_alter_nothing() {
     assert_eq!(hall.evict_answer(64), Err(Refusal::NoEntry));
     assert_eq!(hall.renew(), Err(Refusal::Occupied));
     assert!(hall == before);
-    assert_eq!(hall.abandon(7), Ok(()));
+    assert_eq!(hall.abandon(7), Ok(Abandoned::GivenUp));
     assert!(hall != before);
 }
 
 #[test]
 fn refusals_have_numbers_words_and_sentences() {
-    let words = ["short", "columns", "unsound", "no desk", "taken", "idle", "committed", "no entry", "marked", "worn", "occupied", "reversed"];
-    assert_eq!(Refusal::ALL.len(), words.len());
-    for (i, refusal) in Refusal::ALL.into_iter().enumerate() {
-        // 12 and 13 are ends.
-        let n = if i < 11 { i as u32 + 1 } else { 14 };
-        assert_eq!((refusal.number(), Refusal::try_from(n), refusal.name()), (n, Ok(refusal), words[i]));
-        assert_eq!(refusal.to_string(), format!("{n}, {}: {}", words[i], refusal.sentence()));
+    let words = ["short", "columns", "unsound", "no desk", "taken", "idle", "no entry", "marked", "worn", "occupied", "reversed"];
+    // 7 is given no longer; 12 and 13 are ends.
+    let numbers = [1, 2, 3, 4, 5, 6, 8, 9, 10, 11, 14];
+    assert_eq!(Refusal::ALL.map(Refusal::number), numbers);
+    for ((refusal, n), word) in Refusal::ALL.into_iter().zip(numbers).zip(words) {
+        assert_eq!((Refusal::try_from(n), refusal.name()), (Ok(refusal), word));
+        assert_eq!(refusal.to_string(), format!("{n}, {word}: {}", refusal.sentence()));
         assert_eq!((number::name(n), number::sentence(n)), (refusal.name(), refusal.sentence()));
         assert!(refusal.sentence().contains(';'), "what it means; what to do: {refusal}");
     }
-    for n in [0, 12, 13, 15, u32::MAX] {
+    for n in [0, 7, 12, 13, 15, u32::MAX] {
         assert_eq!(Refusal::try_from(n), Err(NoRefusal(n)));
     }
-    assert_eq!(NoRefusal(13).to_string(), "13, full, is no refusal: those are 1 to 11 and 14");
-    assert_eq!([0, 12, 13, 15].map(number::name), ["accepted", "long", "full", "unknown"]);
+    assert_eq!(NoRefusal(13).to_string(), "13, full, is no refusal: those are 1 to 6, 8 to 11 and 14");
+    assert_eq!([0, 7, 12, 13, 15].map(number::name), ["accepted", "unknown", "long", "full", "unknown"]);
+    assert_eq!((number::sentence(7), number::sentence(15)), ("No call returns this number.", "No call returns this number."));
     assert_eq!(
         Refusal::Reversed.to_string(),
         "14, reversed: The lowest value of the range is above its highest; give the lower one first, and begin again."
@@ -232,7 +233,11 @@ fn replies_tell_ends_from_refusals() {
     let reply = |number, ending| Reply { number, count: 0, ending };
     assert!(!reply(number::ACCEPTED, ending::NONE).has_ended());
     assert!((1..=4).all(|end| reply(number::ACCEPTED, end).has_ended() && reply(number::ACCEPTED, end).refusal().is_none()));
-    assert!((1..=11).chain([14]).all(|n| !reply(n, 0).has_ended() && reply(n, 0).refusal().map(Refusal::number) == Some(n)));
+    for refusal in Refusal::ALL {
+        let reply = reply(refusal.number(), ending::NONE);
+        assert!(!reply.has_ended() && reply.refusal() == Some(refusal));
+    }
+    assert!(!reply(7, ending::NONE).has_ended() && reply(7, ending::NONE).refusal().is_none(), "a number that no call gives");
     assert!([12, 13].into_iter().all(|n| reply(n, 0).has_ended() && reply(n, 0).refusal().is_none()));
 }
 

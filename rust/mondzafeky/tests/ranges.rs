@@ -1,7 +1,7 @@
 //! Reads and counts with a range in one column: which records, both ends; what is refused and in
 //! which order; what is filed under which key and what spoils it; held and filed ranges that no
 //! begin leaves.
-use mondzafeky::{ending, number, saved, Hall, Memories, Outcome, Query, Refusal, Reply, TRAY_LEAST};
+use mondzafeky::{ending, number, saved, Abandoned, Hall, Memories, Outcome, Query, Refusal, Reply, TRAY_LEAST};
 use std::ops::RangeInclusive;
 
 const NOTHING: Reply = Reply { number: 0, count: 0, ending: ending::NONE };
@@ -242,7 +242,7 @@ fn what_a_begin_writes() {
         let at = 8 + 157 * client as usize;
         hall.begin_read_within(client, &Query::from(query), column, 4..=9).unwrap();
         assert_eq!((hall.memories().clients[at], &hall.memories().clients[at + 5..at + 12]), (1, &key[..]), "32 times the column plus 1");
-        hall.abandon(client).unwrap();
+        assert_eq!(hall.abandon(client), Ok(Abandoned::GivenUp));
         hall.begin_count_within(client, &Query::from(query), column, 4..=9).unwrap();
         assert_eq!(hall.memories().clients[at + 5], key[0] + 16);
     }

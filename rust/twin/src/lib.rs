@@ -16,7 +16,7 @@ use layout::*;
 use query::Query;
 use range::Range;
 
-/// Document 01, "Faults a bench would show", and five more: looks that pay no heed to marks, two of counts and two of ranges.
+/// Document 01, "Faults a bench would show", and seven more: looks that pay no heed to marks, two each of counts, of ranges and of abandonings.
 #[derive(Clone, Copy, PartialEq, Eq, Debug)]
 #[repr(u8)]
 pub enum Fault {
@@ -41,6 +41,10 @@ pub enum Fault {
     PlainKey,
     /// a range takes the value just above its highest too
     WideRange,
+    /// a write abandoned after its table step takes back its marks and raises nothing
+    TakenBack,
+    /// a write abandoned after its table step leaves its marks: they stand for good
+    MarksLeft,
 }
 
 /// The number for a plain twin, to be given as `Memories<'_, PLAIN>` where it is not the default.
@@ -58,7 +62,7 @@ pub struct Reply {
 impl Reply {
     const ACCEPTED: Reply = Reply::refused(0);
 
-    /// 1 to 14, which have no count; 0 where nothing ended.
+    /// 1 to 14, which have no count, and of which 7 is given no longer; 0 where nothing ended.
     const fn refused(number: u32) -> Reply {
         Reply { number, count: 0, ending: 0 }
     }
@@ -149,23 +153,19 @@ impl<const FAULT: u8> Memories<'_, FAULT> {
         }
     }
 
+    /// A read leaves its desk idle; a write takes back its marks, or ends (document 02, S-4).
     pub fn abandon(&mut self, client: u32) -> Reply {
         if self.is_short() {
             return Reply::refused(1);
         }
-        let query = match self.busy_query(client) {
-            Err(refusal) => return Reply::refused(refusal),
-            Ok(query) => query,
-        };
-        let (kind, steps) = (self.client(client)[CLIENT_KIND], self.client(client)[CLIENT_STEPS]);
-        if kind != READ && steps > query.announcements() {
-            return Reply::refused(7);
+        match self.busy_query(client) {
+            Err(refusal) => Reply::refused(refusal),
+            Ok(_) if self.client(client)[CLIENT_KIND] == READ => {
+                self.client_mut(client).fill(0);
+                Reply::ACCEPTED
+            }
+            Ok(query) => self.abandon_write(client, &query),
         }
-        if kind != READ && nodes::release_all::<FAULT>(self.nodes, &query, steps).is_none() {
-            return Reply::refused(3);
-        }
-        self.client_mut(client).fill(0);
-        Reply::ACCEPTED
     }
 
     pub fn evict_answer(&mut self, place: u32) -> Reply {

@@ -1,10 +1,11 @@
-//! The nodes memory: looks, announcements (marks), raises, and nodes evicted (put out) (document 01, "One desk, step by step"). Leans on layout
-//! and query.
+//! The nodes memory: looks, announcements (marks), raises and marks taken back, and nodes evicted (put out) (document 01, "One desk, step by
+//! step"). Leans on layout and query.
 //! The count in memory is known to be at most 1,024 and the memory to be long enough: refusals come first.
 
 use crate::layout::*;
 use crate::query::{Label, Query};
 use crate::Fault;
+use std::ops::Range;
 
 pub fn all(nodes: &[u32]) -> &[[u32; NODE_WIDTH]] {
     &nodes[HEAD..NODES_LEAST].as_chunks().0[..nodes[NODE_COUNT] as usize]
@@ -74,42 +75,35 @@ pub fn announce<const FAULT: u8>(nodes: &mut [u32], label: &Label) -> Option<()>
     Some(())
 }
 
-/// Revision up by one, pending writes down by one; none if the node is missing or has none, or its revision is at its largest.
-pub fn raise<const FAULT: u8>(nodes: &mut [u32], label: &Label) -> Option<()> {
-    if FAULT == Fault::EarlyRaise as u8 {
-        return Some(());
-    }
-    let place = find(nodes, label)?;
-    let node = at(nodes, place);
-    let pending = if FAULT == Fault::OneBit as u8 { 0 } else { node[NODE_PENDING].checked_sub(1)? };
-    node[NODE_REVISION] = node[NODE_REVISION].checked_add(1)?;
-    node[NODE_PENDING] = pending;
-    Some(())
-}
-
-/// Takes back the marks of a write's first `count` nodes: all of them, or none if one is missing or has no pending write.
-/// The labels of one write differ, so each is tested on its own.
-pub fn release_all<const FAULT: u8>(nodes: &mut [u32], query: &Query, count: u32) -> Option<()> {
+/// One pending write fewer at each of these nodes of a write, and with a lift one revision more: all of them or none. With a lift it is the raise,
+/// of one node by a step and of all that are left by an abandoning (document 02, S-4); without, marks are taken back. The labels of one write
+/// differ, so each node is tested on its own.
+pub fn retire<const FAULT: u8>(nodes: &mut [u32], query: &Query, numbers: Range<u32>, lift: bool) -> Option<()> {
     if FAULT == Fault::EarlyRaise as u8 {
         return Some(());
     }
     let mut places = [0; 16];
-    for number in 0..count {
-        let place = find(nodes, &query.write_label::<FAULT>(number))?;
-        if all(nodes)[place][NODE_PENDING] == 0 && FAULT != Fault::OneBit as u8 {
-            return None;
-        }
-        places[number as usize] = place;
+    let own = &mut places[..numbers.len()];
+    for (place, number) in own.iter_mut().zip(numbers) {
+        *place = retirable::<FAULT>(nodes, &query.write_label::<FAULT>(number), lift)?;
     }
-    release::<FAULT>(nodes, &places[..count as usize]);
+    release::<FAULT>(nodes, own, lift);
     Some(())
 }
 
-/// One pending write fewer at each place.
-fn release<const FAULT: u8>(nodes: &mut [u32], places: &[usize]) {
+/// The place of the label's node; none if it is missing or has no pending write, or if its revision is at its largest and is to be lifted.
+fn retirable<const FAULT: u8>(nodes: &[u32], label: &Label, lift: bool) -> Option<usize> {
+    let place = find(nodes, label)?;
+    let node = all(nodes)[place];
+    let pending = node[NODE_PENDING] != 0 || FAULT == Fault::OneBit as u8;
+    (pending && (!lift || node[NODE_REVISION] < u32::MAX)).then_some(place)
+}
+
+fn release<const FAULT: u8>(nodes: &mut [u32], places: &[usize], lift: bool) {
     for &place in places {
         let node = at(nodes, place);
         node[NODE_PENDING] = if FAULT == Fault::OneBit as u8 { 0 } else { node[NODE_PENDING] - 1 };
+        node[NODE_REVISION] += lift as u32;
     }
 }
 

@@ -1,10 +1,12 @@
-//! One step of a desk, after its refusals (document 01, "One desk, step by step"). Leans on nodes, answers and table.
+//! One step of a desk, and the abandoning of a write, after their refusals (document 01, "One desk, step by step"; document 02, S-4). Leans on
+//! nodes, answers and table.
 
 use crate::answers::{entry_of, Entry};
 use crate::layout::*;
 use crate::query::Query;
 use crate::table::Change;
 use crate::{answers, nodes, table, Fault, Memories, Reply};
+use std::ops::Range;
 
 impl<const FAULT: u8> Memories<'_, FAULT> {
     /// Looks, then fetch, table, file.
@@ -111,7 +113,8 @@ impl<const FAULT: u8> Memories<'_, FAULT> {
             self.write_table(client, query);
             Some(())
         } else {
-            nodes::raise::<FAULT>(self.nodes, &query.write_label::<FAULT>(steps - announcements - 1))
+            let raised = steps - announcements - 1;
+            nodes::retire::<FAULT>(self.nodes, query, raised..raised + 1, true)
         };
         if done.is_none() {
             return Reply::refused(3);
@@ -121,6 +124,30 @@ impl<const FAULT: u8> Memories<'_, FAULT> {
         }
         self.client_mut(client)[CLIENT_STEPS] += 1;
         Reply::ACCEPTED
+    }
+
+    /// Before the table step the marks that were set are taken back. After it the raises that are left are made, and the write ends as it would
+    /// with the last of them.
+    pub(crate) fn abandon_write(&mut self, client: u32, query: &Query) -> Reply {
+        let (steps, announcements) = (self.client(client)[CLIENT_STEPS], query.announcements());
+        let past_table = steps > announcements;
+        let marked = if past_table { steps - announcements - 1..announcements } else { 0..steps };
+        if self.retire_abandoned(query, marked, past_table).is_none() {
+            return Reply::refused(3);
+        }
+        if past_table {
+            return self.end_write(client);
+        }
+        self.client_mut(client).fill(0);
+        Reply::ACCEPTED
+    }
+
+    /// A mark off each node that an abandoned write holds one at; the faults: past its table step it leaves them, or takes them back.
+    fn retire_abandoned(&mut self, query: &Query, marked: Range<u32>, past_table: bool) -> Option<()> {
+        if past_table && FAULT == Fault::MarksLeft as u8 {
+            return Some(());
+        }
+        nodes::retire::<FAULT>(self.nodes, query, marked, past_table && FAULT != Fault::TakenBack as u8)
     }
 
     fn write_table(&mut self, client: u32, query: &Query) {

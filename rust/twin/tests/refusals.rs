@@ -1,4 +1,4 @@
-//! Refusals 1 to 11 and 14 alter nothing, whatever the memories hold.
+//! Refusals 1 to 11 (7 is given no longer) and 14 alter nothing, whatever the memories hold.
 
 use twin::layout::*;
 use twin::Memories;

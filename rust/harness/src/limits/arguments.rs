@@ -62,10 +62,11 @@ pub fn queries(rows: &mut Vec<Row>, k: u32) {
 }
 
 /// The sets of what can apply at once. Bits of `several`: 0 a desks memory that is a number short, 1 a query with a mark of 2, 2 a record
-/// too many in memory, 3 a floor that is worn. Desk 3 has an insert behind its table step, so node 0 is marked; desk 4 has a read.
+/// too many in memory, 3 a floor that is worn. Desk 3 has an insert behind its table step that has noted a full table, so node 0 is marked; desk 4
+/// has a read.
 pub fn order(rows: &mut Vec<Row>, k: u32) {
-    let busy = Scene::opened(k).begun(INSERT, 3, ALL, 5).steps(3, (1 << k) + 1).begun(READ, 4, ALL, 5);
-    let at_desks = [(step(4), 0), (step(0), 6), (step(12), 4), (abandon(4), 0), (abandon(3), 7), (abandon(0), 6), (abandon(12), 4)];
+    let busy = Scene::opened(k).begun(INSERT, 3, ALL, 5).steps(3, (1 << k) + 1).put(client(3, CLIENT_FULL), 1).begun(READ, 4, ALL, 5);
+    let at_desks = [(step(4), 0), (step(0), 6), (step(12), 4), (abandon(4), 0), (abandon(3), 13), (abandon(0), 6), (abandon(12), 4)];
     let nodes = [(Call::EvictNode { place: 1 << k }, 8), (Call::EvictNode { place: 0 }, 9)];
     for several in 0..16 {
         let [short, odd, unsound, worn] = [0, 1, 2, 3].map(|bit| several >> bit & 1);

@@ -11,8 +11,8 @@ const STRAY: Limit = ("number of the desks memory that is not 0", "an idle desk 
 /// What is under way at desk 4: its kind, the columns named, their value, the steps made.
 type Work = (u32, u32, u32, u32);
 /// Where it is in range: what a step says, and an abandoning.
-pub type Good = Option<(Reply, u32)>;
-pub const GOES_ON: Good = Some((says(0), 0));
+pub type Good = Option<(Reply, Reply)>;
+pub const GOES_ON: Good = Some((says(0), says(0)));
 
 /// All calls while number `at` of desk 4 is `value`.
 fn busy(rows: &mut Vec<Row>, k: u32, limit: Limit, work: Work, (at, value): (usize, u32), good: Good) {
@@ -24,9 +24,9 @@ fn busy(rows: &mut Vec<Row>, k: u32, limit: Limit, work: Work, (at, value): (usi
 /// All calls while desk 4 is busy and the others are idle.
 pub fn every_call(rows: &mut Vec<Row>, scene: &Scene, limit: Limit, value: u32, good: Good) {
     let k = scene.k;
-    let (refused, stepped, abandoned) = good.map_or((3, says(3), 3), |(stepped, abandoned)| (5, stepped, abandoned));
+    let (refused, stepped, abandoned) = good.map_or((3, says(3), says(3)), |(stepped, abandoned)| (5, stepped, abandoned));
     let begun = begins(k, 4).into_iter().map(|call| (call, says(refused)));
-    let moved = [(step(4), stepped), (abandon(4), says(abandoned))];
+    let moved = [(step(4), stepped), (abandon(4), abandoned)];
     // a renewal asks only whether the desk is idle, a call at another desk not even that
     let others = [(Call::Renew, says(11)), (begin(READ, 5, query(k, ALL, 5)), says(0)), (Call::EvictAnswer { place: 0 }, says(8))];
     rows.extend(begun.chain(moved).chain(others).map(|(call, wanted)| scene.row(limit, value, call, wanted)));
@@ -51,9 +51,9 @@ pub fn lengths(rows: &mut Vec<Row>, k: u32) {
 /// A read that names m columns has 2^m looks, fetch, table and file: the last of its steps finds 2^m + 2 made. A write has 2^k marks,
 /// the table and 2^k raises.
 pub fn steps(rows: &mut Vec<Row>, k: u32) {
-    let reads = READS.into_iter().flat_map(|kind| (0..=k).map(move |m| (kind, marks(m), (1 << m) + 2, (from_table(0), 0))));
+    let reads = READS.into_iter().flat_map(|kind| (0..=k).map(move |m| (kind, marks(m), (1 << m) + 2, (from_table(0), says(0)))));
     let last = 2 << k;
-    let writes = [(INSERT, ALL, last, (CHANGED, 7)), (DELETE, 0, last, (UNCHANGED, 7))];
+    let writes = [(INSERT, ALL, last, (CHANGED, CHANGED)), (DELETE, 0, last, (UNCHANGED, UNCHANGED))];
     for (kind, named, last, end) in reads.chain(writes) {
         for (made, good) in [(last, Some(end)), (last + 1, None), (u32::MAX, None)] {
             busy(rows, k, ("desk's steps", OUT), (kind, named, 5, last), (CLIENT_STEPS, made), good);

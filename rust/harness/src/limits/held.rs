@@ -79,7 +79,7 @@ fn steps(rows: &mut Vec<Row>, k: u32, kind: u32) {
     for m in 0..k {
         let (read, last) = (Read::within(kind, marks(m), (k - 1, 4, 9)), (1 << m) + 2);
         let scene = || Scene::opened(k).made(read.begin(k, 4)).steps(4, last);
-        for (made, good) in [(last, Some((from_table(0), 0))), (last + 1, None), (MOST, None)] {
+        for (made, good) in [(last, Some((from_table(0), says(0)))), (last + 1, None), (MOST, None)] {
             every_call(rows, &scene().put(client(4, CLIENT_STEPS), made), STEPS, made, good);
         }
     }

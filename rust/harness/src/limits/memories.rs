@@ -119,6 +119,7 @@ fn calls(k: u32) -> Vec<Row> {
         (read.clone(), step(11), says(0)),
         (read.steps(11, (1 << (k - 1)) + 2), step(11), from_table(32)),
         (full().begun(INSERT, 11, ALL, 5).steps(11, 1), abandon(11), says(0)),
+        (full().begun(INSERT, 11, ALL, 5_000).steps(11, (1 << k) + 1), abandon(11), says(13)),
         (full(), Call::EvictAnswer { place: 63 }, says(0)),
         (full(), Call::EvictNode { place: 1_023 }, says(0)),
         (full(), Call::Renew, says(0)),

@@ -1,9 +1,10 @@
-//! Both sides of every limit of document 01, of S-1 and S-3 in document 02 and of every least length, as rows: a scene, a call, and what the
+//! Both sides of every limit of document 01, of S-1, S-3 and S-4 in document 02 and of every least length, as rows: a scene, a call, and what the
 //! documents have for it, with the words that give it. Library and twin are each held to that; neither is judged by the other, though their
 //! memories are compared too.
-//! scene: scenes and calls; memories, clients, arguments, steps, counts, nodes, passes, ranges, reversed, held: the rows. Leans on call, hall
-//! and side.
+//! scene: scenes and calls; memories, clients, arguments, steps, counts, nodes, abandonings, passes, ranges, reversed, held: the rows. Leans on
+//! call, hall and side.
 
+mod abandonings;
 mod arguments;
 mod clients;
 mod counts;
@@ -162,7 +163,7 @@ pub fn rows() -> Vec<Row> {
             arguments::order,
         ],
         [clients::kinds, clients::steps, clients::lengths, clients::keys, clients::renewals, steps::lists, steps::fetches, counts::counted],
-        [steps::filings, steps::inserts, steps::deletes, steps::abandonings, nodes::room, nodes::writes, nodes::worn, counts::beside_lists],
+        [steps::filings, steps::inserts, steps::deletes, abandonings::by_steps, nodes::room, nodes::writes, nodes::worn, counts::beside_lists],
     ];
     let of_ranges: [Part; 10] = [
         ranges::taken,
@@ -176,8 +177,9 @@ pub fn rows() -> Vec<Row> {
         held::ranges,
         held::filed,
     ];
+    let of_abandonings: [Part; 5] = [abandonings::flags, abandonings::nodes, abandonings::desks, abandonings::read_again, abandonings::of_reads];
     for k in 1..=4 {
-        parts.iter().flatten().chain(&of_ranges).for_each(|part| part(&mut rows, k));
+        parts.iter().flatten().chain(&of_ranges).chain(&of_abandonings).for_each(|part| part(&mut rows, k));
         passes::places(&mut rows, k);
     }
     let exact: Vec<Row> = rows.iter().filter(|row| row.lent == MORE).map(|row| row.clone().lent(LEAST)).collect();

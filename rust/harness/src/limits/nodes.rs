@@ -44,7 +44,7 @@ pub fn room(rows: &mut Vec<Row>, k: u32) {
 }
 
 /// A write that names 5 in every column, at desk 0, after some steps in an empty hall: its nodes are node 0, 1, ..
-fn writing(k: u32, kind: u32, steps: u32) -> Scene {
+pub fn writing(k: u32, kind: u32, steps: u32) -> Scene {
     Scene::opened(k).begun(kind, 0, ALL, 5).steps(0, steps)
 }
 

@@ -5,8 +5,9 @@ use super::{Limit, Row, MORE};
 use crate::call::{Ask, Asked, Call, Within};
 use crate::hall::Hall;
 use crate::side::{Reply, Side};
-pub use twin::layout::{CLIENT_ENTRY, CLIENT_KIND, CLIENT_STEPS, CLIENT_WIDTH, ENTRY_LENGTH, ENTRY_LIST, ENTRY_REVISIONS, ENTRY_WIDTH, HEAD};
-pub use twin::layout::{COUNT_BIT, DELETE, INSERT, KEY_HIGHEST, KEY_LOWEST, NODE_PENDING, NODE_REVISION, NODE_WIDTH, RANGE_UNIT, READ, TAG_VALUE};
+pub use twin::layout::{CLIENT_CHANGED, CLIENT_ENTRY, CLIENT_FULL, CLIENT_KIND, CLIENT_STEPS, CLIENT_WIDTH, ENTRY_LENGTH, ENTRY_LIST};
+pub use twin::layout::{COUNT_BIT, DELETE, ENTRY_REVISIONS, ENTRY_WIDTH, HEAD, INSERT, KEY_HIGHEST, KEY_LOWEST, NODE_PENDING, NODE_REVISION};
+pub use twin::layout::{NODE_WIDTH, RANGE_UNIT, READ, TAG_VALUE};
 
 /// A memory (0 table, 1 nodes, 2 answers, 3 desks, 4 tray) and a place in it.
 pub type Place = (usize, usize);

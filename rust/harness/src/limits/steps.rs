@@ -1,5 +1,5 @@
-//! Rows: 32 and 33 matching records, revisions that hold or do not, 63 and 64 filed answers; 2,047 and 2,048 records at an insert, deletes,
-//! abandonings on each side of the table step. Leans on scene.
+//! Rows: 32 and 33 matching records, revisions that hold or do not, 63 and 64 filed answers; 2,047 and 2,048 records at an insert, deletes.
+//! Leans on scene.
 
 use super::*;
 use crate::call::Asked;
@@ -14,8 +14,6 @@ const NOTED: Limit = ("file step, a counter that was noted as 1", "the list goes
 const INSERTS: Limit = ("insert, records", "at the table step the table held 2,048 records, not this one");
 const DELETES: Limit = ("delete, records", "the record is added or the subspace removed");
 const LATER: Limit = ("last raise of a full insert, records by then", "at the table step the table held 2,048 records, not this one");
-const ABANDONED: Limit = ("abandoning of a write, steps made", "abandon of a write after its table step");
-const READ_ABANDONED: Limit = ("abandoning of a read, steps made", "A reader's desk becomes idle");
 
 /// Begins a read, for a list or a count, of the records that have 7 in all columns but the last, at desk 0, and makes its looks and some
 /// steps more.
@@ -147,20 +145,4 @@ fn write(rows: &mut Vec<Row>, k: u32, (limit, n): (Limit, u32), (kind, asked): (
     let begun = Scene::opened(k).records(n, 8).made(begin(kind, 0, asked));
     rows.push(begun.clone().steps(0, 1 << k).row(limit, n, step(0), says(0)).after(after.clone()));
     rows.push(begun.steps(0, 2 << k).row(limit, n, step(0), end).after(after).after(idle(0)));
-}
-
-/// After each number of steps; marks that were set are taken back.
-pub fn abandonings(rows: &mut Vec<Row>, k: u32) {
-    for kind in [INSERT, DELETE] {
-        for made in 0..=2 << k {
-            let scene = Scene::opened(k).begun(kind, 0, ALL, 5).steps(0, made);
-            let row = scene.row(ABANDONED, made, abandon(0), says(if made <= 1 << k { 0 } else { 7 }));
-            let taken_back = (0..made.min(1 << k)).map(|i| (node(i, NODE_PENDING), 0)).chain(idle(0));
-            rows.push(if made <= 1 << k { row.after(taken_back) } else { row });
-        }
-    }
-    for (kind, made) in READS.into_iter().flat_map(|kind| (0..(1 << k) + 3).map(move |made| (kind, made))) {
-        let scene = Scene::opened(k).begun(kind, 0, ALL, 5).steps(0, made);
-        rows.push(scene.row(READ_ABANDONED, made, abandon(0), says(0)).after(idle(0)));
-    }
 }

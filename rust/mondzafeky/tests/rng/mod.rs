@@ -1,4 +1,6 @@
 //! Seeded random numbers (SplitMix64) for the tests. Leans on nothing.
+// each of the tests that take it in is compiled by itself, and not each draws all kinds
+#![allow(dead_code)]
 
 pub struct Rng(pub u64);
 

@@ -7,6 +7,7 @@ use twin::{Memories, Reply};
 
 pub const ACCEPTED: Reply = Reply { number: 0, count: 0, ending: 0 };
 
+#[derive(Clone, PartialEq)]
 pub struct Hall {
     pub table: Vec<u32>,
     pub nodes: Vec<u32>,

@@ -2,7 +2,7 @@
 use mathlib.Core.Path.{sym, _∙_}
 use Rattle.rules.proofs.PassedChecks.{abandon-passed}
 use Rattle.checks.proofs.SoundMemories.{nodes-fit, client-fit}
-use Rattle.writing.proofs.PassedWrite.{gives-up, before-table, back-due}
+use Rattle.writing.proofs.PassedWrite.{gives-up, abandon-due}
 use Rattle.calls.proofs.CallLaws.{abandon-refused, reader-gives-up}
 use borrow.Author.Needs.{needs}
 use Rattle.calls.proofs.desks.abandon.Statement.{statement}
@@ -31,7 +31,7 @@ set-idle-requires c κs =
     let i = c .before .before .before .before in
     let k = i .before .before in
     let t = abandon-passed _ _ (sym (k .abandon-check .ensures .code) ∙ i .if1 .left) in
-    client-fit _ (t .0 .0) _ (t .0 .1)
+    client-fit _ (t .0) _ (t .1)
 
 same-length-5 : tie.Need-same-length-5
 same-length-5 c = search needs
@@ -54,15 +54,13 @@ returns-2 c =
     let f = k .abandon-check .ensures in
     reader-gives-up _ _ _ (f .code) (i .if1 .left) (f .held (sym (f .code) ∙ i .if1 .left)) (r .if2 .taken) _ (s .set-idle .ensures)
 
-release-all-requires : tie.Need-release-all-requires
-release-all-requires c κs =
+abandon-write-requires : tie.Need-abandon-write-requires
+abandon-write-requires c κs =
     let r = c .before .before in
     let i = r .before .before .before in
     let f = i .before .before .abandon-check .ensures in
-    let z = sym (f .code) ∙ i .if1 .left in (
-      gives-up _ _ _ (f .held z) (r .if2 .left) z,
-      (nodes-fit _ (abandon-passed _ _ z .0 .0), before-table _ _ _ (f .held z) (r .if2 .left) z),
-    )
+    let z = sym (f .code) ∙ i .if1 .left in
+    (gives-up _ _ _ (f .held z) (r .if2 .left) z, nodes-fit _ (abandon-passed _ _ z .0))
 
 same-length-9 : tie.Need-same-length-9
 same-length-9 c = search needs
@@ -83,7 +81,7 @@ returns-3 c =
     let i = r .before .before .before in
     let f = i .before .before .abandon-check .ensures in
     let z = sym (f .code) ∙ i .if1 .left in
-    b .release-all .ensures _ _ ∙ back-due _ _ _ (f .held z) (r .if2 .left) z
+    b .abandon-write .ensures _ _ ∙ abandon-due _ _ _ (f .held z) (r .if2 .left) z
 
 pub abandon-spec : {M : Type 1} → statement M
 abandon-spec =
@@ -101,7 +99,7 @@ abandon-spec =
     same-length-7
     same-length-8
     returns-2
-    release-all-requires
+    abandon-write-requires
     same-length-9
     same-length-10
     same-length-11
