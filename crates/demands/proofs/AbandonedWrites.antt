@@ -8,7 +8,7 @@ use mathlib.Core.Option.{Option, none, some}
 use Prim.Native.Nat.{ℕ, _+_, _-_, _^_, _≤_, _<_}
 use native.Mathlib.Omega.{arith}
 use lib.Dec.{eqb, ltb}
-use borrow.Author.Tests.{eqb-false, ltb-true, ltb-false, lt-ltb, le-ltb}
+use borrow.Author.Tests.{eqb-false, ltb-true, ltb-false}
 use lib.ListN.{length, getD, take, drop, length-take, length-drop}
 use lib.Seq.{getD-take, getD-drop}
 use Rattle.lists.specs.Lists.{In}
@@ -33,6 +33,7 @@ use Rattle.rules.specs.Refusals.{client, allIdle, abandonCode}
 use Rattle.rules.specs.Steps.{endOf}
 use Rattle.rules.specs.Calls.{unless, pastTable, retireResult, abandonedWrite, abandonedOf, abandoned, abandonResult}
 use Rattle.rules.specs.History.{abandon, untrayed, callResult, isAccepted}
+use Rattle.rules.proofs.Abandonings.{abandon-before, abandon-past}
 use Rattle.revisions.specs.EffectiveRevision.{pendingOf, tally, lifts}
 use Rattle.revisions.proofs.OperationsGo.{pending-at}
 use Rattle.machine.proofs.PendingLabels.{tally-in}
@@ -86,22 +87,23 @@ module _ (h : History) (r : Request) (d b n i : ℕ) (s : AbandonOf h r d b n i)
 -- ---- The raises that are left
 past-result : (m : Mem) (d : ℕ) (w : Write) (i j : ℕ) → i ≡ length (writeLabels w) + 1 + j
     → abandonedWrite m d w i ≡ retireResult m d (endOf (client m d)) (retired narrow true (drop j (writeLabels w)) (storeIn narrow (m .nodes)))
-unfolding abandonedWrite pastTable
 past-result m d w i j e =
     let z : i - (length (writeLabels w) + 1) ≡ j = omega arith in
-    rw (lt-ltb (length (writeLabels w)) i (omega arith), z) refl
+    abandon-past m d w i (omega arith)
+    ∙ ap (λ (k : ℕ). retireResult m d (endOf (client m d)) (retired narrow true (drop k (writeLabels w)) (storeIn narrow (m .nodes)))) z
 
--- each of their labels stands among them once
+-- a label stands once in a part of a write's labels that has it
+part-once : (w : Write) (p : Words) (qs : List Words) → In p qs → tally p qs ≤ tally p (writeLabels w) → tally p qs ≡ 1
+part-once w p qs i l = let a = tally-in p qs i in let b = write-once w p in omega arith
+
 left-once : (w : Write) (j i : ℕ) → j ≤ i → i < length (writeLabels w) → tally (getD (writeLabels w) i []) (drop j (writeLabels w)) ≡ 1
 left-once w j i l m =
     let ps : List Words = writeLabels w in
     let k : j + (i - j) ≡ i = omega arith in
     let e : getD (drop j ps) (i - j) [] ≡ getD ps i [] = getD-drop j ps (i - j) [] ∙ ap (λ x. getD ps x []) k in
     let n = length-drop j ps in
-    let a = tally-in (getD ps i []) (drop j ps) (subst (λ p. In p (drop j ps)) e (in-at [] (drop j ps) (i - j) (omega arith))) in
-    let b = write-once w (getD ps i []) in
     let c = tally-parts (getD ps i []) j ps in
-    omega arith
+    part-once w _ (drop j ps) (subst (λ p. In p (drop j ps)) e (in-at [] (drop j ps) (i - j) (omega arith))) (omega arith)
 
 off-case : (h : History) (p : Label) (d n : ℕ) (lift : Bool) (ps : List Words) (out : Outcome) (o : Option Store) → n < length (h .calls) → acceptedAt h n ≡ true
     → tally (labelWords p) ps ≡ 1 → retired narrow lift ps (nodesAt h n) ≡ o → resultAt h n ≡ untrayed (retireResult (memAt h n) d out o) → Off h n lift ps p
@@ -137,20 +139,12 @@ abandoned-nodes h r w B d b n j s p = (
 )
 
 -- ---- The marks taken back
-before-result : (m : Mem) (d : ℕ) (w : Write) (i : ℕ) → i ≤ length (writeLabels w)
-    → abandonedWrite m d w i ≡ retireResult m d Accepted (retired narrow false (take i (writeLabels w)) (storeIn narrow (m .nodes)))
-unfolding abandonedWrite pastTable
-before-result m d w i l = rw (le-ltb (length (writeLabels w)) i l) refl
-
--- each of their labels stands among them once
 set-once : (w : Write) (i j : ℕ) → i ≤ length (writeLabels w) → j < i → tally (getD (writeLabels w) j []) (take i (writeLabels w)) ≡ 1
 set-once w i j l m =
     let ps : List Words = writeLabels w in
     let n = length-take i ps in
-    let a = tally-in (getD ps j []) (take i ps) (subst (λ p. In p (take i ps)) (getD-take i ps j [] m) (in-at [] (take i ps) j (omega arith))) in
-    let b = write-once w (getD ps j []) in
     let c = tally-parts (getD ps j []) i ps in
-    omega arith
+    part-once w _ (take i ps) (subst (λ p. In p (take i ps)) (getD-take i ps j [] m) (in-at [] (take i ps) j (omega arith))) (omega arith)
 
 back-of : (h : History) (n : ℕ) (ps : List Words) (p : Label) → Off h n false ps p → TakesBack h p n
 unfolding lifts
@@ -165,7 +159,7 @@ marks-back h r w B d b n i l s j low =
     let p = writeNode (target w) j in
     let one = subst (λ p. tally p ps ≡ 1) (node-words h r w B d b n j u (omega arith) .0) (set-once W i j (omega arith) low) in
     back-of h n ps p (off-case h p d n false ps Accepted _ (s .within) (s .accepted) one refl
-    (write-abandoned h r d b n i s W (write-begins h r w B) ∙ ap untrayed (before-result (memAt h n) d W i (omega arith))))
+    (write-abandoned h r d b n i s W (write-begins h r w B) ∙ ap untrayed (abandon-before (memAt h n) d W i (omega arith))))
 
 -- ---- What it reports
 end-reports : (c : Client) → isWriteEnd (endOf c) ≡ true

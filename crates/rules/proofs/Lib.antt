@@ -4,4 +4,5 @@ pub mod Lemma2
 pub mod ClientLaws
 pub mod HoldingLaws
 pub mod PassedChecks
+pub mod Abandonings
 pub mod Cases

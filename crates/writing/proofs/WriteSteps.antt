@@ -30,7 +30,7 @@ use Rattle.rules.specs.Memory.{shapeIn, Mem, mem, recordsIn, withRecords, store
 use Rattle.rules.specs.Outcome.{result, resultWith}
 use Rattle.rules.specs.Refusals.{client}
 use Rattle.rules.specs.Steps.{nowAt, storeBack, announceResult, writeTableResult, endOf, raiseResult, writeResult}
-use Rattle.rules.specs.Calls.{pastTable, announcedLabels, labelsLeft, retireResult, abandonedWrite}
+use Rattle.rules.specs.Calls.{announcedLabels, labelsLeft, retireResult}
 use Rattle.rules.proofs.ClientLaws.{busy-key, announcement-count-of}
 use Rattle.columns.specs.ColumnContracts.{four}
 use Rattle.columns.proofs.ColumnLoops.{four-back}
@@ -252,18 +252,6 @@ module _
   off-done z r v l =
       let x : Went n (retired narrow lift ps (storeIn narrow n)) u = went-well n _ u (rw z at g) in
       rw (← e, l .0) (off-stored t n a s d o (retired narrow lift ps (storeIn narrow n)) u (x .store) v (x .is) (x .mem) (l .1))
-
--- before the table step the marks are taken back, after it the raises that are left are made
-module _ (m : Mem) (d : ℕ) (w : Write) (i : ℕ) where
-  pub abandon-before : i ≤ length (writeLabels w)
-      → retireResult m d Accepted (retired narrow false (announcedLabels w i) (storeIn narrow (m .nodes))) ≡ abandonedWrite m d w i
-  unfolding abandonedWrite pastTable
-  abandon-before h = rw (le-ltb (length (writeLabels w)) i h)
-
-  pub abandon-past : length (writeLabels w) < i
-      → retireResult m d (endOf (clientIn narrow (m .clients) d)) (retired narrow true (labelsLeft w i) (storeIn narrow (m .nodes))) ≡ abandonedWrite m d w i
-  unfolding abandonedWrite pastTable client
-  abandon-past h = rw (lt-ltb (length (writeLabels w)) i h)
 
 pub table-done : (t n a s y : List ℕ) (d k : ℕ) (w : Write) (c : Change) (i : ℕ) (x v : List ℕ) (r : Report) → i ≡ length (writeLabels w)
     → k ≡ shapeIn s .columns → c ≡ w .change → (r ≡ reported c (recordsIn k t)) × (x ≡ withRecords k t (effect c (recordsIn k t)))

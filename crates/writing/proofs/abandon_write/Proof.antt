@@ -1,11 +1,12 @@
 -- `writing::abandon_write` meets its contract: before the table step its marks are taken back, after it the raises that are left are made.
 -- Assumes nothing.
-use mathlib.Core.Path.{_≡_, _∙_}
+use mathlib.Core.Path.{_≡_, sym, _∙_}
 use Prim.Native.Nat.{_≤_, _<_}
 use native.Mathlib.Omega.{arith}
+use Rattle.rules.specs.Refusals.{client}
 use Rattle.clients.proofs.HeldLaws.{writer-announcements}
 use Rattle.writing.specs.WriteContracts.{stepAt, countAt}
-use Rattle.writing.proofs.WriteSteps.{abandon-before, abandon-past}
+use Rattle.rules.proofs.Abandonings.{abandon-before, abandon-past}
 use borrow.Author.Needs.{needs}
 use Rattle.writing.proofs.abandon_write.Statement.{statement}
 use Rattle.writing.proofs.abandon_write.Tie as tie
@@ -52,7 +53,7 @@ same-length-2 c = search needs
 returns : tie.Need-returns
 returns c =
     let called = c .before .before .before .before in
-    λ t a. called .release-all .ensures t a ∙ abandon-before _ _ _ _ (early (called .before .before .before))
+    λ t a. called .release-all .ensures t a ∙ sym (abandon-before _ _ _ _ (early (called .before .before .before)))
 
 raise-all-requires : tie.Need-raise-all-requires
 raise-all-requires c κs =
@@ -70,7 +71,7 @@ same-length-4 c = search needs
 returns-2 : tie.Need-returns-2
 returns-2 c =
     let called = c .before .before .before .before in
-    λ t a. called .raise-all .ensures t a ∙ abandon-past _ _ _ _ (late (called .before .before .before))
+    λ t a. called .raise-all .ensures t a ∙ unfold client in sym (abandon-past _ _ _ _ (late (called .before .before .before)))
 
 pub abandon-write-spec : {M : Type 1} → statement M
 abandon-write-spec =
