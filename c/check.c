@@ -380,8 +380,8 @@ static void check_ranges(mondzafeky_hall *hall)
 }
 
 /*
- * The same hall: a range that holds every value is not the plain read, and one with equal ends is
- * not the named value; neither serves the other.
+ * The same hall: a range over all values is not the plain read, and leaves out (7, 0), which has no
+ * measurement there; one with equal ends is not the named value; neither serves the other.
  */
 static void check_ranges_beside_plain(mondzafeky_hall *hall)
 {
@@ -389,7 +389,7 @@ static void check_ranges_beside_plain(mondzafeky_hall *hall)
     const mondzafeky_column five[2] = {mondzafeky_is(7), mondzafeky_is(5)};
     REPLIES(mondzafeky_hall_renew(hall), ACCEPTED, 0, NOTHING);
     REPLIES(read_of(hall, 1, 7), ACCEPTED, 32, MONDZAFEKY_FROM_TABLE);
-    REPLIES(read_within(hall, 7, 0, UINT32_MAX), ACCEPTED, 32, MONDZAFEKY_FROM_TABLE);
+    REPLIES(read_within(hall, 7, 0, UINT32_MAX), ACCEPTED, 31, MONDZAFEKY_FROM_TABLE);
     REPLIES(mondzafeky_hall_begin_read(hall, 1, five, 2), ACCEPTED, 0, NOTHING);
     REPLIES(mondzafeky_run(hall, 1), ACCEPTED, 1, MONDZAFEKY_FROM_TABLE);
     REPLIES(read_within(hall, 7, 5, 5), ACCEPTED, 1, MONDZAFEKY_FROM_TABLE);
@@ -404,6 +404,38 @@ static void check_ranges_beside_plain(mondzafeky_hall *hall)
     REPLIES(mondzafeky_hall_begin_read_within(hall, 1, all, 2, 0, 3, 6), ACCEPTED, 0, NOTHING);
     REPLIES(mondzafeky_run(hall, 1), ACCEPTED, 1, MONDZAFEKY_FROM_TABLE);
     CHECK(mondzafeky_record(hall, 0)[0] == 3 && mondzafeky_record(hall, 0)[1] == 41);
+}
+
+/* A whole read at desk 1 of (7, second), all named. */
+static mondzafeky_reply read_named(mondzafeky_hall *hall, uint32_t second)
+{
+    const mondzafeky_column query[2] = {mondzafeky_is(7), mondzafeky_is(second)};
+    REPLIES(mondzafeky_hall_begin_read(hall, 1, query, 2), ACCEPTED, 0, NOTHING);
+    return mondzafeky_run(hall, 1);
+}
+
+/*
+ * The same hall, which has (7, 0) and (7, 1): 0 means that nothing was measured. A star finds it; a
+ * name does not, nor does a range; a delete naming it takes out nothing; inserted again, it is there.
+ */
+static void check_zeros(mondzafeky_hall *hall)
+{
+    REPLIES(mondzafeky_hall_renew(hall), ACCEPTED, 0, NOTHING);
+    REPLIES(read_of(hall, 1, 7), ACCEPTED, 32, MONDZAFEKY_FROM_TABLE);
+    CHECK(mondzafeky_record(hall, 0)[1] == 0 && mondzafeky_record(hall, 1)[1] == 1);
+    REPLIES(read_named(hall, 0), ACCEPTED, 0, MONDZAFEKY_FROM_TABLE);
+    REPLIES(read_named(hall, 0), ACCEPTED, 0, MONDZAFEKY_FROM_FILE);
+    REPLIES(read_named(hall, 1), ACCEPTED, 1, MONDZAFEKY_FROM_TABLE);
+    REPLIES(read_within(hall, 7, 0, 0), ACCEPTED, 0, MONDZAFEKY_FROM_TABLE);
+    REPLIES(count_within(hall, 7, 0, 1), ACCEPTED, 1, MONDZAFEKY_FROM_TABLE);
+    REPLIES(read_within(hall, 0, 0, UINT32_MAX), ACCEPTED, 0, MONDZAFEKY_FROM_TABLE);
+    REPLIES(write_of(hall, 0, 1, 7, 0), ACCEPTED, 0, MONDZAFEKY_UNCHANGED);
+    /* it shares the node of a read of it, so what was filed is used no more */
+    REPLIES(read_named(hall, 0), ACCEPTED, 0, MONDZAFEKY_FROM_TABLE);
+    REPLIES(write_of(hall, 0, 0, 7, 0), ACCEPTED, 0, MONDZAFEKY_UNCHANGED);
+    REPLIES(read_of(hall, 1, 7), ACCEPTED, 32, MONDZAFEKY_FROM_TABLE);
+    REPLIES(write_of(hall, 0, 0, 7, 1), ACCEPTED, 0, MONDZAFEKY_CHANGED);
+    REPLIES(write_of(hall, 0, 1, 7, 1), ACCEPTED, 0, MONDZAFEKY_CHANGED);
 }
 
 /* A whole count at desk 9, which makes so many steps and leaves the tray as it was. */
@@ -719,6 +751,7 @@ static void check_hall(mondzafeky_hall *hall)
     check_abandonings(hall);
     check_ranges(hall);
     check_ranges_beside_plain(hall);
+    check_zeros(hall);
     check_counts(hall);
     check_refusals(hall);
     check_inside(hall);

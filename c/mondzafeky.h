@@ -137,6 +137,8 @@ mondzafeky_reply mondzafeky_open(
  * clients memory. client: the desk, 0 to 11. A query has for each column two numbers, its mark and
  * its value: mark 1 names the value, mark 0 is a star, which any value fits, and its value is 0. So
  * query_len is 2 * k. With k 2, "3 in the first column, anything in the second" is {1, 3, 0, 0}.
+ * A 0 in a record means "not measured": a star finds it, a named value never does, 0 neither. So a
+ * read, count or delete that names 0 finds no record.
  *
  * begin_read: a read of the records that fit. It takes at most 19 steps. Refusals: 1 to 5.
  */
@@ -158,8 +160,9 @@ mondzafeky_reply mondzafeky_begin_count(
 /*
  * begin_read_within: a read with a range, "classes 4 to 9": of the records that fit the query it
  * wants those whose value in one column is lowest to highest, both included. column: that column,
- * by its number from 0; in the query it is a star. It makes the steps of a read of that query. The
- * range is a part of what is asked: only an answer for the same column and ends is given from file.
+ * by its number from 0; in the query it is a star. A record with 0 there is in no range, also in
+ * one that begins at 0. It makes the steps of a read of that query. The range is a part of what is
+ * asked: only an answer for the same column and ends is given from file.
  * Refusals: 1 to 5, and 14 for a lowest above the highest, which goes before 3, 4 and 5.
  */
 mondzafeky_reply mondzafeky_begin_read_within(
@@ -176,8 +179,8 @@ mondzafeky_reply mondzafeky_begin_count_within(
     uint32_t column, uint32_t lowest, uint32_t highest);
 
 /*
- * begin_insert: an insert of one record; every column names its value. It takes at most 33 steps.
- * Refusals: 1 to 5, and 10.
+ * begin_insert: an insert of one record; every column has its value, 0 where none was measured. It
+ * takes at most 33 steps. Refusals: 1 to 5, and 10.
  */
 mondzafeky_reply mondzafeky_begin_insert(
     uint32_t *table, size_t table_len, uint32_t *nodes, size_t nodes_len,
@@ -274,7 +277,10 @@ typedef char mondzafeky_hall_has_no_gap
     [sizeof(mondzafeky_hall) == (MONDZAFEKY_HALL_NUMBERS + MONDZAFEKY_TRAY_LEAST) * 4u ? 1 : -1];
 typedef char mondzafeky_column_has_no_gap[sizeof(mondzafeky_column) == 8u ? 1 : -1];
 
-/* The column that names a value. */
+/*
+ * The column that names a value. In an insert 0 means "not measured"; in a read, count or delete a
+ * named 0 finds no record.
+ */
 static inline mondzafeky_column mondzafeky_is(uint32_t value)
 {
     mondzafeky_column column;
@@ -283,7 +289,7 @@ static inline mondzafeky_column mondzafeky_is(uint32_t value)
     return column;
 }
 
-/* The column that any value fits. */
+/* The column that any value fits, 0 too. */
 static inline mondzafeky_column mondzafeky_star(void)
 {
     mondzafeky_column column;

@@ -1,6 +1,6 @@
 // The parts that are played, as text. Of document 01 the cases of "On each side of a line", the numbers of "What the controller turns down"
-// (number 3 in three parts; 7 is given no longer), the faults of "Faults a bench would show"; of document 02 the counts of S-1, the ranges of S-3
-// and the abandoned writes of S-4. Leans on nothing.
+// (number 3 in three parts; 7 is given no longer), the faults of "Faults a bench would show"; of document 02 the counts of S-1, the ranges of S-3,
+// the abandoned writes of S-4 and the zeros of S-5. Leans on nothing.
 // A part is its name and then rows: what is done or looked at, = and what is expected. The first letter of a word counts.
 //   open K; read, Count (the begin of a count), within, Within (a read and a count with a range, which stands in the tray's last three numbers:
 //   column, lowest, highest), insert, delete, step, abandon at a DESK; evict a NODE, Evict an answer; new, the renewal;
@@ -11,7 +11,7 @@
 //   end
 // In a query * is a star, ? is any; ! is 5 under the mark 2, ~ a star with the value 5. 65535 is every place, and the largest desk.
 
-pub const PARTS: u32 = 58;
+pub const PARTS: u32 = 64;
 
 fn byte(text: &[u8], i: usize) -> u8 {
     if i < text.len() {
@@ -399,11 +399,12 @@ fn ranges_from_1(part: u32, i: usize) -> u8 {
             insert 1 (10) +5 = changed; within 0 (*) +4 = got 1; tray 0 = 10",
             i,
         ),
-        // A range with equal ends and the named value, one over all numbers and the plain read: each has its own answer on file.
+        // A range with equal ends and the named value, one over all numbers and the plain read: each has its own answer on file. Of the
+        // records 0, 1 and 2 the range skips 0 (S-5).
         44 => byte(
             b"S-3 side by side, expected: open 1 = 0; fill (3) +5 = changed; put tray 125 = 0; put tray 126 = 1; put tray 127 = 1; \
             within 0 (*) +4 = got 1; tray 0 = 1; read 0 (1) +5 = got 1; Answers 0 = 2; put tray 126 = 0; put tray 127 = 4294967295; \
-            within 0 (*) +4 = got 3; read 0 (*) +4 = got 3; Answers 0 = 4; within 0 (*) +2 = kept 3; read 0 (*) +2 = kept 3; \
+            within 0 (*) +4 = got 2; read 0 (*) +4 = got 3; Answers 0 = 4; within 0 (*) +2 = kept 2; read 0 (*) +2 = kept 3; \
             read 0 (1) +3 = kept 1; put tray 126 = 1; put tray 127 = 1; within 0 (*) +2 = kept 1; Within 0 (*) +4 = got 1; Answers 0 = 5",
             i,
         ),
@@ -440,12 +441,12 @@ fn ranges_from_4(part: u32, i: usize) -> u8 {
             within 0 (*) +2 = kept 1; Evict 0 = 0; Answers 0 = 1; Answers 13 = 4",
             i,
         ),
-        // A write meets the query with the column starred, so one outside the range too sends the next read to the table. 32 within are
-        // listed, 33 give 12, and a count counts them.
+        // A write shares a node of the query, the ranged column a star, so one outside the range too sends the next read to the table. 32
+        // within are listed, 33 give 12, and a count counts them.
         48 => byte(
-            b"S-3 meeting, long, expected: open 1 = 0; fill (40) +5 = changed; put tray 125 = 0; put tray 126 = 0; put tray 127 = 31; \
-            within 0 (*) +4 = got 32; tray 31 = 31; within 0 (*) +2 = kept 32; insert 1 (90) +5 = changed; within 0 (*) +4 = got 32; \
-            put tray 127 = 32; within 0 (*) +3 = 12; Within 0 (*) +4 = got 33; put tray 126 = 33; put tray 127 = 4294967295; \
+            b"S-3 meeting, long, expected: open 1 = 0; fill (40) +5 = changed; put tray 125 = 0; put tray 126 = 1; put tray 127 = 32; \
+            within 0 (*) +4 = got 32; tray 31 = 32; within 0 (*) +2 = kept 32; insert 1 (90) +5 = changed; within 0 (*) +4 = got 32; \
+            put tray 127 = 33; within 0 (*) +3 = 12; Within 0 (*) +4 = got 33; put tray 126 = 33; put tray 127 = 4294967295; \
             Within 0 (*) +4 = got 8; insert 1 (91) +2 = 0; within 0 (*) +3 = got 8; Answers 0 = 3",
             i,
         ),
@@ -572,6 +573,76 @@ fn abandoned_from_8(part: u32, i: usize) -> u8 {
             put Table 0 = 1; abandon 12 = 4; abandon 1 = 6; put Desks 8 = 4; abandon 0 = 3; put Desks 8 = 2; put Desks 9 = 5; abandon 0 = 3; \
             put Desks 9 = 3; put Desks 20 = 33; abandon 0 = 3; put Desks 20 = 0; put Desks 13 = 17; abandon 0 = 3; put Desks 13 = 1; \
             abandon 0 = unchanged; abandon 0 = 6",
+            i,
+        ),
+        _ => zeros_from_1(part, i),
+    }
+}
+
+fn zeros_from_1(part: u32, i: usize) -> u8 {
+    match part {
+        // k 1, the records 0, 1 and, put there by hand, the largest. Inserted again, 0 changes nothing. A read and a count of 0 find none,
+        // file that and are answered from file; a star finds 0; a delete of 0 takes out none, one of * does.
+        59 => byte(
+            b"S-5 one column, expected: open 1 = 0; insert 0 (1) +5 = changed; insert 0 (0) +5 = changed; Table 0 = 2; Table 8 = 0; \
+            Table 9 = 1; insert 0 (0) +5 = unchanged; Table 0 = 2; insert 0 (2) +5 = changed; put Table 10 = 4294967295; \
+            read 0 (0) +5 = got 0; Answers 0 = 1; Answers 8 = 1; Answers 9 = 0; read 0 (0) +3 = kept 0; Count 0 (0) +5 = got 0; \
+            Count 0 (0) +3 = kept 0; read 0 (*) +4 = got 3; tray 0 = 0; tray 1 = 1; tray 2 = 4294967295; Count 0 (*) +4 = got 3; \
+            read 0 (1) +5 = got 1; tray 0 = 1; delete 0 (0) +5 = unchanged; Table 0 = 3; delete 0 (1) +5 = changed; Table 0 = 2; \
+            Table 8 = 0; delete 0 (*) +5 = changed; Table 0 = 0",
+            i,
+        ),
+        // Ranges on the same records: 0 to 0 finds none, 0 to 1 and 1 to 1 find 1, 0 to the largest two; listed, counted and from file.
+        60 => byte(
+            b"S-5 ranges, expected: open 1 = 0; fill (3) +5 = changed; put Table 10 = 4294967295; put tray 125 = 0; put tray 126 = 0; \
+            put tray 127 = 0; within 0 (*) +4 = got 0; within 0 (*) +2 = kept 0; Within 0 (*) +4 = got 0; Within 0 (*) +2 = kept 0; \
+            put tray 127 = 1; within 0 (*) +4 = got 1; tray 0 = 1; Within 0 (*) +4 = got 1; put tray 126 = 1; within 0 (*) +4 = got 1; \
+            tray 0 = 1; put tray 126 = 0; put tray 127 = 4294967295; within 0 (*) +4 = got 2; tray 0 = 1; tray 1 = 4294967295; \
+            Within 0 (*) +4 = got 2; Within 0 (*) +2 = kept 2; put tray 126 = 4294967295; within 0 (*) +4 = got 1; tray 0 = 4294967295",
+            i,
+        ),
+        // In keys and labels a 0 equals a 0. An insert of 0 does not meet a read of 0, and raises its node: the answer on file is not used
+        // any more. A read of 0 while it marks sees the mark, and files nothing. A read of 1 shares none, and is answered from file.
+        61 => byte(
+            b"S-5 shared nodes, expected: open 1 = 0; read 0 (0) +5 = got 0; Nodes 1 = 2; label 0 = (0); label 1 = (?); Answers 16 = 1; \
+            read 0 (1) +5 = got 0; insert 1 (0) +5 = changed; Nodes 14 = 2; read 0 (1) +3 = kept 0; read 0 (0) +5 = got 0; Answers 0 = 2; \
+            Answers 168 = 2; read 0 (0) +3 = kept 0; insert 1 (0) +1 = 0; Nodes 13 = 1; read 0 (0) +4 = got 0; Answers 0 = 2; \
+            step 1 +4 = unchanged; Nodes 13 = 0; delete 1 (0) +3 = 0; Nodes 13 = 1; Table 0 = 1; step 1 +2 = unchanged; Nodes 13 = 0",
+            i,
+        ),
+        _ => zeros_from_4(part, i),
+    }
+}
+
+fn zeros_from_4(part: u32, i: usize) -> u8 {
+    match part {
+        // k 2: the records (0,0), (0,1), (1,0) and (1,1) stand ascending. Naming 0 in either column finds none, beside a star or a value; 1
+        // finds those with it, whatever is in the other column.
+        62 => byte(
+            b"S-5 two columns, expected: open 2 = 0; insert 0 (1,0) +9 = changed; insert 0 (0,1) +9 = changed; insert 0 (1,1) +9 = changed; \
+            insert 0 (0,0) +9 = changed; insert 0 (0,1) +9 = unchanged; read 0 (*,*) +4 = got 4; tray 0 = 0; tray 1 = 0; tray 2 = 0; \
+            tray 3 = 1; tray 4 = 1; tray 5 = 0; tray 6 = 1; tray 7 = 1; read 0 (0,*) +5 = got 0; read 0 (*,0) +5 = got 0; \
+            read 0 (0,0) +7 = got 0; read 0 (1,0) +7 = got 0; read 0 (1,*) +5 = got 2; tray 0 = 1; tray 1 = 0; tray 2 = 1; tray 3 = 1; \
+            Count 0 (*,1) +5 = got 2; delete 0 (0,*) +9 = unchanged; delete 0 (*,0) +9 = unchanged; delete 0 (1,0) +9 = unchanged; \
+            delete 0 (1,*) +9 = changed; Table 0 = 2; Table 8 = 0; Table 11 = 1",
+            i,
+        ),
+        // The same with ranges: one beside a named 0 finds none, one beside 1 or a star skips 0 in its own column alone.
+        63 => byte(
+            b"S-5 ranges of two columns, expected: open 2 = 0; insert 0 (1,0) +9 = changed; insert 0 (0,1) +9 = changed; \
+            insert 0 (1,1) +9 = changed; insert 0 (0,0) +9 = changed; put tray 125 = 1; put tray 126 = 0; put tray 127 = 9; \
+            within 0 (1,*) +5 = got 1; tray 0 = 1; tray 1 = 1; within 0 (0,*) +5 = got 0; within 0 (0,*) +3 = kept 0; \
+            Within 0 (0,*) +5 = got 0; within 0 (*,*) +4 = got 2; tray 0 = 0; tray 1 = 1; put tray 127 = 0; within 0 (1,*) +5 = got 0; \
+            put tray 125 = 0; put tray 127 = 1; within 0 (*,*) +4 = got 2; tray 0 = 1; tray 1 = 0; within 0 (*,0) +5 = got 0",
+            i,
+        ),
+        // k 3: the same with 0 in the middle column.
+        64 => byte(
+            b"S-5 three columns, expected: open 3 = 0; insert 0 (2,0,3) +15 = 0; step 0 +2 = changed; insert 0 (2,1,3) +15 = 0; \
+            step 0 +2 = changed; insert 0 (2,0,3) +15 = 0; step 0 +2 = unchanged; read 0 (2,*,3) +7 = got 2; tray 1 = 0; tray 4 = 1; \
+            read 0 (2,0,3) +11 = got 0; read 0 (2,0,3) +9 = kept 0; Count 0 (*,0,*) +5 = got 0; put tray 125 = 1; put tray 126 = 0; \
+            put tray 127 = 0; within 0 (2,*,3) +7 = got 0; put tray 127 = 1; within 0 (2,*,3) +7 = got 1; tray 1 = 1; \
+            delete 0 (2,0,3) +15 = 0; step 0 +2 = unchanged; delete 0 (*,*,3) +15 = 0; step 0 +2 = changed; Table 0 = 0",
             i,
         ),
         _ => 0,

@@ -1,5 +1,5 @@
 -- Laws of the record test: masks and values name the columns that they were made of, and what a mask leaves of a number differs from the value
--- by 0 exactly if the column admits it. Leans on the laws of lists, FillLoop, ColumnLoops, KeyLoops and the library's bits. Assumes nothing.
+-- by 0 exactly if the column admits it. Leans on the laws of lists, FillLoop, ColumnLoops and the library's bits. Assumes nothing.
 use mathlib.Core.Path.{_≡_, refl, sym, ap, _∙_}
 use mathlib.Core.Bool.{Bool, _&&_, and-assoc, and-true}
 use mathlib.Core.List.{List, [], _∷_, _++_, map, append-nil}
@@ -7,7 +7,7 @@ use Prim.Native.Nat.{ℕ, zero, suc, _+_, _-_, _%_, _≤_, _<_}
 use native.Mathlib.Numerals.{add-one}
 use native.Mathlib.Omega.{arith}
 use lib.Bits.{bitAnd, bitXor, and-mask, and-zero-r, and-le-l, and-le-r, xor-add-and, xor-self}
-use lib.Dec.{eqb}
+use lib.Dec.{eqb, eqb·suc-zero}
 use lib.ListN.{length, take, drop, getD, set, replicate, length-map, length-append, length-replicate, drop-of-length-le}
 use lib.Seq.{drop-cons, take-at, drop-at, getD-take, getD-drop}
 use borrow.Author.Tests.{eq-eqb, eqb-true}
@@ -16,21 +16,10 @@ use Rattle.laws.proofs.TestLaws.{same-test}
 use Rattle.query.specs.declared.Column.{Column}
 use Rattle.query.specs.declared.Column.the-variants.{Is, Wildcard}
 use Rattle.query.specs.Query.{Query, admits, lies}
-use Rattle.query.specs.Encoding.{columnOf, columnValue}
 use Rattle.columns.specs.ColumnContracts.{four}
-use Rattle.columns.specs.MaskContracts.{maskOf, maskWords, columnsUnder, queryUnder, Masked}
+use Rattle.columns.specs.MaskContracts.{maskOf, soughtOf, maskWords, columnUnder, columnsUnder, queryUnder, Masked}
 use Rattle.columns.proofs.FillLoop.{Filled, drop-map, fill-more, fill-all}
 use Rattle.columns.proofs.ColumnLoops.{at-place, past-all}
-
--- ---- the mask of a column
-module _ (c : Column) where
-  pub mask-wildcard : c ≡ Wildcard → 0 ≡ maskOf c
-  unfolding maskOf
-  mask-wildcard e = rw e
-
-  pub mask-named : (v : ℕ) → c ≡ Is v → 4294967295 ≡ maskOf c
-  unfolding maskOf
-  mask-named v e = rw e
 
 -- ---- masks and values name their columns
 pub length-four : (q : Query) → length q ≤ 4 → length (four q) ≡ 4
@@ -49,22 +38,23 @@ map-four f q z e = rw length-map (go q (4 - length q))
     go [] n = behind n
     go (c ∷ q) n = rw (go q n)
 
-named-back : (c : Column) → columnOf (maskOf c) (columnValue c) ≡ c
-unfolding columnOf maskOf columnValue
-named-back (Is v) = refl
+named-back : (c : Column) → columnUnder (maskOf c) (soughtOf c) ≡ c
+unfolding columnUnder maskOf soughtOf
+named-back (Is zero) = refl
+named-back (Is (suc v)) = rw (eqb·suc-zero v)
 named-back Wildcard = refl
 
-columns-back : (q : Query) → columnsUnder (map maskOf q) (map columnValue q) ≡ q
+columns-back : (q : Query) → columnsUnder (map maskOf q) (map soughtOf q) ≡ q
 unfolding columnsUnder
 columns-back [] = refl
 columns-back (c ∷ q) = rw (named-back c, columns-back q)
 
 -- the two halves, and the columns that they name: the query's, and wildcards past them
-halves : (q : Query) → length q ≤ 4 → (take 4 (maskWords q) ≡ map maskOf (four q)) × (drop 4 (maskWords q) ≡ map columnValue (four q))
+halves : (q : Query) → length q ≤ 4 → (take 4 (maskWords q) ≡ map maskOf (four q)) × (drop 4 (maskWords q) ≡ map soughtOf (four q))
 unfolding maskWords
 halves q h =
     let l : length (map maskOf (four q)) ≡ 4 = rw length-map (length-four q h) in
-    (take-at (map maskOf (four q)) (map columnValue (four q)) 4 l, drop-at (map maskOf (four q)) (map columnValue (four q)) 4 l)
+    (take-at (map maskOf (four q)) (map soughtOf (four q)) 4 l, drop-at (map maskOf (four q)) (map soughtOf (four q)) 4 l)
 
 pub under-words : (q : Query) → length q ≤ 4 → columnsUnder (take 4 (maskWords q)) (drop 4 (maskWords q)) ≡ four q
 under-words q h = rw (halves q h .0, halves q h .1) (columns-back (four q))
@@ -97,12 +87,12 @@ pub eight-of : (s t : List ℕ) → length s ≡ 4 → length t ≡ 4
     → s ++ t ≡ getD s 0 0 ∷ getD s 1 0 ∷ getD s 2 0 ∷ getD s 3 0 ∷ getD t 0 0 ∷ getD t 1 0 ∷ getD t 2 0 ∷ getD t 3 0 ∷ []
 eight-of s t l m = four-of s l t ∙ ap (λ (x : List ℕ). getD s 0 0 ∷ getD s 1 0 ∷ getD s 2 0 ∷ getD s 3 0 ∷ x) (sym (append-nil t) ∙ four-of t m [])
 
-pub made-of : (q : Query) (s t : List ℕ) → length q ≤ 4 → s ≡ map maskOf (four q) → t ≡ map columnValue (four q)
+pub made-of : (q : Query) (s t : List ℕ) → length q ≤ 4 → s ≡ map maskOf (four q) → t ≡ map soughtOf (four q)
     → getD s 0 0 ∷ getD s 1 0 ∷ getD s 2 0 ∷ getD s 3 0 ∷ getD t 0 0 ∷ getD t 1 0 ∷ getD t 2 0 ∷ getD t 3 0 ∷ [] ≡ maskWords q
 unfolding maskWords
 made-of q s t h e f =
     let l : length s ≡ 4 = ap length e ∙ length-map (four q) maskOf ∙ length-four q h in
-    let m : length t ≡ 4 = ap length f ∙ length-map (four q) columnValue ∙ length-four q h in
+    let m : length t ≡ 4 = ap length f ∙ length-map (four q) soughtOf ∙ length-four q h in
     sym (rw (← e, ← f) (eight-of s t l m))
 
 -- ---- one column
@@ -115,15 +105,16 @@ differs x v =
     (λ t. eq-eqb v x (sym (xor-none x v (eqb-true (bitXor x v) 0 t))))
     (λ t. eq-eqb (bitXor x v) 0 (ap (λ (y : ℕ). bitXor x y) (eqb-true v x t) ∙ xor-self x))
 
-column-test : (c : Column) (x : ℕ) → x < 4294967296 → eqb (bitXor (bitAnd x (maskOf c)) (columnValue c)) 0 ≡ admits c x
-unfolding maskOf columnValue admits
-column-test (Is v) x h = rw (and-mask x 32 ∙ (let m : x % 4294967296 ≡ x = omega arith in m)) (differs x v)
+column-test : (c : Column) (x : ℕ) → x < 4294967296 → eqb (bitXor (bitAnd x (maskOf c)) (soughtOf c)) 0 ≡ admits c x
+unfolding maskOf soughtOf admits
+column-test (Is zero) x h = rw (and-zero-r x) (differs 0 1)
+column-test (Is (suc v)) x h = rw (eqb·suc-zero v, and-mask x 32 ∙ (let m : x % 4294967296 ≡ x = omega arith in m)) (differs x (suc v))
 column-test Wildcard x h = rw (and-zero-r x)
 
 -- ---- the loop: f tells whether all columns before i fit
 module _ (l : List ℕ) (m : Masked l) where
   -- the columns are those that the numbers were made of, four with the wildcards
-  parts : (take 4 l ≡ map maskOf (four (m .query))) × (drop 4 l ≡ map columnValue (four (m .query)))
+  parts : (take 4 l ≡ map maskOf (four (m .query))) × (drop 4 l ≡ map soughtOf (four (m .query)))
   parts = rw (m .words) (halves (m .query) (m .few))
 
   under : columnsUnder (take 4 l) (drop 4 l) ≡ four (m .query)
@@ -139,8 +130,8 @@ module _ (l : List ℕ) (m : Masked l) where
     mask-at : getD l i 0 ≡ maskOf column
     mask-at = sym (getD-take 4 l i 0 h) ∙ rw (under, parts .0) (getD-map maskOf (four (m .query)) i 0 Wildcard in-four)
 
-    value-at : getD l (4 + i) 0 ≡ columnValue column
-    value-at = sym (getD-drop 4 l i 0) ∙ rw (under, parts .1) (getD-map columnValue (four (m .query)) i 0 Wildcard in-four)
+    value-at : getD l (4 + i) 0 ≡ soughtOf column
+    value-at = sym (getD-drop 4 l i 0) ∙ rw (under, parts .1) (getD-map soughtOf (four (m .query)) i 0 Wildcard in-four)
 
     fits-at : (x : ℕ) → x < 4294967296 → eqb (bitXor (bitAnd x (getD l i 0)) (getD l (4 + i) 0)) 0 ≡ admits column x
     fits-at x g = rw (mask-at, value-at) (column-test column x g)
@@ -158,7 +149,7 @@ pub masked-long : (l : List ℕ) → Masked l → length l ≡ 8
 unfolding maskWords
 masked-long l m =
     let n : length (four (m .query)) ≡ 4 = length-four (m .query) (m .few) in
-    ap length (m .words) ∙ rw (length-append, length-map (four (m .query)) maskOf, length-map (four (m .query)) columnValue, n)
+    ap length (m .words) ∙ rw (length-append, length-map (four (m .query)) maskOf, length-map (four (m .query)) soughtOf, n)
 
 pub lies-end : (l rec : List ℕ) (i : ℕ) (f : Bool) → length rec ≤ i → f && lies (drop i (queryUnder (length rec) l)) (drop i rec) ≡ f
 unfolding lies queryUnder

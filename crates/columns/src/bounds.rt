@@ -1,13 +1,15 @@
 // The record test of a read with a range (S-3), by arithmetic too. A query with its range comes as numbers: four shifts, then four limits. To
-// each column belong a lowest and a highest number: the value twice where it names one, the ends of the range at the ranged column, and under
-// a wildcard 0 and the largest. The shift takes the lowest to the least number that a signed comparison knows, and the limit is what it takes
-// the highest to: one sum and one comparison are the whole test.
+// each column belong a lowest and a highest number: the value twice where it names one, the ends of the range at the ranged column, but not 0
+// (S-5), and under a wildcard 0 and the largest. The shift takes the lowest to the least number that a signed comparison knows, and the limit is
+// what it takes the highest to: one sum and one comparison are the whole test. Any shift and limit take some number, so what finds no record at
+// all is told before the pass (finds_none).
 use hall::Hall;
 ghost use mathlib.Core.Path.{_≡_};
 ghost use Prim.Native.Nat.{_-_, _≤_, _<_};
 ghost use lib.ListN.{length, take, drop};
+ghost use Rattle.query.specs.Query.{isZero};
 ghost use Rattle.query.specs.Shape.{maxColumns};
-ghost use Rattle.columns.specs.BoundContracts.{shiftOf, limitOf, widthOf, boundWords, bounded, NamesWords};
+ghost use Rattle.columns.specs.BoundContracts.{shiftOf, limitOf, widthOf, firstOf, findsNone, boundWords, bounded, NamesWords};
 use query::Column;
 
 // A shift and a limit for each column.
@@ -40,6 +42,38 @@ fn width_of(col: Column) -> u32
     0
 }
 
+// The lowest number that a range takes: it skips 0.
+fn first_of(lowest: u32) -> u32
+    ensures { λ r. ⌜ r ≡ firstOf lowest ⌝ }
+{
+    if lowest == 0 { 1 } else { lowest }
+}
+
+// Whether a column names 0, which equals nothing.
+fn names_zero(col: Column) -> bool
+    ensures { λ r. ⌜ r ≡ isZero col ⌝ }
+{
+    let Column::Is(v) = col else {
+        return false;
+    };
+    v == 0
+}
+
+// Whether a read with a range finds no record, whatever the table: one of its k columns names 0, or its range has nothing above 0.
+pub fn finds_none(cols: [Column; Hall::COLUMN_SLOTS], k: usize, highest: u32) -> bool
+    requires { ⌜ k ≤ maxColumns ⌝ }
+    ensures { λ r. ⌜ r ≡ findsNone (take k cols) highest ⌝ }
+{
+    let mut none = highest == 0;
+    let mut i = 0;
+    while i < k {
+        let col = cols[i];
+        none = none | names_zero(col);
+        i += 1;
+    }
+    none
+}
+
 // The shifts and limits of the first k columns, and of wildcards behind them, with a range on one of them. Made once, before the records are
 // passed.
 pub fn bound_words(
@@ -49,7 +83,7 @@ pub fn bound_words(
     lowest: u32,
     highest: u32,
 ) -> [u32; WIDTH]
-    requires { ⌜ (k ≤ maxColumns) × ((column < maxColumns) × (lowest ≤ highest)) ⌝ }
+    requires { ⌜ (k ≤ maxColumns) × ((column < maxColumns) × ((lowest ≤ highest) × (0 < highest))) ⌝ }
     ensures { λ r. ⌜ r ≡ boundWords (take k cols) column lowest highest ⌝ }
     ensures { λ _. ⌜ NamesWords k (take k cols) ⌝ }
 {
@@ -65,8 +99,9 @@ pub fn bound_words(
         i += 1;
     }
     let c = column as usize;
-    shifts[c] = shift_of(lowest);
-    limits[c] = limit_of(highest - lowest);
+    let first = first_of(lowest);
+    shifts[c] = shift_of(first);
+    limits[c] = limit_of(highest - first);
     [
         shifts[0],
         shifts[1],

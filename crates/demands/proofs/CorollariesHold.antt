@@ -1,26 +1,31 @@
 -- The corollaries of demands 2 and 3, for every history. Leans on Demand3Holds, TableOrdered, Works, Steady, WriteEnds and Seen. Assumes nothing.
 use mathlib.Core.Path.{_≡_, refl, sym, ap, _∙_, subst}
-use mathlib.Core.Bool.{Bool, true, false, cond}
+use mathlib.Core.Bool.{Bool, true, false, cond, and-false}
 use mathlib.Core.List.{List, [], _∷_}
 use Prim.Native.Nat.{ℕ, zero, suc, _≤_, _<_}
 use native.Mathlib.Omega.{arith}
+use lib.Dec.{leb}
 use lib.ListN.{length, getD}
+use borrow.Author.Tests.{eq-eqb}
 use Rattle.lists.specs.Lists.{same}
-use Rattle.laws.proofs.ListLaws.{same-refl}
+use Rattle.laws.proofs.ListLaws.{same-refl, and-right}
 use Rattle.laws.proofs.TestLaws.{or-false-l, or-false-r, clash}
 use Rattle.query.specs.declared.Range.{Range}
+use Rattle.query.specs.declared.Range.the-variants.{Between}
 use Rattle.query.specs.Query.{Query, Record, lies}
+use Rattle.query.proofs.RangeLaws.{within-measured}
 use Rattle.query.specs.Encoding.{queryOf}
 use Rattle.rules.specs.declared.Outcome.{Outcome}
 use Rattle.rules.specs.declared.Outcome.the-variants.{Ended, Full}
 use Rattle.rules.specs.History.{begin}
-use Rattle.rules.specs.Table.{Table, insert, delete, has, changes, noRoom, Ascending, Distinct}
+use Rattle.rules.specs.Table.{Table, Change, insert, delete, has, effect, changes, isFull, noRoom, Ascending, Distinct}
+use Rattle.rules.proofs.Zeros.{zero-lists-none, zero-deletes-none}
 use Rattle.records.proofs.RecordLists.{has-list, list-few}
 use Rattle.records.proofs.RecordsAscending.{ascending-distinct}
 use Rattle.demands.specs.WholeHistory.{History, plainAt, callAt, shapeAt}
 use Rattle.demands.specs.Demand3.{AnswerIs}
-use Rattle.demands.specs.Corollaries.{Ends, Unopposed, EveryAnswer, InsertsSeen, DeletesSeen, Answers, TrueAt, tableAt, OneRead, SeesEarlier, CountsFit, QuietCount}
-use Rattle.demands.specs.Corollaries.{NeverBack, QuietIsNow, AnswersAscend, NoneTwice, Corollaries}
+use Rattle.demands.specs.Corollaries.{Ends, Unopposed, EveryAnswer, InsertsSeen, DeletesSeen, Answers, TrueAt, tableAt, OneRead, SeesEarlier, CountsFit, UnmetCount}
+use Rattle.demands.specs.Corollaries.{NeverBack, UnmetIsNow, AnswersAscend, NoneTwice, InsertedOnce, ZeroFindsNone, RangesSkipZero, ZeroTakesNone, Corollaries}
 use Rattle.demands.proofs.HistoryRuns.{sound}
 use Rattle.demands.proofs.Demand3Holds.{tables, answers, result-is, steps-by-nodes}
 use Rattle.demands.proofs.TableOrdered.{good-table, demand-2-ascending}
@@ -81,17 +86,17 @@ table-list : (h : History) (counts : Bool) (range : Range) (a : List ℕ) (n cou
     → AnswerIs h counts n count (listWithin range (queryOf a) (tableAt h j))
 table-list h counts range a n count j l x = rw (tables h j l) x
 
-quiet-is-now : (h : History) → QuietIsNow h
+unmet-is-now : (h : History) → UnmetIsNow h
 unfolding askOf listWithin
-quiet-is-now h d counts range a b n count cached x k =
+unmet-is-now h d counts range a b n count cached x k =
     let z = moment h d counts range a b n count cached x in
     let l = x .within in
     let up = z .2 in
-    let e = lists-stay h (askOf (shapeAt h) counts range a) b (suc n) (z .0) (omega arith) (z .1) up (λ i o m. k i o (omega arith)) in
+    let e = lists-stay h (queryOf a) b (suc n) (z .0) (omega arith) (z .1) up (λ i o m. k i o (omega arith)) in
     rw e (table-list h counts range a n count (z .0) (omega arith) (z .3))
 
-quiet-count : (h : History) → QuietCount h
-quiet-count h d range a b n count cached x k = quiet-is-now h d true range a b n count cached x k .counted
+unmet-count : (h : History) → UnmetCount h
+unmet-count h d range a b n count cached x k = unmet-is-now h d true range a b n count cached x k .counted
 
 -- no more records lie in a query than the plain table has
 count-most : (h : History) (range : Range) (a : List ℕ) (j : ℕ) → j ≤ length (h .calls) → length (listWithin range (queryOf a) (plainAt h j .table)) ≤ maxRecords
@@ -192,6 +197,65 @@ deletes-seen h d q b e o x d′ counts range a b′ n count cached y m r i u =
           ∙ has-list range (queryOf a) (tableAt h (z .0)) r ∙ rw (delete-stays h d q r b e n o x i (omega arith) l u (z .0) (omega arith) up),
     )
 
+-- ---- What writes do not do
+-- a write that leaves the table as it is ends unchanged, if it found room
+unchanged : (w : Change) (t : Table) → noRoom w t ≡ false → effect w t ≡ t → cond (noRoom w t) Full (Ended (changes w t)) ≡ Ended false
+unfolding changes
+unchanged w t e f = rw (e, f, eq-eqb (length t) (length t) refl)
+
+there-stays : (r : Record) (t : Table) → has r t ≡ true → cond (noRoom (insert r) t) Full (Ended (changes (insert r) t)) ≡ Ended false
+there-stays r t e =
+    unchanged (insert r) t (unfold noRoom isFull in rw e (and-false (leb maxRecords (length t)))) (unfold effect in rw e refl)
+
+inserted-once : (h : History) → InsertedOnce h
+inserted-once h d d′ r b e b′ e′ changed o x y m u =
+    let z = writes-take h d′ (insert r) b′ e′ o y in
+    let t = z .0 in
+    let after = z .1 in
+    let upto = z .2 in
+    let l = y .ending .within in
+    z .4 ∙ there-stays r (plainAt h t .table)
+    (ap (has r) (sym (tables h t (omega arith))) ∙ insert-stays h d r b e e′ changed x (omega arith) l u t (omega arith) (omega arith))
+
+zero-takes-none : (h : History) → ZeroTakesNone h
+zero-takes-none h d q b e o x n =
+    let z = writes-take h d (delete q) b e o x in
+    let t = z .0 in
+    let upto = z .2 in
+    let l = x .ending .within in
+    let p = plainAt h t .table in
+    let s = zero-deletes-none q n p in (
+      t,
+      z .5,
+      tables h (suc t) (omega arith) ∙ z .3 ∙ s ∙ sym (tables h t (omega arith)),
+      z .4 ∙ unchanged (delete q) p (unfold noRoom in refl) s,
+    )
+
+-- ---- Zeros in answers
+-- whatever is wanted, an answer's count is how many records there are
+counted : (h : History) (counts : Bool) (n count : ℕ) (l : List Record) → AnswerIs h counts n count l → count ≡ length l
+counted h false n count l x = x .counted
+counted h true n count l x = x .counted
+
+zero-finds-none : (h : History) → ZeroFindsNone h
+zero-finds-none h d counts range a b n count cached x e =
+    let z = moment h d counts range a b n count cached x in
+    counted h counts n count _ (z .3) ∙ ap length (zero-lists-none (queryOf a) e range (plainAt h (z .0) .table))
+
+ranges-skip-zero : (h : History) → RangesSkipZero h
+ranges-skip-zero h d counts column lowest highest a b n count cached x =
+    let g = Between column lowest highest in
+    let z = moment h d counts g a b n count cached x in
+    let t = plainAt h (z .0) .table in (
+      z .0,
+      z .1,
+      z .2,
+      z .3,
+      λ r e.
+          let i = and-right (has r t) _ (sym (has-list g (queryOf a) t r) ∙ e) in
+          within-measured column lowest highest r (and-right (lies (queryOf a) r) _ i),
+    )
+
 pub corollaries : (h : History) → Corollaries h
 corollaries h = record {
   every-answer = every-answer h;
@@ -200,8 +264,8 @@ corollaries h = record {
   file-serves = file-serves h;
   sees-earlier = sees-earlier h;
   never-back = never-back h;
-  quiet-is-now = quiet-is-now h;
-  quiet-count = quiet-count h;
+  unmet-is-now = unmet-is-now h;
+  unmet-count = unmet-count h;
   steps-by-nodes = steps-by-nodes h;
   answers-ascend = answers-ascend h;
   counts-fit = counts-fit h;
@@ -211,4 +275,8 @@ corollaries h = record {
   idle-unmarked = idle-unmarked h;
   inserts-seen = inserts-seen h;
   deletes-seen = deletes-seen h;
+  inserted-once = inserted-once h;
+  zero-finds-none = zero-finds-none h;
+  ranges-skip-zero = ranges-skip-zero h;
+  zero-takes-none = zero-takes-none h;
 }

@@ -15,7 +15,7 @@ use Rattle.laws.proofs.ListLaws.{and-left, and-right, same-eq}
 use Rattle.query.specs.declared.Column.the-variants.{Is}
 use Rattle.query.specs.declared.Range.the-variants.{None}
 use Rattle.query.specs.Query.{admits, lies, pick, readNode, named, readNodes, readCount}
-use Rattle.query.specs.Range.{within, isRange, isReversed, starred}
+use Rattle.query.specs.Range.{within, isRange, isReversed}
 use Rattle.query.specs.Encoding.{columnOf, queryOf, wellMarked, isQuery, namesAll, termValue, columnValue, tag, tags, labelWords, marks, keyWords, countsIn, countKey, rangeOf, rangeIn, rangeKey, wantedKey, unranged, bareKey}
 use Rattle.query.specs.Encoding.{columnsIn, queryIn}
 use Rattle.rules.specs.declared.Outcome.the-variants.{Answered}
@@ -37,7 +37,7 @@ use Rattle.machine.specs.Machine.{sameAsk, sameShape, sameQuery, sameColumn, sa
 use Rattle.machine.proofs.Asks.{sameAsk-eq}
 use Rattle.refinement.proofs.ClientPhases.{asking-at}
 use Rattle.demands.specs.WholeHistory.{History, memAt, callAt, resultAt, acceptedAt, endsWork, endsAt, UnderWay}
-use Rattle.demands.specs.Demand2.{isOpen, isQuiet, stillThere, keepsNodes, Quiescent, Reads, Filed, Fetches, LastFiled}
+use Rattle.demands.specs.Demand2.{isOpen, noneOpen, isQuiet, stillThere, keepsNodes, Quiescent, Reads, Filed, Fetches, LastFiled}
 use Rattle.demands.proofs.HistoryRuns.{next-mem}
 use Rattle.demands.proofs.Demand2Holds.{demand-2-gets}
 use Rattle.rules.specs.Work.{Ask, askFault, listWithin, readOf, ofRecords, valueOf, mayAnswer, readLabels, askKey, askIn, kindOf, keyOf, workIn, workFault, stepsInAll, isWrite, askOf, workOf, faultOf}
@@ -112,7 +112,7 @@ passes i m [] = true
 passes i m (c ∷ cs) = tests i m c && passes (suc i) (callResult m c .mem) cs
 
 computed : passes 0 (opened narrow (shapeOf 1) lent) played ≡ true
-unfolding same keep place without allBelow listed padded written rows flat entriesIn withEntries pick readNode named readCount columnOf queryOf wellMarked isQuery namesAll termValue columnValue tag tags labelWords marks keyWords columnsIn queryIn countsIn countKey rangeOf rangeIn rangeKey wantedKey unranged bareKey within isRange isReversed starred listOf labelIn pending revision withPending withRevision hasLabel nodePlace isPresent nodeOf withNode evictNode added isFree oldestFree makeRoom addedIn ensured isHigh isWorn keyIn lengthIn revisionIn isCount mostIn listIn valueIn hasKeyOf atLeast serves fetchPlace keyPlace filed isLong someLong kind steps sawPending entryOf idle isIdle begun workAt askAt isBad stepped noted holding recordsIn storeIn withStore answersIn withAnswers clientIn withClient cleared opened client isShort badColumns isUnsound noClient openCode beginCode atClient stepCode nowAt storeBack answered lookResult fetchResult tableResult fileResult readResult progressOf progress unless beginResult stepResult untrayed callResult isAccepted endsWork endsAt isOpen isQuiet stillThere keepsNodes number lies admits sameAsk sameWanted sameRange sameQuery sameColumn readNodes ofRecords ofNumber askFault listWithin valueOf mayAnswer readLabels askKey askIn kindOf keyOf workIn workFault stepsInAll isWrite askOf workOf faultOf sameShape ready onFile quiescentAt mayFile goes tests passes
+unfolding same keep place without allBelow listed padded written rows flat entriesIn withEntries pick readNode named readCount columnOf queryOf wellMarked isQuery namesAll termValue columnValue tag tags labelWords marks keyWords columnsIn queryIn countsIn countKey rangeOf rangeIn rangeKey wantedKey unranged bareKey within isRange isReversed listOf labelIn pending revision withPending withRevision hasLabel nodePlace isPresent nodeOf withNode evictNode added isFree oldestFree makeRoom addedIn ensured isHigh isWorn keyIn lengthIn revisionIn isCount mostIn listIn valueIn hasKeyOf atLeast serves fetchPlace keyPlace filed isLong someLong kind steps sawPending entryOf idle isIdle begun workAt askAt isBad stepped noted holding recordsIn storeIn withStore answersIn withAnswers clientIn withClient cleared opened client isShort badColumns isUnsound noClient openCode beginCode atClient stepCode nowAt storeBack answered lookResult fetchResult tableResult fileResult readResult progressOf progress unless beginResult stepResult untrayed callResult isAccepted endsWork endsAt isOpen noneOpen isQuiet stillThere keepsNodes number lies admits sameAsk sameWanted sameRange sameQuery sameColumn readNodes ofRecords ofNumber askFault listWithin valueOf mayAnswer readLabels askKey askIn kindOf keyOf workIn workFault stepsInAll isWrite askOf workOf faultOf sameShape ready onFile quiescentAt mayFile goes tests passes
 computed = refl
 
 -- ---- What they say of each call

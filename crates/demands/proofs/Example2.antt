@@ -15,10 +15,9 @@ use Rattle.laws.proofs.ListLaws.{and-left, and-right, same-eq}
 use Rattle.query.specs.declared.Column.the-variants.{Is, Wildcard}
 use Rattle.query.specs.declared.Range.the-variants.{None}
 use Rattle.query.specs.Query.{admits, lies, naming, pick, readNode, writeNode, named, readNodes, writeNodes, readCount, writeCount}
-use Rattle.query.specs.Range.{within, isRange, isReversed, starred}
+use Rattle.query.specs.Range.{within, isRange, isReversed}
 use Rattle.query.specs.Encoding.{columnOf, queryOf, wellMarked, isQuery, namesAll, recordOf, termValue, columnValue, tag, tags, labelWords, marks, keyWords, countsIn, countKey, rangeOf, rangeIn, rangeKey, wantedKey, unranged, bareKey}
 use Rattle.query.specs.Encoding.{columnsIn, queryIn}
-use Rattle.query.specs.Graph.{agreeIn, agree, meets}
 use Rattle.rules.specs.declared.Outcome.the-variants.{Answered}
 use Rattle.rules.specs.Table.{listOf, has, putIn, target, isFull, effect, noRoom, changes}
 use Rattle.rules.specs.Nodes.{labelIn, pending, revision, withPending, withRevision, hasLabel, nodePlace, isPresent, nodeOf, withNode, evictNode}
@@ -39,7 +38,7 @@ use Rattle.machine.specs.Machine.{sameAsk, sameShape, sameQuery, sameColumn, sa
 use Rattle.machine.proofs.Asks.{sameAsk-eq}
 use Rattle.refinement.proofs.ClientPhases.{asking-at}
 use Rattle.demands.specs.WholeHistory.{History, memAt, callAt, resultAt, acceptedAt, endsWork, endsAt, UnderWay}
-use Rattle.demands.specs.Demand2.{isOpen, isQuiet, stillThere, keepsNodes, Quiescent, Reads, Filed, Fetches, LastFiled}
+use Rattle.demands.specs.Demand2.{isOpen, noneOpen, isQuiet, stillThere, keepsNodes, Quiescent, Reads, Filed, Fetches, LastFiled}
 use Rattle.demands.proofs.HistoryRuns.{next-mem}
 use Rattle.demands.proofs.Demand2WholeHolds.{demand-2}
 use Rattle.rules.specs.Work.{Ask, askFault, listWithin, readOf, insertOf, ofRecords, valueOf, mayAnswer, readLabels, writeLabels, askKey, askIn, changeKind, kindOf, keyOf, changeIn, writeIn}
@@ -119,7 +118,7 @@ passes i m [] = true
 passes i m (c ∷ cs) = tests i m c && passes (suc i) (callResult m c .mem) cs
 
 computed : passes 0 (opened narrow (shapeOf 2) lent) played ≡ true
-unfolding same before keep place without allBelow listed padded written rows flat entriesIn withEntries admits lies naming pick readNode writeNode named readNodes writeNodes readCount writeCount columnOf queryOf wellMarked isQuery namesAll recordOf termValue columnValue tag tags labelWords marks keyWords columnsIn queryIn countsIn countKey rangeOf rangeIn rangeKey wantedKey unranged bareKey within isRange isReversed starred agreeIn agree meets listOf has putIn target isFull effect noRoom changes labelIn pending revision withPending withRevision hasLabel nodePlace isPresent nodeOf withNode evictNode added isFree oldestFree makeRoom addedIn ensured announcedIn announced isPending released lifted mayRetire retired isHigh isWorn keyIn lengthIn revisionIn isCount mostIn listIn valueIn hasKeyOf atLeast serves fetchPlace keyPlace filed isLong someLong kind steps sawPending didChange foundFull entryOf idle isIdle begun askAt writeAt workAt isBad stepped flag noted holding wrote recordsIn withRecords storeIn withStore answersIn withAnswers clientIn withClient cleared opened client isShort badColumns isUnsound noClient openCode beginCode atClient stepCode evictNodeCode nowAt storeBack answered lookResult fetchResult tableResult fileResult readResult announceResult writeTableResult endOf raiseResult writeResult progressOf progress unless beginResult stepResult evictNodeResult untrayed callResult isAccepted endsWork endsAt isOpen isQuiet stillThere keepsNodes number sameAsk sameWanted sameRange sameQuery sameColumn sameShape ofRecords ofNumber askFault listWithin valueOf mayAnswer readLabels writeLabels askKey askIn changeKind kindOf keyOf changeIn writeIn workIn workFault stepsInAll isWrite askOf workOf faultOf ready onFile quiescentAt mayFile goes accepts tests passes
+unfolding same before keep place without allBelow listed padded written rows flat entriesIn withEntries admits lies naming pick readNode writeNode named readNodes writeNodes readCount writeCount columnOf queryOf wellMarked isQuery namesAll recordOf termValue columnValue tag tags labelWords marks keyWords columnsIn queryIn countsIn countKey rangeOf rangeIn rangeKey wantedKey unranged bareKey within isRange isReversed listOf has putIn target isFull effect noRoom changes labelIn pending revision withPending withRevision hasLabel nodePlace isPresent nodeOf withNode evictNode added isFree oldestFree makeRoom addedIn ensured announcedIn announced isPending released lifted mayRetire retired isHigh isWorn keyIn lengthIn revisionIn isCount mostIn listIn valueIn hasKeyOf atLeast serves fetchPlace keyPlace filed isLong someLong kind steps sawPending didChange foundFull entryOf idle isIdle begun askAt writeAt workAt isBad stepped flag noted holding wrote recordsIn withRecords storeIn withStore answersIn withAnswers clientIn withClient cleared opened client isShort badColumns isUnsound noClient openCode beginCode atClient stepCode evictNodeCode nowAt storeBack answered lookResult fetchResult tableResult fileResult readResult announceResult writeTableResult endOf raiseResult writeResult progressOf progress unless beginResult stepResult evictNodeResult untrayed callResult isAccepted endsWork endsAt isOpen noneOpen isQuiet stillThere keepsNodes number sameAsk sameWanted sameRange sameQuery sameColumn sameShape ofRecords ofNumber askFault listWithin valueOf mayAnswer readLabels writeLabels askKey askIn changeKind kindOf keyOf changeIn writeIn workIn workFault stepsInAll isWrite askOf workOf faultOf ready onFile quiescentAt mayFile goes accepts tests passes
 computed = refl
 
 -- ---- What they say of each call

@@ -33,3 +33,4 @@ pub mod WriteEnds
 pub mod AbandonedWrites
 pub mod Demand2WholeHolds
 pub mod Example2
+pub mod ExampleZero

@@ -1,34 +1,32 @@
--- A write is open by the calls exactly if the memories say so, for every history. Leans on WorksBegun, AbandonedWrites and query's Meet.
--- Assumes nothing.
+-- A write is open by the calls exactly if the memories say so, for every history. Leans on WorksBegun, AbandonedWrites, Moments and rules'
+-- Sharing. Assumes nothing.
 use mathlib.Core.Path.{_≡_, refl, sym, ap, _∙_}
-use mathlib.Core.Bool.{Bool, true, false, not, _&&_}
+use mathlib.Core.Bool.{Bool, true, false, not}
 use mathlib.Core.Logic.{_↔_}
 use mathlib.Core.Option.{some}
 use Prim.Native.Nat.{ℕ, suc, _≤_, _<_}
 use native.Mathlib.Omega.{arith}
 use lib.Dec.{eqb}
-use borrow.Author.Tests.{eqb-true, eqb-false, not-true}
+use borrow.Author.Tests.{eqb-true, eqb-false}
 use lib.ListN.{length}
-use Rattle.lists.specs.Lists.{allBelow}
-use Rattle.laws.proofs.ListLaws.{all-below, below-at}
+use Rattle.laws.proofs.ListLaws.{all-below}
 use Rattle.laws.proofs.TestLaws.{byTest, clash}
-use Rattle.query.specs.Query.{Query, Meet}
-use Rattle.query.specs.Range.{starred}
-use Rattle.query.specs.Graph.{meets}
 use Rattle.query.specs.Shape.{Shape, narrow}
-use Rattle.query.proofs.Meet.{meets-is}
 use Rattle.rules.specs.declared.Outcome.{Outcome}
 use Rattle.rules.specs.Layout.{maxClients, reads}
-use Rattle.rules.specs.Table.{target}
-use Rattle.rules.specs.Work.{Ask, Write, asking, writing, Request, workOf, workIn}
+use Rattle.rules.specs.Table.{MeetsWrite, meetsWrite}
+use Rattle.rules.specs.Work.{Ask, Write, Shares, shares, asking, writing, Request, workOf, workIn}
 use Rattle.rules.specs.Client.{Client, kind, isIdle, workAt, writeAt}
 use Rattle.rules.specs.Refusals.{shape, client}
 use Rattle.rules.specs.History.{Call, begin}
+use Rattle.rules.proofs.WorkLaws.{shares-is}
+use Rattle.rules.proofs.Sharing.{meetsWrite-is}
 use Rattle.demands.specs.WholeHistory.{History, shapeAt, memAt, callAt, resultAt, endsAt, UnderWay}
-use Rattle.demands.specs.Demand2.{isOpen, isQuiet}
-use Rattle.demands.specs.Corollaries.{undoes, isOpposed, isUnopposed}
-use Rattle.demands.specs.OpenWrites.{Open, BusySince, UntilIdle, DesksTell, QuietTells, UnopposedTells, OpenWrites}
+use Rattle.demands.specs.Demand2.{isOpen, noneOpen, isQuiet, isUnmet}
+use Rattle.demands.specs.Corollaries.{undoes, isUnopposed}
+use Rattle.demands.specs.OpenWrites.{Open, BusySince, UntilIdle, DesksTell, QuietTells, UnmetTells, UnopposedTells, OpenWrites}
 use Rattle.demands.proofs.AbandonedWrites.{marks-open}
+use Rattle.demands.proofs.Moments.{none-at}
 use Rattle.demands.proofs.WorksBegun.{busy-begun, begun-busy, AtWork, client-works, works-client}
 
 -- ---- Until its desk is idle
@@ -98,62 +96,65 @@ desks-tell h i l d w = (
 )
 
 -- ---- All desks at a moment
--- both tests ask the same of a client, and then p of its write
-abbrev asks : (Write → Bool) → Shape → Client → Bool
-asks p sh c = not (isIdle narrow c) && (not (eqb (kind c) reads) && p (writeAt sh c))
-
 no-write : {A : Type 0} {x : Ask} {w : Write} → asking x ≡ writing w → A
 no-write e = absurd (let z : _≡_ {A = ℕ} 0 1 = cc in omega arith)
 
 same-write : {v w : Write} → writing v ≡ writing w → v ≡ w
 same-write e = cc
 
--- of a writer it is p
-writer-asks : (p : Write → Bool) (sh : Shape) (c : Client) (w : Write) → isIdle narrow c ≡ false → workAt sh c ≡ writing w → asks p sh c ≡ p w
-unfolding workAt workIn writeAt
-writer-asks p sh c w i e = byTest (eqb (kind c) reads)
+-- a writer passes if p holds of its write
+writer-opens : (p : Write → Bool) (sh : Shape) (c : Client) (w : Write) → isIdle narrow c ≡ false → workAt sh c ≡ writing w → isOpen p narrow sh c ≡ p w
+unfolding workAt workIn writeAt isOpen
+writer-opens p sh c w i e = byTest (eqb (kind c) reads)
     (λ t. no-write (rw t at e))
     (λ t. rw (i, t) (ap p (same-write (rw t at e))))
 
 -- and no other client passes
-asked-writes : (p : Write → Bool) (sh : Shape) (c : Client) → asks p sh c ≡ true
+open-writer : (p : Write → Bool) (sh : Shape) (c : Client) → isOpen p narrow sh c ≡ true
     → (isIdle narrow c ≡ false) × (workAt sh c ≡ writing (writeAt sh c)) × (p (writeAt sh c) ≡ true)
-unfolding workAt workIn writeAt
-asked-writes p sh c e = byTest (isIdle narrow c)
+unfolding workAt workIn writeAt isOpen
+open-writer p sh c e = byTest (isIdle narrow c)
     (λ i. clash e (rw i refl))
     (λ i. byTest (eqb (kind c) reads)
     (λ t. clash e (rw (i, t) refl))
     (λ t. (i, rw t refl, rw (i, t) at e)))
 
 none-open : (h : History) (i : ℕ) → i ≤ length (h .calls) → (p : Write → Bool)
-    → (allBelow maxClients (λ d. not (asks p (shape (memAt h i)) (client (memAt h i) d))) ≡ true) ↔ ((w : Write) (d b : ℕ) → Open h w d b i → p w ≡ false)
+    → (noneOpen p (memAt h i) ≡ true) ↔ ((w : Write) (d b : ℕ) → Open h w d b i → p w ≡ false)
+unfolding noneOpen
 none-open h i l p =
     let m = memAt h i in (
       λ e w d b o.
           let a = desks-tell h i l d w .1 (b, o) in
-          sym (writer-asks p (shape m) (client m d) w (a .busy) (a .works))
-          ∙ not-true (asks p (shape m) (client m d)) (below-at maxClients (λ d. not (asks p (shape m) (client m d))) d e (a .below)),
-      λ f. all-below maxClients (λ d. not (asks p (shape m) (client m d))) (λ d low. byTest (asks p (shape m) (client m d))
-          (λ e. let a = asked-writes p (shape m) (client m d) e in
+          sym (writer-opens p (shape m) (client m d) w (a .busy) (a .works))
+          ∙ none-at p m d e (a .below),
+      λ f. all-below maxClients (λ d. not (isOpen p narrow (shape m) (client m d))) (λ d low. byTest (isOpen p narrow (shape m) (client m d))
+          (λ e. let a = open-writer p (shape m) (client m d) e in
           let z = desks-tell h i l d (writeAt (shape m) (client m d)) .0 (record { below = low; busy = a .0; works = a .1 }) in
           clash (a .2) (f (writeAt (shape m) (client m d)) d (z .0) (z .1)))
           (λ e. rw e refl)),
     )
 
-meets-not : (q t : Query) → (meets q t ≡ false) ↔ (Meet q t → ⊥)
-meets-not q t =
-    (λ e m. clash (meets-is q t .1 m) e, λ f. byTest (meets q t) (λ e. absurd (f (meets-is q t .0 e))) (λ e. e))
+-- the same of what the test p tells
+none-is : (h : History) (i : ℕ) → i ≤ length (h .calls) → (p : Write → Bool) (P : Write → Type 0) → ((w : Write) → (p w ≡ true) ↔ P w)
+    → (noneOpen p (memAt h i) ≡ true) ↔ ((w : Write) (d b : ℕ) → Open h w d b i → P w → ⊥)
+none-is h i l p P t =
+    let z = none-open h i l p in (
+      λ e w d b o x. clash (t w .1 x) (z .0 e w d b o),
+      λ f. z .1 (λ w d b o. byTest (p w) (λ e. absurd (f w d b o (t w .0 e))) (λ e. e)),
+    )
 
 pub quiet-tells : (h : History) → QuietTells h
-unfolding isQuiet isOpen
-quiet-tells h i l x =
-    let q = starred (x .range) (x .query) in
-    let z = none-open h i l (λ w. meets q (target (w .change))) in
-    (λ e w d b o. meets-not q (target (w .change)) .0 (z .0 e w d b o), λ f. z .1 (λ w d b o. meets-not q (target (w .change)) .1 (f w d b o)))
+unfolding isQuiet
+quiet-tells h i l x = none-is h i l (shares x) (Shares x) (shares-is x)
+
+pub unmet-tells : (h : History) → UnmetTells h
+unfolding isUnmet
+unmet-tells h i l q = none-is h i l (λ w. meetsWrite q (w .change)) (λ w. MeetsWrite q (w .change)) (λ w. meetsWrite-is q (w .change))
 
 pub unopposed-tells : (h : History) → UnopposedTells h
-unfolding isUnopposed isOpposed
+unfolding isUnopposed
 unopposed-tells h i l v r = none-open h i l (λ w. undoes v r (w .change))
 
 pub open-writes : (h : History) → OpenWrites h
-open-writes h = record { until-idle = until-idle h; desks-tell = desks-tell h; quiet-tells = quiet-tells h; unopposed-tells = unopposed-tells h; marks-open = marks-open h }
+open-writes h = record { until-idle = until-idle h; desks-tell = desks-tell h; quiet-tells = quiet-tells h; unmet-tells = unmet-tells h; unopposed-tells = unopposed-tells h; marks-open = marks-open h }

@@ -1,31 +1,30 @@
 -- What follows from demands 2 and 3 for whoever uses the hall: each in one line, of every history. Leans on Demand2, Demand3 and OneWork.
 -- Definitions only. Assumes nothing.
 use mathlib.Core.Path.{_≡_}
-use mathlib.Core.Bool.{Bool, true, false, cond, not, _&&_}
+use mathlib.Core.Bool.{Bool, true, false, cond, _&&_}
 use mathlib.Core.List.{List, []}
 use Prim.Native.Nat.{ℕ, suc, _^_, _≤_, _<_}
-use lib.Dec.{eqb, ltb}
+use lib.Dec.{ltb}
 use lib.ListN.{length, getD}
-use Rattle.lists.specs.Lists.{same, allBelow, In}
+use Rattle.lists.specs.Lists.{same, In}
 use Rattle.query.specs.declared.Range.{Range}
-use Rattle.query.specs.Query.{Query, Record, lies}
+use Rattle.query.specs.declared.Range.the-variants.{Between}
+use Rattle.query.specs.Query.{Query, Record, isMeasured, lies, namesZero}
 use Rattle.query.specs.Range.{within}
 use Rattle.query.specs.Encoding.{queryOf, recordOf}
 use Rattle.rules.specs.declared.Outcome.{Outcome}
 use Rattle.rules.specs.declared.Outcome.the-variants.{Refused, Accepted, Answered, Long, Ended, Full}
-use Rattle.query.specs.Shape.{Form, Shape}
-use Rattle.rules.specs.Layout.{maxRecords, maxClients, maxList, reads}
+use Rattle.rules.specs.Layout.{maxRecords, maxList}
 use Rattle.rules.specs.Table.{Table, Change, insert, delete, has, effect, changes, noRoom, Ascending}
 use Rattle.rules.specs.Nodes.{Node, pending}
 use Rattle.rules.specs.Work.{Request, readOf, insertOf, deleteOf, isWrite, listWithin, askOf, stepsInAll, workOf}
-use Rattle.rules.specs.Client.{Client, kind, isIdle, writeAt}
 use Rattle.rules.specs.Memory.{Mem, recordsIn, storeIn}
-use Rattle.rules.specs.Refusals.{form, shape, client, allIdle}
+use Rattle.rules.specs.Refusals.{form, allIdle}
 use Rattle.rules.specs.History.{step}
 use Rattle.demands.specs.WholeHistory.{History, shapeAt, memAt, plainAt, callAt, resultAt, UnderWay, stepsIn, StepOf, AbandonOf}
 use Rattle.demands.specs.OneWork.{Ending}
 use Rattle.demands.specs.Demand3.{AnswerIs}
-use Rattle.demands.specs.Demand2.{isQuiet, Filed, LastFiled}
+use Rattle.demands.specs.Demand2.{noneOpen, isUnmet, Filed, LastFiled}
 
 -- call n answers the read of `a` that call b began at desk d, which wants a list (false) or a count (true), with a range or
 -- without
@@ -76,17 +75,18 @@ NeverBack h = (d d′ : ℕ) (counts counts′ : Bool) (range range′ : Range) 
     → Answers h d counts range a b n count cached → Answers h d′ counts′ range′ a′ b′ n′ count′ cached′ → n < b′
     → (j : ℕ) × (j′ : ℕ) × (j < j′) × TrueAt h counts range a n count j × TrueAt h counts′ range′ a′ n′ count′ j′
 
--- With no write open that meets the query, a ranged column starred, from begin to answer, the answer is the table's list now, from file or not.
-abbrev pub QuietIsNow : History → Type 0
-QuietIsNow h = (d : ℕ) (counts : Bool) (range : Range) (a : List ℕ) (b n count : ℕ) (cached : Bool) → Answers h d counts range a b n count cached
-    → ((i : ℕ) → b < i → i ≤ n → isQuiet (askOf (shapeAt h) counts range a) (memAt h i) ≡ true)
+-- With no write open that meets the query, which has a star in a ranged column, from begin to answer, the answer is the table's list now, from
+-- file or not.
+abbrev pub UnmetIsNow : History → Type 0
+UnmetIsNow h = (d : ℕ) (counts : Bool) (range : Range) (a : List ℕ) (b n count : ℕ) (cached : Bool) → Answers h d counts range a b n count cached
+    → ((i : ℕ) → b < i → i ≤ n → isUnmet (queryOf a) (memAt h i) ≡ true)
     → AnswerIs h counts n count (listWithin range (queryOf a) (tableAt h (suc n)))
 
--- With no write open that meets the query, a ranged column starred, from a count's begin to its answer, the count is the number of records in
--- the query's subspace, within its range, now.
-abbrev pub QuietCount : History → Type 0
-QuietCount h = (d : ℕ) (range : Range) (a : List ℕ) (b n count : ℕ) (cached : Bool) → Answers h d true range a b n count cached
-    → ((i : ℕ) → b < i → i ≤ n → isQuiet (askOf (shapeAt h) true range a) (memAt h i) ≡ true)
+-- With no write open that meets the query from a count's begin to its answer, the count is the number of records in the query's subspace, within
+-- its range, now.
+abbrev pub UnmetCount : History → Type 0
+UnmetCount h = (d : ℕ) (range : Range) (a : List ℕ) (b n count : ℕ) (cached : Bool) → Answers h d true range a b n count cached
+    → ((i : ℕ) → b < i → i ≤ n → isUnmet (queryOf a) (memAt h i) ≡ true)
     → count ≡ length (listWithin range (queryOf a) (tableAt h (suc n)))
 
 -- What is under way has made fewer accepted steps than it makes in all, which is by the number of its nodes: a read 2^m + 3 (m: its
@@ -159,11 +159,8 @@ undoes false r (insert s) = same s r
 undoes false r (delete q) = false
 
 -- no such write is open
-unfoldable pub isOpposed : Form → Shape → Bool → Record → Client → Bool
-isOpposed f sh v r c = not (isIdle f c) && (not (eqb (kind c) reads) && undoes v r (writeAt sh c .change))
-
 unfoldable pub isUnopposed : Bool → Record → Mem → Bool
-isUnopposed v r m = allBelow maxClients (λ d. not (isOpposed (form m) (shape m) v r (client m d)))
+isUnopposed v r m = noneOpen (λ w. undoes v r (w .change)) m
 
 -- from call b to call n
 abbrev pub Unopposed : History → Bool → Record → ℕ → ℕ → Type 0
@@ -183,6 +180,30 @@ DeletesSeen h = (d : ℕ) (q : Query) (b e : ℕ) (o : Outcome) → Ends h d (de
     → (d′ : ℕ) (counts : Bool) (range : Range) (a : List ℕ) (b′ n count : ℕ) (cached : Bool) → Answers h d′ counts range a b′ n count cached → e < b′
     → (r : Record) → lies q r ≡ true → Unopposed h false r b n → (j : ℕ) × TrueAt h counts range a n count j × (has r (listWithin range (queryOf a) (plainAt h j .table)) ≡ false)
 
+-- An insert that begins after another of the same record has ended, and not with 13, ends unchanged, unless a delete of the record was open since
+-- the first one's begin. "An insert may carry 0 and is the same record as another alike in every column." (S-5)
+abbrev pub InsertedOnce : History → Type 0
+InsertedOnce h = (d d′ : ℕ) (r : Record) (b e b′ e′ : ℕ) (changed : Bool) (o : Outcome) → Ends h d (insert r) b e (Ended changed)
+    → Ends h d′ (insert r) b′ e′ o → e < b′ → Unopposed h true r b e′ → o ≡ Ended false
+
+-- ---- "a read or delete naming 0 finds no record, and a range skips records with 0 in its column" (S-5)
+-- What a read naming 0 answers with is no record, or the count 0.
+abbrev pub ZeroFindsNone : History → Type 0
+ZeroFindsNone h = (d : ℕ) (counts : Bool) (range : Range) (a : List ℕ) (b n count : ℕ) (cached : Bool) → Answers h d counts range a b n count cached
+    → namesZero (queryOf a) ≡ true → count ≡ 0
+
+-- No record of a ranged answer, nor one that it counts, has 0 in the ranged column.
+abbrev pub RangesSkipZero : History → Type 0
+RangesSkipZero h = (d : ℕ) (counts : Bool) (column lowest highest : ℕ) (a : List ℕ) (b n count : ℕ) (cached : Bool)
+    → Answers h d counts (Between column lowest highest) a b n count cached
+    → (j : ℕ) × (b < j) × (j ≤ suc n) × TrueAt h counts (Between column lowest highest) a n count j
+    × ((r : Record) → has r (listWithin (Between column lowest highest) (queryOf a) (plainAt h j .table)) ≡ true → isMeasured (getD r column 0) ≡ true)
+
+-- A delete naming 0 leaves the table as it is, at its table step t, and ends unchanged.
+abbrev pub ZeroTakesNone : History → Type 0
+ZeroTakesNone h = (d : ℕ) (q : Query) (b e : ℕ) (o : Outcome) (x : Ends h d (delete q) b e o) → namesZero q ≡ true
+    → (t : ℕ) × StepOf h (x .request) d b t (2 ^ shapeAt h .columns) × (tableAt h (suc t) ≡ tableAt h t) × (o ≡ Ended false)
+
 pub record Corollaries (h : History) : Type 0 where
   pub every-answer : EveryAnswer h
   pub one-read : OneRead h
@@ -190,8 +211,8 @@ pub record Corollaries (h : History) : Type 0 where
   pub file-serves : FileServes h
   pub sees-earlier : SeesEarlier h
   pub never-back : NeverBack h
-  pub quiet-is-now : QuietIsNow h
-  pub quiet-count : QuietCount h
+  pub unmet-is-now : UnmetIsNow h
+  pub unmet-count : UnmetCount h
   pub steps-by-nodes : StepsByNodes h
   pub answers-ascend : AnswersAscend h
   pub counts-fit : CountsFit h
@@ -201,3 +222,7 @@ pub record Corollaries (h : History) : Type 0 where
   pub idle-unmarked : IdleUnmarked h
   pub inserts-seen : InsertsSeen h
   pub deletes-seen : DeletesSeen h
+  pub inserted-once : InsertedOnce h
+  pub zero-finds-none : ZeroFindsNone h
+  pub ranges-skip-zero : RangesSkipZero h
+  pub zero-takes-none : ZeroTakesNone h

@@ -7,11 +7,10 @@ use Prim.Native.Nat.{ℕ, suc, _+_, _≤_, _<_}
 use lib.Dec.{eqb}
 use lib.ListN.{length, getD}
 use Rattle.lists.specs.Lists.{allBelow, written}
-use Rattle.query.specs.Graph.{meets}
-use Rattle.query.specs.Range.{starred}
-use Rattle.rules.specs.Work.{Ask, readLabels, askKey, asking, Value, Request}
+use Rattle.query.specs.Query.{Query}
+use Rattle.rules.specs.Work.{Ask, readLabels, Write, shares, askKey, asking, Value, Request}
 use Rattle.rules.specs.declared.Outcome.the-variants.{Answered}
-use Rattle.rules.specs.Table.{target}
+use Rattle.rules.specs.Table.{meetsWrite}
 use Rattle.rules.specs.Nodes.{isPresent}
 use Rattle.rules.specs.Answers.{Entry, keyIn, valueIn}
 use Rattle.rules.specs.Client.{Client, kind, steps, isIdle, writeAt, workAt}
@@ -23,15 +22,22 @@ use Rattle.rules.specs.History.{step}
 use Rattle.demands.specs.WholeHistory.{History, shapeAt, memAt, callAt, resultAt, UnderWay}
 
 -- ---- The last sentence
--- "A write is open from its begin until its desk is idle.": a write that meets the query of x is open at a desk. S-3: "a write counts as
--- meeting it if it meets the query with that [ranged] column starred"
-unfoldable pub isOpen : Form → Shape → Ask → Client → Bool
-isOpen f sh x c =
-    not (isIdle f c) && (not (eqb (kind c) reads) && meets (starred (x .range) (x .query)) (target (writeAt sh c .change)))
+-- "A write is open from its begin until its desk is idle.": one that passes the test p is open at a desk
+unfoldable pub isOpen : (Write → Bool) → Form → Shape → Client → Bool
+isOpen p f sh c = not (isIdle f c) && (not (eqb (kind c) reads) && p (writeAt sh c))
 
--- "no write meeting the query was open"
+-- none is, at any desk
+unfoldable pub noneOpen : (Write → Bool) → Mem → Bool
+noneOpen p m = allBelow maxClients (λ d. not (isOpen p (form m) (shape m) (client m d)))
+
+-- "no write meeting the query was open": by rules' `meetsWrite`. Corollaries go by this
+unfoldable pub isUnmet : Query → Mem → Bool
+isUnmet q m = noneOpen (λ w. meetsWrite q (w .change)) m
+
+-- The last sentence goes by other words since S-5: "In demand 2's last sentence a write sharing one of the answer's nodes takes the place of one
+-- meeting the query." The answer's nodes are its query's, a ranged column counting as a star (`readLabels`)
 unfoldable pub isQuiet : Ask → Mem → Bool
-isQuiet x m = allBelow maxClients (λ d. not (isOpen (form m) (shape m) x (client m d)))
+isQuiet x m = noneOpen (shares x) m
 
 -- "none of its nodes was put out": each node of x that was there still is
 unfoldable pub stillThere : Ask → Mem → Mem → ℕ → Bool
@@ -86,8 +92,8 @@ LastFiled h x f n = (f < n) × ((g b : ℕ) → f < g → g < n → Filed h x b 
 abbrev pub valueAt : History → ℕ → Entry → Value
 valueAt h n e = valueIn (form (memAt h n)) (shapeAt h) e
 
--- "gets it, if from the earlier of its own begin and the filing read's to that fetch no write meeting the query was open and none of its
--- nodes was put out"
+-- "gets it, if from the earlier of its own begin and the filing read's to that fetch no write meeting the query [S-5: sharing one of the answer's
+-- nodes] was open and none of its nodes was put out"
 abbrev pub GetsIt : History → Type 0
 GetsIt h = (x : Ask) (b n : ℕ) (e : Entry) (y : Fetches h x b n e) (b′ f : ℕ) → Filed h x b′ f → LastFiled h x f n
     → (c : ℕ) → c ≤ b → c ≤ b′ → (c ≡ b) ⊎ (c ≡ b′) → Quiescent h x c n

@@ -1,4 +1,5 @@
--- Demand 2, as one claim about a whole history. Leans on Demand2 for the last sentence, on WholeHistory, Demand3 and Corollaries for a
+-- Demand 2, as one claim about a whole history. "subspace" is S-5's throughout: a named 0 is equal to nothing (query's `lies`), where definitions
+-- 4 and 5 of source document 002 know no such value. Leans on Demand2 for the last sentence, on WholeHistory, Demand3 and Corollaries for a
 -- history's words. Definitions only. Assumes nothing.
 use mathlib.Core.Path.{_≡_}
 use mathlib.Core.Logic.{_⊎_, _↔_}
@@ -215,7 +216,7 @@ ListsFiled h = (counts : Bool) (range : Range) (a : List ℕ) (d b n : ℕ) → 
 
 -- ---- The last sentence, with the read that filed the answer found
 -- "A read whose fetch finds a filed answer to its query gets it, if from the earlier of its own begin and the filing read's to that fetch
--- no write meeting the query was open and none of its nodes was put out."
+-- no write meeting the query [S-5: sharing one of the answer's nodes] was open and none of its nodes was put out."
 pub record GetsFiled (h : History) (x : Ask) (b n : ℕ) (e : Entry) (y : Fetches h x b n e) : Type 0 where
   -- the filing read: call `begun` began it, call `by` is its file step, the last that filed under x; it is the only one
   pub begun : ℕ

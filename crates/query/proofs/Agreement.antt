@@ -12,7 +12,7 @@ use lib.ListN.{length}
 use Rattle.laws.proofs.ListLaws.{and-left, and-right}
 use Rattle.query.specs.declared.Column.{Column}
 use Rattle.query.specs.declared.Column.the-variants.{Is, Wildcard}
-use Rattle.query.specs.Query.{Query, Record, Term, value, wildcard, any, Label, admits, lies, readNode, writeNode, named, readCount, writeCount}
+use Rattle.query.specs.Query.{Query, Record, Term, value, wildcard, any, Label, isMeasured, admits, lies, readNode, writeNode, named, readCount, writeCount}
 use Rattle.query.specs.Query.{readNodes, writeNodes}
 use Rattle.query.specs.Graph.{kept, WriteEdge, ReadEdge, EachColumn, E′, E″, agreeIn, agree, SameNode, Linked}
 use Rattle.query.proofs.ListedNumbers.{listed-has, listed-only}
@@ -165,7 +165,7 @@ same-node-agrees q w s = let l = same-node-linked q w .0 s in linked-agree q w (
 -- ---- Records
 admits-both : (c d : Column) (x : ℕ) → admits c x ≡ true → admits d x ≡ true → agreeIn c d ≡ true
 unfolding admits agreeIn
-admits-both (Is v) (Is u) x e f = eq-eqb v u (eqb-true v x e ∙ sym (eqb-true u x f))
+admits-both (Is v) (Is u) x e f = eq-eqb v u (eqb-true v x (and-right (isMeasured v) _ e) ∙ sym (eqb-true u x (and-right (isMeasured u) _ f)))
 admits-both (Is v) Wildcard x e f = refl
 admits-both Wildcard d x e f = refl
 
@@ -185,7 +185,7 @@ both-agree (c ∷ q) (d ∷ w) (x ∷ r) e f =
 -- a record of a read's subspace shows that the read and an insert of it agree
 admits-is : (c : Column) (x : ℕ) → admits c x ≡ true → agreeIn c (Is x) ≡ true
 unfolding admits agreeIn
-admits-is (Is v) x e = e
+admits-is (Is v) x e = and-right (isMeasured v) _ e
 admits-is Wildcard x e = refl
 
 pub record-agrees : (q : Query) (r : Record) → lies q r ≡ true → agree q (naming r) ≡ true

@@ -1,5 +1,5 @@
--- Document 01, "On each side of a line": cases 1 to 12 as rows of one table, S-1's counts beside case 10, S-3's ranges and S-4's abandoned writes,
--- with one computed test. Rows 1 to 5 are those that query states about nodes; 6 to 12 are played on memories of full size that held other numbers
+-- Document 01, "On each side of a line": cases 1 to 12 as rows of one table, S-1's counts beside case 10, S-3's ranges, S-4's abandoned writes and
+-- S-5's zeros, with one computed test. Rows 1 to 5 are those that query states about nodes; 6 to 12 are played on memories of full size that held other numbers
 -- before the opening. Leans on the rules' definitions. Assumes nothing.
 use mathlib.Core.Bool.{Bool, true, false, not, _&&_}
 use mathlib.Core.List.{List, [], _∷_, _++_}
@@ -17,7 +17,7 @@ use Rattle.query.proofs.NodeCases as nodes
 use Rattle.rules.specs.declared.Outcome.{Outcome}
 use Rattle.rules.specs.declared.Outcome.the-variants.{Refused, Accepted, Answered, Long, Ended, Full}
 use Rattle.rules.specs.Table.{listOf, has, putIn, target, isFull, outside, effect, noRoom, changes}
-use Rattle.rules.specs.Work.{readOf, insertOf, ofRecords, ofNumber, askFault, listWithin, valueOf, mayAnswer, readLabels, askKey, askIn, writeLabels, changeKind, kindOf, keyOf, changeIn, writeIn, workIn, workFault, stepsInAll, isWrite, askOf, workOf, faultOf}
+use Rattle.rules.specs.Work.{Request, readOf, insertOf, deleteOf, ofRecords, ofNumber, askFault, listWithin, valueOf, mayAnswer, readLabels, askKey, askIn, writeLabels, changeKind, kindOf, keyOf, changeIn, writeIn, workIn, workFault, stepsInAll, isWrite, askOf, workOf, faultOf}
 use Rattle.rules.specs.Nodes.{labelIn, pending, revision, withPending, withRevision, hasLabel, nodePlace, isPresent, nodeOf, withNode, evictNode, added, isFree, oldestFree, makeRoom, addedIn, ensured, announcedIn, announced, isPending, released, lifted, mayRetire, retired, isHigh, isWorn}
 use Rattle.rules.specs.Answers.{keyIn, lengthIn, revisionIn, isCount, mostIn, listIn, valueIn, hasKeyOf, atLeast, serves, fetchPlace, keyPlace, filed, isLong, someLong}
 use Rattle.rules.specs.Client.{kind, steps, sawPending, didChange, foundFull, entryOf, idle, isIdle, begun, workAt, isBad, stepped, flag, noted, holding, wrote}
@@ -154,11 +154,18 @@ going d (suc n) = does (step d tray) goesOn ∷ going d n
 abbrev one : ℕ → List ℕ
 one v = 1 ∷ v ∷ []
 
+abbrev readOne : ℕ → ℕ → Line
+readOne v d = does (begin d (readOf false None (one v))) goesOn
+
 abbrev read5 : ℕ → Line
-read5 d = does (begin d (readOf false None (one 5))) goesOn
+read5 d = readOne 5 d
+
+-- a write in a hall of one column, from its begin to its end
+abbrev writes : Request → ℕ → Bool → List Line
+writes r d changed = does (begin d r) goesOn ∷ going d 4 ++ (does (step d tray) (ends changed) ∷ [])
 
 abbrev inserts5 : ℕ → Bool → List Line
-inserts5 d changed = does (begin d (insertOf (one 5))) goesOn ∷ going d 4 ++ (does (step d tray) (ends changed) ∷ [])
+inserts5 d changed = writes (insertOf (one 5)) d changed
 
 abbrev insertsAgain : ℕ → List Line
 insertsAgain zero = []
@@ -227,8 +234,8 @@ case-list-beside = from (stocked (numbers 32))
     ((readAll ∷ going 0 3) ++ (does (step 0 tray) (answers (numbers 32) false) ∷ countAll ∷ going 0 3) ++ (does (step 0 tray) (counts 32 false) ∷ []) ++ used-from-file)
 
 -- S-3, "a lowest and a highest value, both included": of the records 0 to 9 those from 4 to 9, at the fourth step, and at the second when
--- they are filed. A range over all numbers is not the plain read, and one with equal ends is not the named value: each goes to the table, and
--- is used from file after that
+-- they are filed. A range over all numbers is not the plain read, from S-5 on by its list too, and one with equal ends is not the named value:
+-- each goes to the table, and is used from file after that
 abbrev within : ℕ → ℕ → Line
 within low high = does (begin 0 (readOf false (Between 0 low high) (0 ∷ 0 ∷ []))) goesOn
 
@@ -240,8 +247,8 @@ case-range = from (stocked (numbers 10))
 abbrev case-range-whole : Row
 case-range-whole = from (stocked (numbers 10))
     ((readAll ∷ going 0 3) ++ (does (step 0 tray) (answers (numbers 10) false) ∷ within 0 4294967295 ∷ going 0 3)
-    ++ (does (step 0 tray) (answers (numbers 10) false) ∷ filed-count 2 ∷ readAll ∷ going 0 1)
-    ++ (does (step 0 tray) (answers (numbers 10) true) ∷ within 0 4294967295 ∷ going 0 1) ++ (does (step 0 tray) (answers (numbers 10) true) ∷ []))
+    ++ (does (step 0 tray) (answers (listed (λ i. i) 1 9) false) ∷ filed-count 2 ∷ readAll ∷ going 0 1)
+    ++ (does (step 0 tray) (answers (numbers 10) true) ∷ within 0 4294967295 ∷ going 0 1) ++ (does (step 0 tray) (answers (listed (λ i. i) 1 9) true) ∷ []))
 
 abbrev case-range-equal : Row
 case-range-equal = from (stocked (numbers 10))
@@ -278,6 +285,32 @@ abbrev case-abandoned-full : Row
 case-abandoned-full = from (stocked (numbers 2048))
     ((does (begin 1 (insertOf (one 5000))) goesOn ∷ going 1 3) ++ (does (abandon 1) full ∷ table-count 2048 ∷ marks-at 0 0 ∷ marks-at 1 0 ∷ does (abandon 1) (refuses 6) ∷ []))
 
+-- S-5, "A named 0 is never equal to anything, so a read or delete naming 0 finds no record, and a range skips records with 0 in its column; only
+-- a star finds them": of the records 0 and 1. The empty list of a read naming 0 is filed, and used
+abbrev case-zero-read : Row
+case-zero-read = from (stocked (numbers 2))
+    ((readOne 0 0 ∷ going 0 4) ++ (does (step 0 tray) (answers [] false) ∷ filed-count 1 ∷ readOne 0 0 ∷ going 0 2)
+    ++ (does (step 0 tray) (answers [] true) ∷ readOne 1 0 ∷ going 0 4) ++ (does (step 0 tray) (answers (1 ∷ []) false) ∷ readAll ∷ going 0 3)
+    ++ (does (step 0 tray) (answers (numbers 2) false) ∷ []))
+
+abbrev case-zero-range : Row
+case-zero-range = from (stocked (numbers 2))
+    ((within 0 0 ∷ going 0 3) ++ (does (step 0 tray) (answers [] false) ∷ within 0 1 ∷ going 0 3) ++ (does (step 0 tray) (answers (1 ∷ []) false) ∷ []))
+
+-- "An insert may carry 0 and is the same record as another alike in every column.": the second time it changes nothing, and a delete naming 0
+-- takes out none
+abbrev case-zero-write : Row
+case-zero-write = from (stocked (1 ∷ 2 ∷ []))
+    (writes (insertOf (one 0)) 1 true ++ writes (insertOf (one 0)) 1 false ++ writes (deleteOf (one 0)) 1 false ++ (readAll ∷ going 0 3)
+    ++ (does (step 0 tray) (answers (numbers 3) false) ∷ writes (deleteOf (0 ∷ 0 ∷ [])) 1 true) ++ (table-count 0 ∷ []))
+
+-- "in keys and labels a 0 equals a 0": an insert of 0 does not meet a read of 0, and shares its node. So the read's filed answer is no longer
+-- used, though it is right
+abbrev case-zero-shared : Row
+case-zero-shared = from (fresh 1)
+    ((readOne 0 0 ∷ going 0 4) ++ (does (step 0 tray) (answers [] false) ∷ filed-under 0 (1 ∷ 1 ∷ []) ∷ writes (insertOf (one 0)) 1 true)
+    ++ (node-is 0 (value 0 ∷ []) 2 ∷ readOne 0 0 ∷ going 0 2) ++ (noted-at 0 (2 ∷ 1 ∷ []) ∷ going 0 2) ++ (does (step 0 tray) (answers [] false) ∷ []))
+
 -- 11. Table of 2,048: inserting one already there ends unchanged; a new one gives 13.
 abbrev case-11 : Row
 case-11 = from (stocked (numbers 2048))
@@ -298,7 +331,7 @@ case-12-floor =
 abbrev pub cases : List Row
 cases =
     stated nodes.cases
-    ++ (case-6 ∷ case-7 ∷ case-8 ∷ case-9 ∷ case-10-at ∷ case-10-above ∷ case-count-above ∷ case-count-beside ∷ case-list-beside ∷ case-range ∷ case-range-whole ∷ case-range-equal ∷ case-range-refused ∷ case-abandoned-marking ∷ case-abandoned-raising ∷ case-abandoned-last ∷ case-abandoned-full ∷ case-11 ∷ case-12-at ∷ case-12-above ∷ case-12-floor)
+    ++ (case-6 ∷ case-7 ∷ case-8 ∷ case-9 ∷ case-10-at ∷ case-10-above ∷ case-count-above ∷ case-count-beside ∷ case-list-beside ∷ case-range ∷ case-range-whole ∷ case-range-equal ∷ case-range-refused ∷ case-abandoned-marking ∷ case-abandoned-raising ∷ case-abandoned-last ∷ case-abandoned-full ∷ case-zero-read ∷ case-zero-range ∷ case-zero-write ∷ case-zero-shared ∷ case-11 ∷ case-12-at ∷ case-12-above ∷ case-12-floor)
 
 pub cases-1-to-12 : T (all cases)
 unfolding readNodes writeNodes sheetEntry turned looks wildcardsOf wildcardsIn same keep place without allBelow listed padded written rows flat entriesIn withEntries admits lies naming pick readNode writeNode named readCount writeCount columnOf queryOf wellMarked isQuery namesAll recordOf termValue columnValue tag tags labelWords marks keyWords columnsIn queryIn countsIn countKey rangeOf rangeIn rangeKey wantedKey unranged bareKey range.within isNamed isRange isReversed listOf before has putIn target isFull outside effect noRoom changes labelIn pending revision withPending withRevision hasLabel nodePlace isPresent nodeOf withNode evictNode added isFree oldestFree makeRoom addedIn ensured announcedIn announced isPending released lifted mayRetire retired isHigh isWorn keyIn lengthIn revisionIn isCount mostIn listIn valueIn hasKeyOf atLeast serves fetchPlace keyPlace filed isLong someLong kind steps sawPending didChange foundFull entryOf idle isIdle begun workAt isBad stepped flag noted holding wrote recordsIn withRecords storeIn withStore answersIn withAnswers clientIn withClient cleared opened renewed columns client isShort badColumns isUnsound noClient allIdle openCode beginCode atClient stepCode abandonCode evictAnswerCode evictNodeCode renewCode nowAt storeBack answered lookResult fetchResult tableResult fileResult readResult announceResult writeTableResult endOf raiseResult writeResult progressOf progress unless openResult beginResult stepResult pastTable retireResult abandonedWrite abandonedOf abandoned abandonResult evictAnswerResult evictNodeResult renewResult untrayed callResult ofRecords ofNumber askFault listWithin valueOf mayAnswer readLabels askKey askIn writeLabels changeKind kindOf keyOf changeIn writeIn workIn workFault stepsInAll isWrite askOf workOf faultOf

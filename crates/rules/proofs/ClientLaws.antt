@@ -141,7 +141,7 @@ pub writes-at : {sh : Shape} {c : Client} {w : Write} → Busy narrow sh c (writ
 unfolding workAt workIn writeAt
 writes-at {sh} {c} {w} b = let z = (rw (ne-eqb (kind c) reads (no-reader b)) at (b .work)) in cc
 
--- what its key says is what it wants, and its range; the query of its key is the one that it reads, or whose subspace it changes
+-- what its key says is what it wants, and its range; the query of its key is the one that it reads, or that a write's nodes are made of
 pub asked-counts : {sh : Shape} {c : Client} {x : Ask} → Busy narrow sh c (asking x) → isCount (entryOf c) ≡ x .counts
 unfolding askAt askIn isCount
 asked-counts b = ap (λ (y : Ask). y .counts) (asks-at b)

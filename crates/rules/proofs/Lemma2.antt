@@ -1,26 +1,38 @@
--- Lemma 2 for the labels that the nodes keep: "A read and a write share a node exactly if they meet". It stands beside what a history
--- needs, which is a shared node (Sharing). Leans on Sharing, WorkLaws and query's Meet. Assumes nothing.
-use mathlib.Core.Path.{_≡_, sym, _∙_}
+-- Lemma 2 for the labels that the nodes keep, in the form that S-5 leaves it; that it is exact for an insert of any record and a read that names no
+-- 0; and "A read or delete that names 0 meets nothing". It stands beside what a history needs, which is its first half (Sharing). Leans on
+-- Sharing and query's Meet. Assumes nothing.
+use mathlib.Core.Path.{_≡_, refl}
 use mathlib.Core.Logic.{_↔_, Iff·trans}
-use Rattle.laws.proofs.TestLaws.{byTest, clash}
-use Rattle.query.specs.Query.{Meet}
-use Rattle.query.specs.Graph.{meets}
-use Rattle.query.proofs.Meet.{lemma-2, meets-is}
-use Rattle.rules.specs.Table.{target}
-use Rattle.rules.specs.Work.{Ask, Write, Shares, shares}
-use Rattle.rules.proofs.WorkLaws.{shares-is}
-use Rattle.rules.proofs.Sharing.{shares-node}
+use mathlib.Core.Bool.{true, false, or-true}
+use Rattle.laws.proofs.TestLaws.{clash}
+use Rattle.query.specs.Shape.{Shape}
+use Rattle.query.specs.Query.{Query, Record, lies, namesZero}
+use Rattle.query.proofs.Meet.{zero-lies-none, zero-meets-none, lemma-2, lemma-2-insert}
+use Rattle.rules.specs.Table.{Change, insert, delete, target, MeetsWrite}
+use Rattle.rules.specs.Work.{Ask, Write, Shares, Lemma2}
+use Rattle.rules.proofs.Sharing.{shares-node, meeting-shares}
 
-pub lemma-2-labels : (x : Ask) (w : Write) → Shares x w ↔ Meet (x .query) (target (w .change))
-lemma-2-labels x w = Iff·trans (shares-node x w) (lemma-2 (x .query) (target (w .change)))
+-- an insert and a read that names no 0: exact, whatever the record carries
+pub lemma-2-record : (x : Ask) (sh : Shape) (r : Record) → namesZero (x .query) ≡ false
+    → Shares x (record { shape = sh; change = insert r }) ↔ (lies (x .query) r ≡ true)
+unfolding target
+lemma-2-record x sh r z = Iff·trans (shares-node x (record { shape = sh; change = insert r })) (lemma-2-insert (x .query) r z)
 
--- the two tests are one
-pub meets-shares : (x : Ask) (w : Write) → meets (x .query) (target (w .change)) ≡ shares x w
-meets-shares x w =
-    let q = x .query in
-    let t = target (w .change) in
-    byTest (meets q t)
-    (λ e. e ∙ sym (shares-is x w .1 (lemma-2-labels x w .1 (meets-is q t .0 e))))
-    (λ e. byTest (shares x w)
-    (λ f. clash (meets-is q t .1 (lemma-2-labels x w .0 (shares-is x w .0 f))) e)
-    (λ f. e ∙ sym f))
+exact-of : (x : Ask) (sh : Shape) (c : Change) → namesZero (x .query) ≡ false → namesZero (target c) ≡ false
+    → Shares x (record { shape = sh; change = c }) → MeetsWrite (x .query) c
+unfolding target MeetsWrite
+exact-of x sh (insert r) y z s = lemma-2-record x sh r y .0 s
+exact-of x sh (delete w) y z s = lemma-2 (x .query) w y z .0 (shares-node x (record { shape = sh; change = delete w }) .0 s)
+
+pub lemma-2-holds : (x : Ask) (w : Write) → Lemma2 x w
+lemma-2-holds x w = record { meeting = meeting-shares x w; exact = exact-of x (w .shape) (w .change) }
+
+-- "A read or delete that names 0 meets nothing."
+pub zero-read-unmet : (q : Query) (c : Change) → namesZero q ≡ true → MeetsWrite q c → ⊥
+unfolding MeetsWrite
+zero-read-unmet q (insert r) z m = clash m (zero-lies-none q r z)
+zero-read-unmet q (delete w) z m = zero-meets-none q w (rw z refl) m
+
+pub zero-delete-unmet : (q w : Query) → namesZero w ≡ true → MeetsWrite q (delete w) → ⊥
+unfolding MeetsWrite
+zero-delete-unmet q w z m = zero-meets-none q w (rw z (or-true (namesZero q))) m

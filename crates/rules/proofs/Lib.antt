@@ -1,6 +1,7 @@
 pub mod WorkLaws
 pub mod Sharing
 pub mod Lemma2
+pub mod Zeros
 pub mod ClientLaws
 pub mod HoldingLaws
 pub mod PassedChecks

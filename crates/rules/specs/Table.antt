@@ -1,5 +1,5 @@
--- Document 01, "One desk, step by step": what the table step lists, adds and removes (source document 002, definition 5).
--- Leans on Query. Definitions only. Assumes nothing.
+-- Document 01, "One desk, step by step": what the table step lists, adds and removes (source document 002, definition 5; "subspace" is S-5's,
+-- query's `lies`), and which reads a write meets. Leans on Query and Graph. Definitions only. Assumes nothing.
 use mathlib.Core.Path.{_≡_}
 use mathlib.Core.Bool.{Bool, true, false, cond, not, _&&_, _||_}
 use mathlib.Core.List.{List, [], _∷_}
@@ -7,7 +7,8 @@ use lib.Dec.{eqb, leb}
 use lib.ListN.{length}
 use Rattle.lists.specs.Lists.{same, before, keep}
 use Rattle.rules.specs.Layout.{maxRecords}
-use Rattle.query.specs.Query.{Query, Record, lies, naming}
+use Rattle.query.specs.Query.{Query, Record, lies, naming, Meet}
+use Rattle.query.specs.Graph.{meets}
 
 -- definition 2: a table, as the list of its records
 abbrev pub Table : Type 0
@@ -31,10 +32,22 @@ pub data Change : Type 0 where
   insert : Record → Change
   delete : Query → Change
 
--- the query whose subspace a write changes
+-- the query that a write's nodes are made of: of an insert, its record as a query
 unfoldable pub target : Change → Query
 target (insert r) = naming r
 target (delete q) = q
+
+-- a read's query and a write meet. "Two queries *meet* if some record, in the table or not, lies in both."; "An insert of a record meets a read
+-- exactly if the record lies in the read's subspace." (S-5). "A read or delete that names 0 meets nothing." (rules' proofs, `zero-read-unmet`
+-- and `zero-delete-unmet`)
+unfoldable pub MeetsWrite : Query → Change → Type 0
+MeetsWrite q (insert r) = lies q r ≡ true
+MeetsWrite q (delete w) = Meet q w
+
+-- the same as a test
+unfoldable pub meetsWrite : Query → Change → Bool
+meetsWrite q (insert r) = lies q r
+meetsWrite q (delete w) = meets q w
 
 -- "at the table step the table held 2,048 records, not this one"
 unfoldable pub isFull : Record → Table → Bool

@@ -1,6 +1,6 @@
 -- What the passes give is what the table's functions say: the stretch that a pass is lent is the table's records; masks and values name the columns
--- that they were made of, and shifts and limits test what those and the range do. Leans on the laws of Rows and of columns, and on TableMemory.
--- Assumes nothing.
+-- that they were made of, and shifts and limits test what those and the range do; where nothing is to be found, nothing is listed. Leans on the
+-- laws of Rows, of columns and of query, and on TableMemory. Assumes nothing.
 use mathlib.Core.Path.{_≡_, refl, sym, ap, _∙_}
 use mathlib.Core.Bool.{Bool, true, false, cond, _&&_}
 use mathlib.Core.List.{List, [], _∷_}
@@ -10,20 +10,21 @@ use native.Mathlib.Omega.{arith}
 use lib.Dec.{ltb}
 use lib.ListN.{length, getD, take, drop, length-take, length-drop, List·getD-eq-default}
 use lib.Seq.{length-take-le, getD-take, getD-drop}
-use borrow.Author.Tests.{ltb-true, ltb-false}
+use borrow.Author.Tests.{ltb-true, ltb-false, eqb-true}
 use Rattle.lists.specs.Lists.{rows, keep, entriesIn, written, flat}
-use Rattle.laws.proofs.ListLaws.{and-left, and-right}
+use Rattle.laws.proofs.ListLaws.{and-left, and-right, keep-none}
 use Rattle.laws.proofs.RowLaws.{rows-front}
 use Rattle.laws.proofs.TestLaws.{byTest}
+use Rattle.laws.proofs.WrittenLaws.{written-nil}
 use Rattle.query.specs.declared.Column.{Column}
 use Rattle.query.specs.declared.Column.the-variants.{Wildcard}
 use Rattle.query.specs.declared.Range.{Range}
 use Rattle.query.specs.declared.Range.the-variants.{None, Between}
-use Rattle.query.specs.Query.{Query, Record, lies}
+use Rattle.query.specs.Query.{Query, Record, lies, namesZero}
 use Rattle.query.specs.Range.{within, isRange, isReversed}
-use Rattle.query.proofs.RangeLaws.{not-named}
+use Rattle.query.proofs.RangeLaws.{not-named, none-within}
 use Rattle.columns.specs.MaskContracts.{maskWords, queryUnder, Masked}
-use Rattle.columns.specs.BoundContracts.{boundWords, NamesWords}
+use Rattle.columns.specs.BoundContracts.{boundWords, findsNone, NamesWords}
 use Rattle.columns.proofs.MaskLaws.{masked-long, words-query}
 use Rattle.columns.proofs.BoundLaws.{Fitting, bounds-long, bound-test}
 use Rattle.rules.specs.Layout.{maxList, recordCountOffset}
@@ -31,6 +32,7 @@ use Rattle.rules.specs.Table.{Table, listOf, delete, effect}
 use Rattle.rules.specs.Work.{listWithin}
 use Rattle.rules.specs.Memory.{recordsIn, withRecords}
 use Rattle.rules.proofs.WorkLaws.{list-unranged}
+use Rattle.rules.proofs.Zeros.{zero-lists-none}
 use Rattle.table.specs.TableContracts.{Fit, Stretch, RangeFits, testOf, Tested, fitting, upTo, gathered, gone}
 use Rattle.table.proofs.TableMemory.{in-use}
 
@@ -136,6 +138,26 @@ keep-both p q (r ∷ t) = byTest (p r)
     (λ e. rw e (ap (λ (u : Table). cond (q r) (r ∷ u) u) (keep-both p q t)))
     (λ e. rw e (keep-both p q t))
 
+-- nothing is listed where a column names 0, or where the range has nothing above 0
+module _ (q : Query) (range : Range) (c low high : ℕ) (e : range ≡ Between c low high) (none : findsNone q high ≡ true) (t : Table) where
+  none-listed : listWithin range q t ≡ []
+  unfolding listOf listWithin findsNone keep
+  none-listed = byTest (namesZero q)
+      (λ z. zero-lists-none q z range t)
+      (λ z. let f : range ≡ Between c low 0 = e ∙ ap (Between c low) (eqb-true high 0 (rw z at none)) in
+      rw f (keep-none (within (Between c low 0)) (listOf q t) [] (λ j h. none-within c low (getD (listOf q t) j []))))
+
+  pub none-counted : 0 ≡ length (listWithin range q t)
+  none-counted = rw none-listed
+
+  pub none-gathered : 0 ≡ gathered (listWithin range q t)
+  unfolding gathered
+  none-gathered = rw none-listed
+
+  pub none-written : (out : List ℕ) → out ≡ written out 0 (flat (take maxList (listWithin range q t)))
+  unfolding flat
+  none-written out = rw none-listed (sym (written-nil out 0))
+
 module _ (k : ℕ) (cols : List Column) (range : Range) (c low high : ℕ) (e : range ≡ Between c low high) (g : RangeFits k (take k cols) range) where
   -- the range is on a wildcard, and its ends are in order
   pub column-in : c < k
@@ -160,15 +182,15 @@ module _ (k : ℕ) (cols : List Column) (range : Range) (c low high : ℕ) (e : 
         clash : _≡_ {A = Bool} true false → ⊥
         clash z = let y : _≡_ {A = ℕ} 0 1 = cc in omega arith
 
-    pub kept-ranged : (s : List ℕ) → Fit k s → NamesWords k (take k cols) → high < 4294967296 → Words s
+    pub kept-ranged : (s : List ℕ) → Fit k s → NamesWords k (take k cols) → high < 4294967296 → findsNone (take k cols) high ≡ false → Words s
         → keep (testOf true k q) (rows k (getD s recordCountOffset 0) (lent k s)) ≡ listWithin range (take k cols) (recordsIn k s)
     unfolding listOf listWithin testOf
-    kept-ranged s f names small words =
+    kept-ranged s f names small some words =
         let n = getD s recordCountOffset 0 in
         let v = wide in
         rows-kept (testOf true k q) (λ (r : Record). lies (take k cols) r && within range r) k n (lent k s)
         (λ r m fit. rw (w, e)
-        (bound-test (take k cols) (omega arith) r (omega arith) (λ i y. names i (omega arith)) fit c low high (omega (arith, column-in)) column-free ends-ordered small))
+        (bound-test (take k cols) (omega arith) r (omega arith) (λ i y. names i (omega arith)) fit c low high (omega (arith, column-in)) column-free ends-ordered small some))
         (let z = records-long k s f in omega arith) (take-words (8 + n * k - 8) (drop 8 s) (drop-words 8 s words))
         ∙ keep-both (lies (take k cols)) (within range) (rows k n (lent k s))
         ∙ rw (records-rows k s f)

@@ -63,6 +63,9 @@ pub fn gather(
         let query = columns::masks::mask_words(cols, k);
         return widths::list_plain(recs, k, &query, out);
     };
+    if columns::bounds::finds_none(cols, k, highest) {
+        return 0;
+    }
     let query = columns::bounds::bound_words(cols, k, column, lowest, highest);
     widths::list_ranged(recs, k, &query, out)
 }
@@ -84,6 +87,9 @@ pub fn count(table: &[u32], k: usize, cols: [Column; Hall::COLUMN_SLOTS], range:
         let query = columns::masks::mask_words(cols, k);
         return widths::count_plain(recs, k, &query) as usize;
     };
+    if columns::bounds::finds_none(cols, k, highest) {
+        return 0;
+    }
     let query = columns::bounds::bound_words(cols, k, column, lowest, highest);
     widths::count_ranged(recs, k, &query) as usize
 }

@@ -201,6 +201,6 @@ fn foreign_entry(k: usize, rng: &mut Rng) -> Entry {
     entry[..KEY_WIDTH].copy_from_slice(&query.key());
     entry[ENTRY_LENGTH] = length;
     entry[ENTRY_REVISIONS..ENTRY_REVISIONS + query.looks() as usize].fill_with(|| 1 + rng.below(50));
-    entry[ENTRY_LIST..ENTRY_LIST + length as usize * k].fill_with(|| rng.below(1000));
+    entry[ENTRY_LIST..ENTRY_LIST + length as usize * k].fill_with(|| 1 + rng.below(1000));
     entry
 }

@@ -1,5 +1,6 @@
 //! The cache test of source document 002, appendix A: reads of planes, inserts of points and deletes of lines of a 10 x 10 x 10 grid, at twelve
-//! desks whose single steps mix at random. Counts hits, and checks each answer by a plain table of its own. Leans on hall and side.
+//! desks whose single steps mix at random. Counts hits, and checks each answer by a plain table of its own. The grid's values are 1 to 10: 0 means
+//! not measured, and no read or delete finds it by name. Leans on hall and side.
 
 use crate::hall::Hall;
 use crate::rng::Rng;
@@ -8,6 +9,10 @@ use std::collections::{BTreeSet, HashSet};
 use twin::layout::*;
 
 type Point = [u32; 3];
+
+/// How many values each column of the grid has, from the least on.
+const EDGE: u32 = 10;
+const LEAST: u32 = 1;
 
 /// Weights of the operations, and what the document printed: hits and stale answers of 100,000 operations, both ratios in percent.
 pub struct Mix {
@@ -122,7 +127,7 @@ pub fn run(mix: &Mix, setting: Setting, operations: u32, seed: u64) -> Tally {
 }
 
 fn grid() -> impl Iterator<Item = Point> {
-    (0..1000).map(|i| [i / 100, i / 10 % 10, i % 10])
+    (0..EDGE.pow(3)).map(|i| [i / EDGE / EDGE, i / EDGE % EDGE, i % EDGE].map(|value| LEAST + value))
 }
 
 fn lies(point: &Point, asked: &Asked) -> bool {
@@ -132,7 +137,7 @@ fn lies(point: &Point, asked: &Asked) -> bool {
 impl Run<'_> {
     /// A quarter of the grid is filled, evenly: 24 to 26 points of each plane.
     fn new(mix: &Mix, setting: Setting, seed: u64) -> Run<'_> {
-        let quarter: Vec<Point> = grid().filter(|p| p.iter().sum::<u32>() % 4 == 0).collect();
+        let quarter: Vec<Point> = grid().filter(|p| p.iter().map(|value| value - LEAST).sum::<u32>() % 4 == 0).collect();
         let mut hall = Hall::opened(3);
         for point in &quarter {
             let whole = Act::Whole(Kind::Insert, 0, Asked::new(&point.map(Some)));
@@ -149,7 +154,7 @@ impl Run<'_> {
         let [reads, inserts, deletes] = self.mix.weights;
         let drawn = self.rng.below(reads + inserts + deletes);
         let column = self.rng.below(3) as usize;
-        let mut point = [0; 3].map(|_| Some(self.rng.below(10)));
+        let mut point = [0; 3].map(|_| Some(LEAST + self.rng.below(EDGE)));
         if drawn < reads {
             (0..3).filter(|c| *c != column).for_each(|c| point[c] = None);
             (Kind::Read, Asked::new(&point))

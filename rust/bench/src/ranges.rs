@@ -10,7 +10,8 @@ use twin::layout::*;
 
 /// The value that a query of these rows names in each column but one.
 const NAMED: u32 = 7;
-/// Above every value in a column with a range: such a range leaves nothing out.
+/// The least value, and one above every value, in a column with a range: from the one to the other a range leaves nothing out. (It skips 0.)
+const LOWEST: u32 = 1;
 const HIGHEST: u32 = 9_000;
 
 pub fn rows() -> Vec<Row> {
@@ -34,7 +35,7 @@ fn groups(kind: Kind) -> [&'static str; 2] {
 /// A begin and a fetch that hits, in a full hall: three columns named, the last a star or ranged.
 fn begins_and_fetches(rows: &mut Vec<Row>) {
     let plain = naming(4, 0b0111);
-    let ranged = plain.within(3, 0, HIGHEST);
+    let ranged = plain.within(3, LOWEST, HIGHEST);
     for (asked, [read, count, fetch]) in
         [(plain, ["begin read", "begin count", "fetch"]), (ranged, ["ranged begin read", "ranged begin count", "ranged fetch"])]
     {
@@ -74,7 +75,7 @@ const FINDS: [(usize, &str); 3] = [(0, "none"), (1, "1"), (32, "32")];
 /// Lists and counts over 2,048 records that name every column but one, the first or the last.
 fn table_steps(rows: &mut Vec<Row>, k: usize, open: usize) {
     let plain = Asked::new(&(0..k).map(|c| (c != open).then_some(NAMED)).collect::<Vec<_>>());
-    let asked = [plain, plain.within(open, 0, HIGHEST)];
+    let asked = [plain, plain.within(open, LOWEST, HIGHEST)];
     for (kind, (finds, text)) in [Kind::Read, Kind::Count].into_iter().flat_map(|kind| FINDS.map(|finds| (kind, finds))) {
         let halls = asked.map(|asked| taking(kind, k, asked, RECORDS, |i| found_or_not(k, open, finds, i)));
         pair(rows, kind, &format!("k {k}, all but column {open} named, finds {text}"), finds, halls);
@@ -86,7 +87,7 @@ fn table_steps(rows: &mut Vec<Row>, k: usize, open: usize) {
 /// column is open those found are spread, otherwise they lie together.
 fn found_or_not(k: usize, open: usize, finds: usize, i: usize) -> [u32; 4] {
     let mut values = [NAMED; 4];
-    values[open] = i as u32;
+    values[open] = LOWEST + i as u32;
     if open == 0 {
         let apart = RECORDS / finds.max(1);
         let is_found = finds > 0 && i % apart == apart / 2;
@@ -110,7 +111,7 @@ fn one_column(rows: &mut Vec<Row>) {
         finding(rows, "ranged list", &name, finds, over(Kind::Read, asked));
         finding(rows, "ranged count", &name, finds, over(Kind::Count, asked));
     }
-    finding(rows, "ranged count", "k 1, finds all", RECORDS, over(Kind::Count, star.within(0, 0, HIGHEST)));
+    finding(rows, "ranged count", "k 1, finds all", RECORDS, over(Kind::Count, star.within(0, LOWEST, HIGHEST)));
     finding(rows, "list", "k 1, finds 1", 1, over(Kind::Read, Asked::new(&[Some(value)])));
 }
 
@@ -118,7 +119,7 @@ fn one_column(rows: &mut Vec<Row>) {
 fn whole_table(rows: &mut Vec<Row>) {
     let star = Asked::new(&[None]);
     for kind in [Kind::Read, Kind::Count] {
-        let halls = [star, star.within(0, 0, HIGHEST)].map(|asked| taking(kind, 1, asked, 32, |i| record(1, i)));
+        let halls = [star, star.within(0, LOWEST, HIGHEST)].map(|asked| taking(kind, 1, asked, 32, |i| record(1, i)));
         pair(rows, kind, "k 1, table of 32, finds 32", 32, halls);
     }
 }

@@ -1,7 +1,8 @@
 //! What is timed: one row for each call and each kind of step, with the hall that it starts from
 //! and the reply that it must give, and one for the table's plain reading. Rows of single calls
 //! have four columns, the most there can be; counts, and whole reads and writes, have one to four.
-//! Those with a range are in ranges. Leans on hall and side.
+//! Those with a range are in ranges. No record and no query of a row has a 0, which means not
+//! measured and which no name finds. Leans on hall and side.
 
 use crate::hall::{read_labels, write_labels, Hall};
 use crate::rng::Rng;
@@ -39,14 +40,14 @@ fn from_table(count: u32) -> Reply {
 }
 
 /// Record i of the plain table: four records share a first column, and the last two columns are in no order. With one column no two
-/// records may share it.
+/// records may share it. Each is above a record of ones.
 pub fn record(k: usize, i: usize) -> [u32; 4] {
     let i = i as u32;
     let mut rng = Rng::new(i as u64);
     if k == 1 {
-        return [i + 1, 0, 0, 0];
+        return [i + 2, 1, 1, 1];
     }
-    [i / 4 + 1, i % 4, rng.below(8), rng.below(512)]
+    [i / 4 + 2, i % 4 + 1, rng.below(8) + 1, rng.below(512) + 1]
 }
 
 /// Names the columns of the middle record at the 1 bits of `named`.
@@ -149,17 +150,17 @@ fn fetches(rows: &mut Vec<Row>) {
     row(rows, "fetch", "hit, last of 64", fetching(asked, Some((ANSWERS - 1, own))), Act::Step(CLIENT), from_file(1));
     row(rows, "fetch", "miss, 64 other queries", fetching(asked, None), Act::Step(CLIENT), ACCEPTED);
     row(rows, "fetch", "miss, own answer outdated", fetching(asked, Some((ANSWERS - 1, old))), Act::Step(CLIENT), ACCEPTED);
-    let wide = Asked::new(&[None, Some(17), None, None]);
+    let wide = Asked::new(&[None, Some(18), None, None]);
     let own = grouped(64, 32, wide).entry_for(wide);
     let hall = grouped(64, 32, wide).with_answers(ANSWERS, Some((ANSWERS - 1, own))).begun(Kind::Read, CLIENT, wide, 2);
     row(rows, "fetch", "hit, last of 64, 32 records", hall, Act::Step(CLIENT), from_file(32));
 }
 
-/// A full hall whose records come in groups of `width`, numbered in their second column: a query of one such number finds one of each
+/// A full hall whose records come in groups of `width`, numbered from 1 in their second column: a query of one such number finds one of each
 /// group, spread over the table.
 fn grouped(width: usize, groups: usize, asked: Asked) -> Hall {
     let n = RECORDS.min(width * groups);
-    reading(4, asked).with_records(n, |i| [(i / width) as u32, (i % width) as u32, 5, 6])
+    reading(4, asked).with_records(n, |i| [(i / width) as u32 + 1, (i % width) as u32 + 1, 5, 6])
 }
 
 /// Before the table step of a read, for a list or a count.
@@ -193,9 +194,9 @@ fn lists(rows: &mut Vec<Row>) {
 
 fn long_lists(rows: &mut Vec<Row>) {
     let second = |value| Asked::new(&[None, Some(value), None, None]);
-    let spread = grouped(64, 32, second(17)).begun(Kind::Read, CLIENT, second(17), 3);
+    let spread = grouped(64, 32, second(18)).begun(Kind::Read, CLIENT, second(18), 3);
     row(rows, "list", "32 records, spread", spread, Act::Step(CLIENT), ACCEPTED);
-    let late = grouped(62, 34, second(1)).begun(Kind::Read, CLIENT, second(1), 3);
+    let late = grouped(62, 34, second(2)).begun(Kind::Read, CLIENT, second(2), 3);
     row(rows, "list", "long, found at record 1,986", late, Act::Step(CLIENT), refused(12));
     let wildcards = Asked::new(&[None; 4]);
     row(rows, "list", "long, found at record 33", listing(4, wildcards), Act::Step(CLIENT), refused(12));
@@ -253,9 +254,9 @@ fn inserts(rows: &mut Vec<Row>) {
     let less = RECORDS - 1;
     let mut between = record(4, MIDDLE);
     between[3] += 1;
-    row(rows, "insert", "front of 2,047", writing(Kind::Insert, the_record([0, 0, 0, 0]), less), Act::Step(CLIENT), ACCEPTED);
+    row(rows, "insert", "front of 2,047", writing(Kind::Insert, the_record([1, 1, 1, 1]), less), Act::Step(CLIENT), ACCEPTED);
     row(rows, "insert", "middle of 2,047", writing(Kind::Insert, the_record(between), less), Act::Step(CLIENT), ACCEPTED);
-    row(rows, "insert", "end of 2,047", writing(Kind::Insert, the_record([9999, 0, 0, 0]), less), Act::Step(CLIENT), ACCEPTED);
+    row(rows, "insert", "end of 2,047", writing(Kind::Insert, the_record([9999, 1, 1, 1]), less), Act::Step(CLIENT), ACCEPTED);
     row(rows, "insert", "present, in the middle", writing(Kind::Insert, all_named(4), less), Act::Step(CLIENT), ACCEPTED);
     row(rows, "insert", "present, first", writing(Kind::Insert, the_record(record(4, 0)), less), Act::Step(CLIENT), ACCEPTED);
     row(rows, "insert", "full", writing(Kind::Insert, the_record(between), RECORDS), Act::Step(CLIENT), ACCEPTED);
@@ -263,7 +264,7 @@ fn inserts(rows: &mut Vec<Row>) {
 
 fn deletes(rows: &mut Vec<Row>) {
     let none = Asked::new(&[Some(9999), None, None, None]);
-    let quarter = Asked::new(&[None, Some(2), None, None]);
+    let quarter = Asked::new(&[None, Some(3), None, None]);
     let delete = |asked| writing(Kind::Delete, asked, RECORDS);
     row(rows, "delete", "none", delete(none), Act::Step(CLIENT), ACCEPTED);
     row(rows, "delete", "4 in the middle", delete(naming(4, 0b0001)), Act::Step(CLIENT), ACCEPTED);
@@ -328,7 +329,7 @@ fn whole_writes_in(rows: &mut Vec<Row>, k: usize, text: &str, around: impl Fn(&[
     } else {
         values[k - 1] += 1000;
     }
-    let spaced = |i| if k == 1 { [2 * record(1, i)[0], 0, 0, 0] } else { record(k, i) };
+    let spaced = |i| if k == 1 { [2 * record(1, i)[0], 1, 1, 1] } else { record(k, i) };
     let asked = Asked::new(&values.map(Some)[..k]);
     let hall = |asked, n| around(&write_labels(k, asked)).with_records(n, spaced);
     let insert = Act::Whole(Kind::Insert, CLIENT, asked);

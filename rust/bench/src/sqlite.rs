@@ -141,11 +141,13 @@ fn opposite(kind: Kind) -> Kind {
     }
 }
 
-/// The time of one statement, its write undone outside the timed part. `expected` is what a read must find.
+/// The time of one statement, its write undone outside the timed part. `expected` is what a read must find. No 0 is named: the library finds none,
+/// and the statement would.
 pub fn time(base: &Database, kind: Kind, asked: &Asked, expected: &[u32], effort: Effort, clock: &Clock) -> Quartiles {
     let mut statement = base.prepare(&text_of(base.k, kind, asked));
     let mut undo = base.prepare(&text_of(base.k, opposite(kind), asked));
     let values: Vec<u32> = asked.columns().flatten().collect();
+    assert!(values.iter().all(|value| *value != 0), "0 means not measured, and SQLite is not told so");
     let mut once = || {
         let start = now();
         statement.run(values.iter().copied());

@@ -41,7 +41,7 @@ fn row(number: &str, left: &str, right: &str) -> String {
     text
 }
 
-/// Cut at spaces, but for those in a record or a name such as (7, 0), into lines that are at most so wide; all but the first are indented.
+/// Cut at spaces, but for those in a record or a name such as (7, 42), into lines that are at most so wide; all but the first are indented.
 pub fn wrapped(text: &str, width: usize) -> Vec<String> {
     let mut lines = vec![String::new()];
     let mut open = false;

@@ -43,9 +43,9 @@ fn take_effect(table: &mut Vec<Record>, kind: Kind, asked: &Asked) {
     }
 }
 
-/// The record has the named value in each named column.
+/// The record has the named value in each named column. A named 0 no record has: it means that nothing was measured (document 02, S-5).
 fn lies(record: &Record, asked: &Asked) -> bool {
-    record.iter().zip(asked.chunks(2)).all(|(value, column)| column[0] == 0 || column[1] == *value)
+    record.iter().zip(asked.chunks(2)).all(|(value, column)| column[0] == 0 || column[1] != 0 && column[1] == *value)
 }
 
 /// A read of a trace, its answer, and when that was its query's list.

@@ -12,7 +12,7 @@ pub const WRITERS: [u32; 2] = [0, 2];
 /// The desk of the bench that reads.
 pub const READER: u32 = 1;
 /// The record before the correction, and the one after it.
-pub const OLD: [u32; K] = [7, 0];
+pub const OLD: [u32; K] = [7, 40];
 pub const NEW: [u32; K] = [7, 42];
 
 /// A query as a begin takes it: a mark and a value for each column.

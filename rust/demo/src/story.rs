@@ -12,8 +12,8 @@ use twin::query::Query;
 pub const SETTING: &str = "\
 A BENCH READS WHILE A CORRECTION GOES IN
 
-The controller's table holds one record, (7, 0): binding 7, stored zero 0. A correction makes it
-(7, 42). It is two writes: desk 0 deletes (7, 0) and desk 2 inserts (7, 42), here side by side,
+The controller's table holds one record, (7, 40): binding 7, stored zero 40. A correction makes it
+(7, 42). It is two writes: desk 0 deletes (7, 40) and desk 2 inserts (7, 42), here side by side,
 which brings the fault out at its plainest; a program of yours runs the one to its end and then the
 other, as docs/CALLS.md says. Meanwhile the bench at desk 1 reads (7, *), all that
 the table has of binding 7; a star stands for any value.

@@ -19,7 +19,7 @@ fn the_script_is_a_line_of_six_numbers_for_each_item() {
     let text = as_text();
     assert_eq!(text.lines().count(), script().len());
     assert!(text.lines().all(|line| line.split(' ').filter(|number| number.parse::<u32>().is_ok()).count() == 6));
-    assert!(text.starts_with("0 2 0 0 0 0\n2 0 1 7 1 0\n5 0 0 0 0 0\n3 0 1 7 1 0\n"));
+    assert!(text.starts_with("0 2 0 0 0 0\n2 0 1 7 1 40\n5 0 0 0 0 0\n3 0 1 7 1 40\n"));
 }
 
 fn complaint(text: &str) -> String {

@@ -124,10 +124,10 @@ fn each_step_is_told_by_what_it_changed() {
     assert_eq!(row(&faulty, 9), "9  desk 2 raises (7, *) already: counter 4");
     let both = [&sound, &faulty].map(|trace| lanes(trace, Part::Mixing).split_whitespace().collect::<Vec<_>>().join(" ").replace("| ", ""));
     assert!(both[0].contains("10 desk 1 looks at (7, *): counter 2, 2 marks"));
-    assert!(both[0].contains("15 desk 1 table: takes the list (7, 0). Answers (7, 0); files nothing, because a look saw a mark"));
+    assert!(both[0].contains("15 desk 1 table: takes the list (7, 40). Answers (7, 40); files nothing, because a look saw a mark"));
     assert!(both[0].contains("23 desk 2 raises (7, *): counter 4, no mark left"));
     assert!(both[1].contains("10 desk 1 looks at (7, *): counter 4, no mark"));
-    assert!(both[1].contains("18 desk 1 files (7, 0) under the counters 4 and 1 it noted, though the table has (7, 42) by now."));
+    assert!(both[1].contains("18 desk 1 files (7, 40) under the counters 4 and 1 it noted, though the table has (7, 42) by now."));
 }
 
 #[test]

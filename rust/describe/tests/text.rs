@@ -94,12 +94,12 @@ fn a_new_hall_and_a_long_table() {
     ] {
         assert!(text.contains(line), "{line}: {text}");
     }
-    for value in 0..20 {
+    for value in 1..=20 {
         hall.begin_insert(3, &[value]).unwrap();
         assert_eq!(hall.run(3), Ok(Outcome::Changed));
     }
-    assert!(describe(&hall.to_bytes(), false).ends_with("  15: (15)\n  and 4 more (all with --all)\n"));
-    assert!(describe(&hall.to_bytes(), true).ends_with("  18: (18)\n  19: (19)\n"));
+    assert!(describe(&hall.to_bytes(), false).ends_with("  15: (16)\n  and 4 more (all with --all)\n"));
+    assert!(describe(&hall.to_bytes(), true).ends_with("  18: (19)\n  19: (20)\n"));
 }
 
 /// One number of a busy hall altered, by its place in the saved form, and what is said then.
@@ -168,7 +168,7 @@ fn any(state: &mut u64) -> u32 {
 /// Forty records and a filed count of (3, *); desk 5 is about to be answered with it from file, desk 6 to file a count of its own.
 fn counting_hall() -> Hall {
     let mut hall = Hall::open(2).unwrap();
-    for setting in 0..40 {
+    for setting in 1..=40 {
         hall.begin_insert(0, &[3, setting]).unwrap();
         assert_eq!(hall.run(0), Ok(Outcome::Changed));
     }

@@ -1,12 +1,13 @@
 //! The checker of demand 3 on executed histories: document 01, "A history and the plain table". It is fed the calls' arguments and
 //! what they returned, and keeps a plain table of its own; nothing in it leans on the library or the twin. It checks two things more that
 //! the rules give: a write's end, by its last raise or by an abandoning (document 02, S-4), is told as its table step was; and with every desk
-//! idle no node has a mark. Beside it, filing checks demand 2's last sentence.
+//! idle no node has a mark. Beside it, filing checks demand 2's last sentence, and zeros counts what was met of the value 0.
 
 use crate::call::{tray_of, Ask, Asked, Call, Within};
-use crate::filing::{Filing, Wrong};
+use crate::filing::{Filing, Sentence, Wrong};
 use crate::hall::Hall;
 use crate::side::Reply;
+use crate::zeros::{self, Zeros};
 use std::fmt;
 
 /// "a read has ended with its nineteenth accepted step at the latest, a write with its thirty-third"
@@ -123,14 +124,31 @@ pub struct Checker {
     pub rests: u64,
     /// how many writes were abandoned before their table step, and after one that changed the table, did not, or found it full
     pub abandoned: [u64; 4],
+    /// what was met of the value 0
+    pub zeros: Zeros,
     filing: Filing,
 }
 
 impl Checker {
     /// At an accepted opening.
     pub fn opened(k: u32) -> Checker {
-        let (plain, filing) = (Vec::new(), Filing::opened());
-        Checker { k: k as usize, plain, notes: [const { None }; 12], answers: 0, counts: 0, ranges: 0, rests: 0, abandoned: [0; 4], filing }
+        Checker::by(k, Sentence::Sharing)
+    }
+
+    /// The same, with demand 2's last sentence as it is or as it was.
+    pub fn by(k: u32, sentence: Sentence) -> Checker {
+        Checker {
+            k: k as usize,
+            plain: Vec::new(),
+            notes: [const { None }; 12],
+            answers: 0,
+            counts: 0,
+            ranges: 0,
+            rests: 0,
+            abandoned: [0; 4],
+            zeros: [0; zeros::MET.len()],
+            filing: Filing::opened(sentence),
+        }
     }
 
     /// How many answers were seen, how many of them were counts, and how many of reads with a range; after how many calls every desk was idle.
@@ -232,6 +250,7 @@ impl Checker {
             self.answers += 1;
             self.counts += note.ask.counts as u64;
             self.ranges += note.ask.within.is_some() as u64;
+            zeros::of_answer(&mut self.zeros, &note.ask, reply.ending == 1, self.plain.chunks(k));
             let count = reply.count as usize;
             let list = || tray.get(..count * k).map(|held| Value::List(held.to_vec()));
             let got = if note.ask.counts { Some(Value::Count(count)) } else { list() };
@@ -244,7 +263,9 @@ impl Checker {
     }
 
     fn take_effect(&mut self, client: u32, kind: Kind, asked: Asked) {
-        let effect = if kind == Kind::Insert { self.insert(&asked) } else { self.delete(&asked) };
+        let (inserts, before) = (kind == Kind::Insert, self.plain.clone());
+        let effect = if inserts { self.insert(&asked) } else { self.delete(&asked) };
+        zeros::of_write(&mut self.zeros, inserts, &asked, effect == Effect::Changed, before.chunks(self.k));
         self.notes[client as usize].iter_mut().for_each(|note| note.effect = Some(effect));
         if effect == Effect::Changed {
             self.note_values();
@@ -325,13 +346,14 @@ fn has_marks(nodes: &[u32]) -> bool {
     nodes[8..].chunks_exact(8).take(nodes[1] as usize).any(|node| node[5] != 0)
 }
 
-/// "exactly the subspace's records within": both ends are included.
+/// "exactly the subspace's records within": both ends are included; and "a range skips records with 0 in its column" (S-5).
 fn belongs(record: &[u32], ask: &Ask) -> bool {
-    let within = |range: Within| record.get(range.column as usize).is_some_and(|value| range.lowest <= *value && *value <= range.highest);
+    let holds = |range: Within, value: u32| value != 0 && range.lowest <= value && value <= range.highest;
+    let within = |range: Within| record.get(range.column as usize).is_some_and(|value| holds(range, *value));
     lies(record, &ask.asked) && ask.within.is_none_or(within)
 }
 
-/// The record has the named value in each named column.
+/// The record has the named value in each named column. "A named 0 is never equal to anything" (S-5).
 fn lies(record: &[u32], asked: &Asked) -> bool {
-    record.iter().zip(asked.words().chunks(2)).all(|(value, column)| column[0] == 0 || column[1] == *value)
+    record.iter().zip(asked.words().chunks(2)).all(|(value, column)| column[0] == 0 || column[1] != 0 && column[1] == *value)
 }

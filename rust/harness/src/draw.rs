@@ -11,8 +11,12 @@ use twin::query::Query;
 /// What a mixing is like.
 pub struct Mixing {
     pub k: u32,
-    /// values are below this; 0: any number
+    /// values are 1 to this; 0: any number
     values: u32,
+    /// of 16 values so many are 0
+    zeros: u32,
+    /// of 256 others so many are one of the two largest numbers, and as many any number
+    far: u32,
     /// of 16 columns so many name a value
     named: u32,
     /// weights of read, insert, delete
@@ -38,10 +42,11 @@ pub struct Mixing {
 
 impl Mixing {
     fn new(k: u32, values: u32, named: u32, kinds: [u32; 3]) -> Mixing {
+        let (zeros, far) = (1, 1);
         let (again, counts, ranges, band) = (3, 6, 6, 0);
         let (evictions, abandonings, odd) = (20, 15, 30);
         let (burst, before_drain, draining) = ((0, 0), 500, 0);
-        Mixing { k, values, named, kinds, again, counts, ranges, band, evictions, abandonings, odd, burst, before_drain, draining }
+        Mixing { k, values, zeros, far, named, kinds, again, counts, ranges, band, evictions, abandonings, odd, burst, before_drain, draining }
     }
 
     /// Few values: reads and writes meet all the time.
@@ -53,6 +58,16 @@ impl Mixing {
         let mut mixing = Mixing::new(k, values, named, kinds);
         mixing.evictions = rng.pick(&[0, 10, 60, 200]);
         mixing.abandonings = rng.pick(&[0, 10, 40]);
+        mixing
+    }
+
+    /// Values are 0 and 1 alone (S-5), and reads of what is filed.
+    pub fn zeros(rng: &mut Rng) -> Mixing {
+        let kinds = rng.pick(&[[6, 3, 1], [12, 3, 2], [40, 2, 1]]);
+        let mut mixing = Mixing::new(1 + rng.below(4), 1, 4 + rng.below(10), kinds);
+        (mixing.zeros, mixing.far, mixing.odd) = (8, 0, 0);
+        mixing.again = 8;
+        mixing.evictions = rng.pick(&[0, 10, 60]);
         mixing
     }
 
@@ -83,6 +98,7 @@ impl Mixing {
     /// Fills the table to 2,048 records and stays there.
     pub fn filling(rng: &mut Rng) -> Mixing {
         let mut mixing = Mixing::new(1 + rng.below(2), 0, 14, [1, 12, 1]);
+        mixing.zeros = 0;
         mixing.band = 2048;
         mixing.before_drain = 30_000;
         mixing.abandonings = 40;
@@ -204,11 +220,14 @@ impl Mixing {
     }
 
     fn value(&self, rng: &mut Rng) -> u32 {
+        if rng.chance(self.zeros, 16) {
+            return 0;
+        }
         match rng.below(256) {
-            0 => rng.pick(&[u32::MAX - 1, u32::MAX]),
-            1 => rng.any(),
+            roll if roll < self.far => rng.pick(&[u32::MAX - 1, u32::MAX]),
+            roll if roll < 2 * self.far => rng.any(),
             _ if self.values == 0 => rng.any(),
-            _ => rng.below(self.values),
+            _ => 1 + rng.below(self.values),
         }
     }
 }
@@ -385,7 +404,7 @@ pub fn any_call(rng: &mut Rng, hall: &Hall) -> Call {
     if rng.chance(1, 12) {
         return odd_call(rng, hall, k.clamp(1, 5));
     }
-    let (client, values) = (rng.below(13), rng.pick(&[1, 3, 6]));
+    let (client, values) = (rng.below(13), rng.pick(&[2, 3, 6]));
     match rng.below(24) {
         0 => Call::Open { k: rng.below(6) },
         1..4 => any_ask(rng, k, values).begin(client),

@@ -1,5 +1,7 @@
 //! The checker of demand 2's last sentence on executed histories: "A read whose fetch finds a filed answer to its query gets it, if from the
-//! earlier of its own begin and the filing read's to that fetch no write meeting the query was open and none of its nodes was put out."
+//! earlier of its own begin and the filing read's to that fetch no write meeting the query was open and none of its nodes was put out." By S-5
+//! "a write sharing one of the answer's nodes takes the place of one meeting the query": more writes, since a read or delete that names 0 meets
+//! nothing and shares nodes all the same.
 //!
 //! Told by the calls' arguments and replies alone: what is under way at a desk and how many steps it has made, so which step is a fetch and
 //! which a file step; which read was the last to file under a query, since when it ran and with which list; which writes are open. Told by
@@ -9,24 +11,44 @@
 //! As the sentence is read here (docs/DECISIONS.md, R-22; crates/demands/specs/Demand2.antt): a write counts that is open at any moment from
 //! just after the earlier begin to just before the fetch, abandoned later or not; one that ends just before the earlier begin does not. "gets
 //! it" is the filing read's list, from file, and the rest of the tray as it was; of a count (S-1) the filing count's number, and all of the
-//! tray as it was. An answer is filed for what a read asks: its query, which of the two it wants, and its range (S-3). A write meets a read with
-//! a range if it meets the query, in which that column is a star, whatever it writes there. Leans on call and hall; on nothing of the library or
-//! the twin.
+//! tray as it was. An answer is filed for what a read asks: its query, which of the two it wants, and its range (S-3). For its nodes a range's
+//! column is a star, as it is in the query: a write shares one with such a read whatever it writes there. Leans on call and hall; on nothing of
+//! the library or the twin.
 
 use crate::call::{tray_of, Ask, Asked, Call};
 use crate::hall::Hall;
 use crate::side::Reply;
 use std::collections::HashSet;
 
+/// Which writes the sentence speaks of: those that share one of the answer's nodes, or, as it was before S-5 and is only tried, those that meet
+/// the query.
+#[derive(Clone, Copy, PartialEq, Eq, Debug)]
+pub enum Sentence {
+    Sharing,
+    Meeting,
+}
+
+impl Sentence {
+    /// Whether it speaks of this write for a read of this query.
+    pub fn is_of(self, write: &Asked, inserts: bool, query: &Asked) -> bool {
+        match self {
+            Sentence::Sharing => share(write, query),
+            Sentence::Meeting => meet(write, inserts, query),
+        }
+    }
+}
+
 /// What is under way at a desk: a write is open until it is taken away, by its last raise or by an abandoning.
 struct Work {
     reads: bool,
+    /// a write that is no delete
+    inserts: bool,
     /// of a write: its query, no count and no range
     ask: Ask,
     steps: u32,
     /// which call began it
     begun: u64,
-    /// of a read: since its begin no write meeting its query was open and none of its nodes was put out
+    /// of a read: since its begin no write that the sentence is of was open and none of its nodes was put out
     quiescent: bool,
 }
 
@@ -53,6 +75,7 @@ pub enum Wrong {
 }
 
 pub struct Filing {
+    sentence: Sentence,
     /// by client, the desk
     clients: [Option<Work>; 12],
     filed: Vec<Filed>,
@@ -73,9 +96,9 @@ pub struct Filing {
 
 impl Filing {
     /// At an accepted opening.
-    pub fn opened() -> Filing {
+    pub fn opened(sentence: Sentence) -> Filing {
         let (clients, filed, labels) = ([const { None }; 12], Vec::new(), Vec::new());
-        Filing { clients, filed, labels, finds: false, calls: 0, owed: 0, owed_to_earlier: 0, owed_to_counts: 0, owed_to_ranges: 0 }
+        Filing { sentence, clients, filed, labels, finds: false, calls: 0, owed: 0, owed_to_earlier: 0, owed_to_counts: 0, owed_to_ranges: 0 }
     }
 
     /// Just before a call of the history.
@@ -108,11 +131,8 @@ impl Filing {
             self.begin_read(client, ask);
         }
         match call {
-            Call::BeginInsert { client, asked } | Call::BeginDelete { client, asked } => {
-                let ask = Ask { asked: *asked, counts: false, within: None };
-                self.clients[*client as usize] = Some(Work { reads: false, ask, steps: 0, begun: self.calls, quiescent: false });
-                self.disturb(|query| meet(asked, query));
-            }
+            Call::BeginInsert { client, asked } => self.begin_write(*client, *asked, true),
+            Call::BeginDelete { client, asked } => self.begin_write(*client, *asked, false),
             Call::Step { client, .. } => {
                 let wrong = self.answered(call, *client, reply, hall.tray());
                 self.stepped(*client, reply, hall);
@@ -125,8 +145,15 @@ impl Filing {
     }
 
     fn begin_read(&mut self, client: u32, ask: Ask) {
-        let quiescent = !self.clients.iter().flatten().any(|work| !work.reads && meet(&work.ask.asked, &ask.asked));
-        self.clients[client as usize] = Some(Work { reads: true, ask, steps: 0, begun: self.calls, quiescent });
+        let of = |work: &Work| !work.reads && self.sentence.is_of(&work.ask.asked, work.inserts, &ask.asked);
+        let quiescent = !self.clients.iter().flatten().any(of);
+        self.clients[client as usize] = Some(Work { reads: true, inserts: false, ask, steps: 0, begun: self.calls, quiescent });
+    }
+
+    fn begin_write(&mut self, client: u32, asked: Asked, inserts: bool) {
+        let (ask, sentence) = (Ask { asked, counts: false, within: None }, self.sentence);
+        self.clients[client as usize] = Some(Work { reads: false, inserts, ask, steps: 0, begun: self.calls, quiescent: false });
+        self.disturb(|query| sentence.is_of(&asked, inserts, query));
     }
 
     /// The reads under way and the filed answers whose query is such a one are quiescent no more.
@@ -204,9 +231,21 @@ fn looks(asked: &Asked) -> u32 {
     1 << asked.words().chunks(2).filter(|column| column[0] == 1).count()
 }
 
-/// Some record lies in both: no column in which they name different values.
-fn meet(one: &Asked, other: &Asked) -> bool {
-    one.words().chunks(2).zip(other.words().chunks(2)).all(|(a, b)| a[0] == 0 || b[0] == 0 || a[1] == b[1])
+/// Some label of the read is one of the write: no column in which they name different values. "in keys and labels a 0 equals a 0"
+fn share(write: &Asked, query: &Asked) -> bool {
+    columns(write, query).all(|(a, b)| a[0] == 0 || b[0] == 0 || a[1] == b[1])
+}
+
+/// "An insert of a record meets a read exactly if the record lies in the read's subspace."; a delete and a read if some record lies in both.
+fn meet(write: &Asked, inserts: bool, query: &Asked) -> bool {
+    let is_zero = |column: &[u32]| column == [1, 0];
+    let zero = columns(write, query).any(|(a, b)| is_zero(b) || !inserts && is_zero(a));
+    share(write, query) && !zero
+}
+
+/// Both queries column by column, each a mark and a value.
+fn columns<'a>(one: &'a Asked, other: &'a Asked) -> impl Iterator<Item = (&'a [u32], &'a [u32])> {
+    one.words().chunks(2).zip(other.words().chunks(2))
 }
 
 /// The label is a node of a read of the query: stars stay, and each named value stays or becomes ?.

@@ -4,6 +4,7 @@
 use crate::call::Call;
 use crate::check::{Checker, Complaint};
 use crate::draw::Mixing;
+use crate::filing::Sentence;
 use crate::hall::Hall;
 use crate::rng::Rng;
 use crate::shrink::Script;
@@ -18,9 +19,10 @@ pub fn mixing(rng: &mut Rng, n: u64, total: u64) -> (Mixing, u64) {
     match n % 24 {
         3 if total >= 200_000 => (Mixing::filling(rng), 25_000),
         2 | 7 | 14 | 19 => (Mixing::short_lists(rng), length),
-        1 | 6 | 10 | 13 | 18 | 22 => (Mixing::wide(rng), length),
+        1 | 6 | 13 | 18 => (Mixing::wide(rng), length),
         5 | 17 => (Mixing::writers(rng), length),
         4 | 9 | 12 | 16 | 21 => (Mixing::calm(rng), length),
+        10 | 22 => (Mixing::zeros(rng), length),
         _ => (Mixing::tight(rng), length),
     }
 }
@@ -56,21 +58,26 @@ impl Findings {
 
 /// Runs one side alone through histories from fresh openings, and checks each call.
 pub fn check_alone(side: &dyn Side, seed: u64, total: u64) -> Findings {
+    check_alone_by(Sentence::Sharing, side, seed, total)
+}
+
+/// The same, with demand 2's last sentence as it is or as it was.
+pub fn check_alone_by(sentence: Sentence, side: &dyn Side, seed: u64, total: u64) -> Findings {
     let mut rng = Rng::new(seed);
     let mut findings = Findings::default();
     while findings.calls < total {
         findings.histories += 1;
         let number = findings.histories;
         let (mixing, length) = mixing(&mut rng, number, total);
-        one_history(side, &mut rng, mixing, length.min(total - findings.calls), &mut findings);
+        let checker = Checker::by(mixing.k, sentence);
+        one_history((side, checker), &mut rng, mixing, length.min(total - findings.calls), &mut findings);
     }
     findings
 }
 
-fn one_history(side: &dyn Side, rng: &mut Rng, mut mixing: Mixing, length: u64, findings: &mut Findings) {
+fn one_history((side, mut checker): (&dyn Side, Checker), rng: &mut Rng, mut mixing: Mixing, length: u64, findings: &mut Findings) {
     let mut script = Script { start: start::noise(rng), calls: vec![Call::Open { k: mixing.k }] };
     let mut hall = script.start.clone();
-    let mut checker = Checker::opened(mixing.k);
     script.calls[0].make(side, &mut hall);
     for _ in 0..length {
         let call = mixing.next(rng, &hall);

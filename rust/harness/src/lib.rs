@@ -19,3 +19,4 @@ pub mod shrink;
 pub mod side;
 pub mod start;
 pub mod without_fetch;
+pub mod zeros;

@@ -2,7 +2,8 @@
 //! (with --all-faults: every fault found; with --gate: every part passed), 1 a difference, 2 wrong arguments, 3 the checker complains, 4 a
 //! fault was not found, 5 something that a long run must meet was not met, or a row of --limits is not as the documents have it.
 
-use harness::histories::{check_alone, Findings};
+use harness::filing::Sentence;
+use harness::histories::{check_alone, check_alone_by, Findings};
 use harness::library::Library;
 use harness::limits::run_limits;
 use harness::met::unmet;
@@ -22,7 +23,7 @@ const USAGE: &str = "usage: harness [--seed N] [--calls N] [--gate | --limits | 
                  the checkers' own findings, the limits
   --limits       both sides of every limit of the documents, library and twin each held to its number; --verbose prints every row
   --fault NAME   build this fault into the twin: early-raise, back-at-one, one-bit, late-look, stacked, no-marks, one-key,
-                 count-on-tray, plain-key, wide-range, taken-back, marks-left
+                 count-on-tray, plain-key, wide-range, taken-back, marks-left, zero-as-star, all-values, zero-unseen
   --all-faults   each fault in turn; status 0 only if every one is found
   --check        run the checkers over the library's histories (the default); --no-check leaves them out
   --check-twin   histories of the twin alone (with its fault) under the checkers; nothing is compared
@@ -192,12 +193,9 @@ const CHECKED_ALONE: u64 = 100_000;
 /// What a side is like, the side, and whether what was found in its histories is as it should be.
 type Tried = (&'static str, &'static dyn Side, fn(&Findings) -> bool);
 
-/// The checkers find something where there is something, each its own: stale answers where looks pay no heed to marks, fetches that
-/// do not get the filed answer where none does, answers of the other wanting or of another range where a key does not tell it, trays
-/// that counts have written, records just outside a range, stale answers and marks for good where abandonings raise nothing. In the plain
-/// twin they find nothing.
-fn checkers(options: &Options) -> u8 {
-    let tried: [Tried; 9] = [
+/// What the checkers should find in each side.
+fn tried() -> [Tried; 12] {
+    [
         ("the plain twin: nothing is found", twin_with(Fault::None), |f| f.first.is_none() && f.owed > 0),
         ("looks that see no marks: stale answers are found", twin_with(Fault::NoPending), |f| f.stale > 0),
         ("fetches that find no answer: not fetched is found", &WithoutFetch, |f| f.not_fetched > 0 && f.is_otherwise_true()),
@@ -211,15 +209,37 @@ fn checkers(options: &Options) -> u8 {
         ("abandonings after the table step that leave the marks: they are found, and nothing else", twin_with(Fault::MarksLeft), |f| {
             f.marked > 0 && f.not_fetched == 0 && f.is_otherwise_true()
         }),
-    ];
+        ("named zeros that are taken for stars: stale answers are found, and tables that are not the plain one", twin_with(Fault::ZeroAsStar), |f| {
+            f.stale > 0 && f.others > 0
+        }),
+        ("ranges of all values that take 0 too: stale answers are found, and nothing else", twin_with(Fault::AllValues), |f| {
+            f.stale > 0 && f.not_filed + f.not_fetched + f.others == 0
+        }),
+        ("writes of 0 that neither mark nor raise: stale answers are found", twin_with(Fault::ZeroUnseen), |f| f.stale > 0),
+    ]
+}
+
+/// The checkers find something where there is something, each its own: stale answers where looks pay no heed to marks, fetches that
+/// do not get the filed answer where none does, answers of the other wanting or of another range where a key does not tell it, trays
+/// that counts have written, records just outside a range, stale answers and marks for good where abandonings raise nothing, records with 0
+/// that only a star may find, and lists that miss one where its insert was not seen. In the plain twin they find nothing; but they would, were
+/// demand 2's last sentence still of writes that meet the query.
+fn checkers(options: &Options) -> u8 {
+    let calls = options.calls.min(CHECKED_ALONE);
     let mut missed = 0;
-    for (name, side, as_it_should) in tried {
-        let findings = check_alone(side, options.seed, options.calls.min(CHECKED_ALONE));
-        let good = as_it_should(&findings);
+    let mut tell = |name: &str, findings: Findings, good: bool| {
         println!("  {name}{}", if good { "" } else { ": NOT SO" });
         print_findings(&findings);
         missed += !good as u8;
+    };
+    for (name, side, as_it_should) in tried() {
+        let findings = check_alone(side, options.seed, calls);
+        let good = as_it_should(&findings);
+        tell(name, findings, good);
     }
+    let meeting = check_alone_by(Sentence::Meeting, twin_with(Fault::None), options.seed, calls);
+    let good = meeting.not_fetched > 0 && meeting.is_otherwise_true();
+    tell("a last sentence of writes that meet the query, and the plain twin: not fetched is found, and nothing else", meeting, good);
     if missed == 0 {
         0
     } else {

@@ -1,10 +1,12 @@
 //! What a long run must have met, so that "no difference" says something: both sides of every limit, each kind of call with each number
-//! and each ending that the documents give it and no other, each sort of script, each way of lengths. Leans on run, seen, start and call.
+//! and each ending that the documents give it and no other, each sort of script, each way of lengths, what histories have of the value 0. Leans
+//! on run, seen, start, call and zeros.
 
 use crate::call::{ABANDON, KIND_NAMES, STEP};
 use crate::run::{Tally, SORTS};
 use crate::seen::LIMITS;
 use crate::start;
+use crate::zeros;
 
 const KINDS: usize = KIND_NAMES.len();
 
@@ -42,6 +44,8 @@ const ENDING_NAMES: [&str; 5] = ["nothing ended", "answered from file", "answere
 const OWED: [u64; 4] = [2000, 200, 500, 300];
 const SEEN: [u64; 3] = [5000, 3000, 300];
 const ABANDONED: [u64; 4] = [500, 500, 300, 30];
+/// How often each thing of `zeros::MET` must have been met.
+const ZEROS: u64 = 50;
 
 /// Something that is asked of a run: whether it is met, and its name where it is not.
 type Wanted = (bool, String);
@@ -89,5 +93,6 @@ fn checked(tally: &Tally) -> Vec<Wanted> {
     let owed = owed.into_iter().zip(tally.owed.iter().zip(OWED));
     let seen = seen.into_iter().zip(tally.checked[1..].iter().zip(SEEN));
     let abandoned = abandoned.into_iter().zip(tally.abandoned.iter().zip(ABANDONED));
-    owed.chain(seen).chain(abandoned).map(enough).collect()
+    let zeros = zeros::MET.map(|what| format!("{what}, in histories")).into_iter().zip(tally.zeros.iter().zip([ZEROS; zeros::MET.len()]));
+    owed.chain(seen).chain(abandoned).chain(zeros).map(enough).collect()
 }

@@ -8,6 +8,7 @@ use crate::run::{difference_in, Difference, Failure, Tally, NUMBERS, SORTS};
 use crate::seen::LIMITS;
 use crate::shrink::{shorten, Script};
 use crate::side::{Reply, Side};
+use crate::zeros;
 use std::mem::discriminant;
 use std::time::Duration;
 
@@ -55,6 +56,8 @@ pub fn print_tally(tally: &Tally, checked: bool) {
         println!("  {of_ranges} of reads with a range;");
         println!("  {before} writes abandoned before their table step, {changed} after one that changed the table, {unchanged} that did not,");
         println!("  {full} that found it full; no node with a mark after {rests} calls with every desk idle");
+        println!("of the value 0, in histories (times):");
+        zeros::MET.iter().zip(tally.zeros).for_each(|(what, times)| println!("  {what:<66}{:>9}", grouped(times)));
     }
 }
 

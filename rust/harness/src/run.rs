@@ -10,6 +10,7 @@ use crate::seen::{self, LIMITS};
 use crate::shrink::Script;
 use crate::side::{Reply, Side};
 use crate::start;
+use crate::zeros::{self, Zeros};
 use std::time::{Duration, Instant};
 
 /// The sorts of scripts, and how many of 100 calls each is given.
@@ -44,6 +45,8 @@ pub struct Tally {
     pub checked: [u64; 4],
     /// writes that the checker has seen abandoned before their table step, and after one that changed the table, did not, or found it full
     pub abandoned: [u64; 4],
+    /// what the checker has met of the value 0
+    pub zeros: Zeros,
     /// fetches that demand 2's last sentence owed the filed answer, those of them of reads begun before the filing read, those of counts,
     /// those of reads with a range
     pub owed: [u64; 4],
@@ -65,6 +68,7 @@ impl Tally {
             ways: [false; 256],
             checked: [0; 4],
             abandoned: [0; 4],
+            zeros: [0; zeros::MET.len()],
             owed: [0; 4],
         }
     }
@@ -189,10 +193,11 @@ impl<'a> Run<'a> {
         let Some(checker) = &mut made.checker else {
             return Ok(());
         };
-        let (seen, abandoned, owed) = (checker.seen(), checker.abandoned, checker.owed());
+        let (seen, abandoned, zeros, owed) = (checker.seen(), checker.abandoned, checker.zeros, checker.owed());
         let complaint = checker.after(call, reply, &made.left);
         add(&mut self.tally.checked, checker.seen(), seen);
         add(&mut self.tally.abandoned, checker.abandoned, abandoned);
+        add(&mut self.tally.zeros, checker.zeros, zeros);
         add(&mut self.tally.owed, checker.owed(), owed);
         match complaint {
             Some(complaint) => Err(made.failure(Some(complaint))),

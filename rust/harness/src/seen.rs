@@ -1,5 +1,5 @@
 //! Which limits of document 01, and of S-1, S-3 and S-4 in document 02, a run has met, on which side. It looks at one hall before and after a
-//! call; the other is the same. Leans on call, hall and the twin's layout, queries and ranges.
+//! call; the other is the same. (What is met of the value 0, S-5, is told by zeros.) Leans on call, hall and the twin's layout, queries and ranges.
 
 use crate::call::{Asked, Call, Within};
 use crate::hall::{Hall, LEAST};
@@ -221,10 +221,11 @@ fn before_unsound(hall: &Hall, key: &[u32; KEY_WIDTH]) -> Before {
     }
 }
 
-/// The records of the query's subspace, whatever its range.
+/// The records of the query's subspace, whatever its range; of one with a range, those that have no 0 in its column, which it skips.
 fn records<'a>(hall: &'a Hall, query: &'a Query) -> impl Iterator<Item = &'a [u32]> {
     let all = hall.table()[HEAD..].chunks(query.k).take(hall.table()[COUNT] as usize);
-    all.filter(|r| (0..query.k).all(|c| !query.names(c) || r[c] == query.values[c]))
+    let measured = |r: &[u32]| query.range.is_none_or(|range| r[range.column as usize] != 0);
+    all.filter(move |r| measured(r) && (0..query.k).all(|c| !query.names(c) || r[c] != 0 && r[c] == query.values[c]))
 }
 
 fn matches(hall: &Hall, query: &Query) -> usize {

@@ -77,8 +77,9 @@ impl<const FAULT: u8> Side for Twin<FAULT> {
     }
 }
 
-/// The faults by name; the first five are those of document 01, the last six of counts (S-1), of ranges (S-3) and of abandonings (S-4).
-pub const FAULTS: [(&str, Fault); 12] = [
+/// The faults by name; the first five are those of document 01, the last nine of counts (S-1), of ranges (S-3), of abandonings (S-4) and of the
+/// value 0 (S-5).
+pub const FAULTS: [(&str, Fault); 15] = [
     ("early-raise", Fault::EarlyRaise),
     ("back-at-one", Fault::BackAtOne),
     ("one-bit", Fault::OneBit),
@@ -91,6 +92,9 @@ pub const FAULTS: [(&str, Fault); 12] = [
     ("wide-range", Fault::WideRange),
     ("taken-back", Fault::TakenBack),
     ("marks-left", Fault::MarksLeft),
+    ("zero-as-star", Fault::ZeroAsStar),
+    ("all-values", Fault::AllValues),
+    ("zero-unseen", Fault::ZeroUnseen),
 ];
 
 pub fn fault_named(name: &str) -> Option<Fault> {
@@ -113,5 +117,8 @@ pub fn twin_with(fault: Fault) -> &'static dyn Side {
         Fault::WideRange => &Twin::<{ Fault::WideRange as u8 }>,
         Fault::TakenBack => &Twin::<{ Fault::TakenBack as u8 }>,
         Fault::MarksLeft => &Twin::<{ Fault::MarksLeft as u8 }>,
+        Fault::ZeroAsStar => &Twin::<{ Fault::ZeroAsStar as u8 }>,
+        Fault::AllValues => &Twin::<{ Fault::AllValues as u8 }>,
+        Fault::ZeroUnseen => &Twin::<{ Fault::ZeroUnseen as u8 }>,
     }
 }

@@ -293,19 +293,21 @@ pub fn near_limits(rng: &mut Rng) -> Hall {
     hall
 }
 
-/// Ascending records; a first column that is the same for 31 to 33 of them, or for all.
+/// Ascending records; a first column that is the same for 31 to 33 of them, or for all. Values begin at 1, or at 0, which is found by no name.
 fn fill_table(rng: &mut Rng, hall: &mut Hall) {
     let k = hall.columns() as usize;
+    let least = rng.pick(&[0, 1, 1, 1]);
     let count = rng.pick(&[0, 31, 32, 33, 2046, 2047, 2048]);
     let group = rng.pick(&[31, 32, 33, 64, 4000]);
     hall.memories[0][COUNT] = count;
     for i in 0..count {
         let record = &mut hall.memories[0][HEAD + i as usize * k..][..k];
+        record.fill(least);
         if k == 1 {
-            record[0] = i;
+            record[0] += i;
         } else {
-            record[0] = i / group;
-            record[k - 1] = i % group;
+            record[0] += i / group;
+            record[k - 1] += i % group;
         }
     }
 }

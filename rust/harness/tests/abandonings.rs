@@ -21,10 +21,10 @@ const fn end(number: u32, ending: u32) -> Reply {
     Reply { number, count: 0, ending }
 }
 
-/// A hall of one column with the records 0, 1, .., each pulled out of its desk just after its table step.
+/// A hall of one column with the records 1, 2, .., each pulled out of its desk just after its table step.
 fn filled(records: u32) -> Played {
     let mut h = Played::opened(twin_with(Fault::None), 1);
-    for value in 0..records {
+    for value in 1..=records {
         h.make(insert(value));
         h.steps(1, 3);
         assert_eq!(h.make(ABANDON), ENDS[1]);
@@ -42,7 +42,7 @@ fn delete(value: u32) -> Call {
 
 /// A write of each kind, beside how many records, and the place of its end in `ENDS`.
 fn writes() -> [(Call, u32, usize); 6] {
-    [(insert(5), 0, 1), (insert(5), 9, 2), (insert(5000), 2_048, 3), (insert(5), 2_048, 2), (delete(5), 9, 1), (delete(9), 9, 2)]
+    [(insert(5), 0, 1), (insert(5), 9, 2), (insert(5000), 2_048, 3), (insert(5), 2_048, 2), (delete(5), 9, 1), (delete(10), 9, 2)]
 }
 
 #[test]

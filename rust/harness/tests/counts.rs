@@ -21,7 +21,7 @@ impl Played {
     /// A hall of one column with so many records.
     fn with(side: &'static dyn Side, records: u32) -> Played {
         let mut h = Played::opened(side, 1);
-        (0..records).for_each(|value| h.insert(value));
+        (1..=records).for_each(|value| h.insert(value));
         h
     }
 
@@ -80,7 +80,7 @@ fn a_count_may_be_that_of_any_moment_of_its_read_and_of_no_other() {
     for (told, complaint) in [(1, None), (2, None), (3, Some(Complaint::Stale { client: 0 }))] {
         let mut h = Played::plain(1);
         h.make(count(None));
-        h.insert(1);
+        h.insert(2);
         (0..3).for_each(|_| assert_eq!(h.make(STEP).ending, 0));
         assert_eq!(h.bent(STEP, |reply, _| reply.count = told).1, complaint);
     }

@@ -87,7 +87,7 @@ fn a_write_is_open_until_the_abandoning_that_ends_it() {
 }
 
 #[test]
-fn only_a_write_that_meets_the_query_counts() {
+fn only_a_write_that_shares_a_node_of_the_query_counts() {
     let mut other = Played::plain();
     other.make(insert(1, 6));
     other.run(read(3, 5));

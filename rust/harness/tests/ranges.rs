@@ -15,10 +15,10 @@ const STALE: Option<Complaint> = Some(Complaint::Stale { client: 0 });
 const NOT_FILED: Option<Complaint> = Some(Complaint::NotFiled { client: 0 });
 
 impl Played {
-    /// A hall of two columns with the records (i, 1), i from 0 to 9.
+    /// A hall of two columns with the records (i, 1), i from 1 to 10.
     fn of(side: &'static dyn Side) -> Played {
         let mut h = Played::opened(side, 2);
-        (0..10).for_each(|value| h.insert(value, 1));
+        (1..=10).for_each(|value| h.insert(value, 1));
         h
     }
 
@@ -66,7 +66,7 @@ fn all(counts: bool) -> Ask {
 
 #[test]
 fn lists_and_counts_within_are_true_from_the_table_and_from_file() {
-    for (column, lowest, highest, n) in [(0, 4, 9, 6), (0, 4, 8, 5), (0, 9, u32::MAX, 1), (0, 10, 99, 0), (1, 1, 1, 10), (1, 2, 9, 0)] {
+    for (column, lowest, highest, n) in [(0, 4, 9, 6), (0, 4, 8, 5), (0, 10, u32::MAX, 1), (0, 11, 99, 0), (1, 1, 1, 10), (1, 2, 9, 0)] {
         let mut h = Played::plain();
         for counts in [false, true] {
             assert_eq!(h.file(within(counts, column, lowest, highest)), Reply { number: 0, count: n, ending: 2 });
@@ -124,7 +124,7 @@ fn a_range_that_takes_a_value_too_many_is_found() {
 #[test]
 fn a_plain_list_served_to_a_range_is_found_and_the_other_way_round() {
     for (filing, fetching) in
-        [(all(false), within(false, 0, 0, 9)), (within(true, 0, 0, 9), all(true)), (within(true, 0, 0, 9), within(true, 1, 0, 9))]
+        [(all(false), within(false, 0, 1, 10)), (within(true, 0, 1, 10), all(true)), (within(true, 0, 1, 10), within(true, 1, 1, 10))]
     {
         let mut h = Played::of(twin_with(Fault::PlainKey));
         h.file(filing);
@@ -146,7 +146,8 @@ fn only_the_same_range_of_the_same_column_binds() {
     }
 }
 
-/// The column is starred for meeting: a write of 20 there meets the range from 4 to 6 of it. In the other column it must have the named value.
+/// For its nodes the column is a star: a write of 20 there shares one with the range from 4 to 6 of it. In the other column it must have the named
+/// value.
 #[test]
 fn a_write_counts_whatever_it_writes_in_the_ranged_column() {
     let named = Ask { asked: Asked::new(&[0, 0, 1, 1]), ..within(false, 0, 4, 6) };

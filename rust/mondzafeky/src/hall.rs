@@ -53,7 +53,8 @@ impl Hall {
     }
 
     /// Begins a read at `client`, the desk, 0 to 11. It is answered with the records that match at some moment between this begin and the step that
-    /// answers: begin it after a write's end to see that write. Refusals: `Columns`, `Unsound`, `NoClient`, `Taken`.
+    /// answers: begin it after a write's end to see that write. A query that names 0 matches none. Refusals: `Columns`, `Unsound`, `NoClient`,
+    /// `Taken`.
     pub fn begin_read(&mut self, client: u32, query: &Query) -> Result<(), Refusal> {
         accepted(self.memories().begin_read(client, query.as_numbers()))
     }
@@ -80,15 +81,16 @@ impl Hall {
     /// Begins a read with a range at `client`, the desk: of the records that match `query` those
     /// whose value in `column`, by its number from 0, lies `within`, both ends included. That
     /// column is a star in `query`. A read otherwise, with its steps and its promise. The range is
-    /// a part of what is asked: every value (`0..=u32::MAX`) is not the plain read, and `5..=5` not
-    /// the named 5, as far as the file goes. Refusals: `Columns`, `Reversed`, `Unsound`,
+    /// a part of what is asked: `1..=9` is not `0..=9`, and `5..=5` not the named 5, as far as the
+    /// file goes. 0, not measured, lies in no range: `0..=u32::MAX` finds every record but those
+    /// with 0 in the column, and `0..=0` none. Refusals: `Columns`, `Reversed`, `Unsound`,
     /// `NoClient`, `Taken`.
     ///
     /// ```
     /// # fn main() -> Result<(), mondzafeky::Refusal> {
     /// use mondzafeky::{Hall, Outcome, Query, Refusal};
     /// let mut hall = Hall::open(2)?; // bench, class
-    /// for class in [3, 4, 9, 10] {
+    /// for class in [0, 3, 4, 9, 10] {
     ///     hall.begin_insert(0, &[7, class])?;
     ///     assert_eq!(hall.run(0)?, Outcome::Changed);
     /// }
@@ -98,6 +100,9 @@ impl Hall {
     ///     Outcome::Answered { records, .. } => assert!(records.eq([[7, 4], [7, 9]])),
     ///     other => println!("{other}"),
     /// }
+    /// // Of the five only that with class 0, not measured, is left out.
+    /// hall.begin_count_within(1, &bench_7, 1, 0..=u32::MAX)?;
+    /// assert_eq!(hall.run(1)?, Outcome::Counted { count: 4, from_file: false });
     /// assert_eq!(hall.begin_read_within(1, &bench_7, 1, 9..=4), Err(Refusal::Reversed));
     /// # Ok(())
     /// # }
@@ -112,12 +117,14 @@ impl Hall {
         accepted(self.memories().begin_count_within(client, query.as_numbers(), column, within))
     }
 
-    /// Begins an insert of `record`, k numbers. Refusals: `Columns`, `Unsound`, `NoClient`, `Taken`, `Worn`.
+    /// Begins an insert of `record`, k numbers; 0 where a column was not measured. A record that is there already, alike in every column, 0 in them
+    /// too, changes nothing ([`Outcome::Unchanged`]). Refusals: `Columns`, `Unsound`, `NoClient`, `Taken`, `Worn`.
     pub fn begin_insert(&mut self, client: u32, record: &[u32]) -> Result<(), Refusal> {
         accepted(self.memories().begin_insert(client, Query::of_record(record).as_numbers()))
     }
 
-    /// Begins a delete of every record that `query` matches; [`Query::of_record`] is the query of one record. Refusals: `Columns`, `Unsound`,
+    /// Begins a delete of every record that `query` matches; [`Query::of_record`] is the query of one record. A query that names 0 matches none, and
+    /// the delete ends with [`Outcome::Unchanged`]: a record with 0 in a column is taken out by a star there. Refusals: `Columns`, `Unsound`,
     /// `NoClient`, `Taken`, `Worn`.
     pub fn begin_delete(&mut self, client: u32, query: &Query) -> Result<(), Refusal> {
         accepted(self.memories().begin_delete(client, query.as_numbers()))

@@ -27,6 +27,10 @@
 //! chooses by their order. A bench can be pulled out at any time: [`Hall::abandon`] gives up a
 //! read, or a write that has not reached the table, and ends a write that has ([`Abandoned`]).
 //!
+//! **0 means not measured.** A record may carry it, and inserting such a record again changes
+//! nothing. Naming 0 finds nothing, in a read, a count or a delete, and a range skips it, also one
+//! that begins at 0; a star finds it ([`Query`] has an example).
+//!
 //! Calls are **indivisible towards each other, but not thread-safe**: steps of different desks may follow each other in any order, two calls at
 //! once on one hall may not. Where threads share a hall, put one lock (a `Mutex<Hall>`) around each call; it need not be held from a begin to
 //! its end.
@@ -188,7 +192,7 @@ impl Memories<'_> {
     }
 
     /// Begins a read at `client`, the desk, 0 to 11. `query` has for each column a mark and a value: mark 1 names the value, mark 0 is a star and
-    /// its value is 0. Refusals: 1 to 5.
+    /// its value is 0. A named 0 finds nothing: 0 means not measured. Refusals: 1 to 5.
     pub fn begin_read(&mut self, client: u32, query: &[u32]) -> Reply {
         calls::begin_read(self, client, query)
     }
@@ -200,9 +204,9 @@ impl Memories<'_> {
     }
 
     /// Begins a read with a range at `client`: of the records that match `query` those whose value
-    /// in `column`, by its number from 0, lies `within`, both ends included. That column is a star
-    /// in `query`. Refusals: 1 to 5, and 14 for a range such as `9..=4`, which goes before 3, 4 and
-    /// 5.
+    /// in `column`, by its number from 0, lies `within`, both ends included; 0, not measured, lies
+    /// in no range. That column is a star in `query`. Refusals: 1 to 5, and 14 for a range such as
+    /// `9..=4`, which goes before 3, 4 and 5.
     pub fn begin_read_within(&mut self, client: u32, query: &[u32], column: u32, within: RangeInclusive<u32>) -> Reply {
         calls::begin_read_within(self, client, query, column, *within.start(), *within.end())
     }
@@ -212,12 +216,12 @@ impl Memories<'_> {
         calls::begin_count_within(self, client, query, column, *within.start(), *within.end())
     }
 
-    /// Begins an insert of the record that `query` names, a value in every column. Refusals: 1 to 5, 10.
+    /// Begins an insert of the record that `query` names, a value in every column; 0 where it was not measured. Refusals: 1 to 5, 10.
     pub fn begin_insert(&mut self, client: u32, query: &[u32]) -> Reply {
         calls::begin_insert(self, client, query)
     }
 
-    /// Begins a delete of every record that `query` matches. Refusals: 1 to 5, 10.
+    /// Begins a delete of every record that `query` matches: none, if it names 0. Refusals: 1 to 5, 10.
     pub fn begin_delete(&mut self, client: u32, query: &[u32]) -> Reply {
         calls::begin_delete(self, client, query)
     }

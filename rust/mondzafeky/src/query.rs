@@ -15,6 +15,24 @@ const FEW: usize = 2 * MAX_COLUMNS as usize;
 /// assert_eq!(query, Query::from(&vec![Some(3), None][..]));
 /// assert_eq!(Query::of_record(&[3, 40]), Query::from([Some(3), Some(40)]));
 /// ```
+///
+/// 0 means not measured: naming it finds nothing; a star finds it. So `Some(0)` is a query that no record fits, and not a star.
+///
+/// ```
+/// # fn main() -> Result<(), mondzafeky::Refusal> {
+/// use mondzafeky::{Hall, Outcome, Query};
+/// let mut hall = Hall::open(2)?; // bench, stored zero
+/// for record in [[3, 0], [3, 40]] {
+///     hall.begin_insert(0, &record)?; // of [3, 0] the second number was not measured
+///     assert_eq!(hall.run(0)?, Outcome::Changed);
+/// }
+/// for (query, count) in [([Some(3), Some(0)], 0), ([Some(3), Some(40)], 1), ([Some(3), None], 2)] {
+///     hall.begin_count(1, &Query::from(query))?;
+///     assert_eq!(hall.run(1)?, Outcome::Counted { count, from_file: false });
+/// }
+/// # Ok(())
+/// # }
+/// ```
 #[derive(Clone, Debug, PartialEq, Eq, Hash)]
 pub struct Query {
     columns: usize,
@@ -25,7 +43,8 @@ pub struct Query {
 }
 
 impl Query {
-    /// The query that names every column: a record is one too. A delete of it takes out this record and no other.
+    /// The query that names every column: a record is one too. A delete of it takes out this record and no other; nothing, if a column is 0, since
+    /// naming 0 finds nothing.
     #[must_use]
     pub fn of_record(record: &[u32]) -> Query {
         Query::of(record.iter().map(|&value| Some(value)))

@@ -14,10 +14,10 @@ fn record(k: u32, value: u32) -> Vec<u32> {
     (0..k).map(|column| if column == 0 { value } else { 7 }).collect()
 }
 
-/// A hall of k columns with the records of 0, 1 and so on.
+/// A hall of k columns with the records of 1, 2 and so on.
 fn hall_of(k: u32, count: u32) -> Hall {
     let mut hall = Hall::open(k).unwrap();
-    for value in 0..count {
+    for value in 1..=count {
         hall.begin_insert(0, &record(k, value)).unwrap();
         assert_eq!(hall.run(0), Ok(Outcome::Changed));
     }
@@ -46,7 +46,7 @@ impl Write {
 
 /// Writes in a hall of so many records, each with its end.
 fn writes(k: u32, count: u32) -> [(Write, Abandoned); 5] {
-    let (there, new) = (record(k, 1), record(k, count));
+    let (there, new) = (record(k, 1), record(k, count + 1));
     let stars = Query::from(&vec![None; k as usize][..]);
     let inserted = if count == RECORDS { Abandoned::Full } else { Abandoned::Changed };
     [
@@ -182,7 +182,9 @@ fn reads_and_counts_are_given_up_at_every_step() {
 fn the_replies_of_the_low_calls() {
     let ended = |ending| Reply { ending, ..NOTHING };
     let full = Reply { number: number::FULL, ..NOTHING };
-    for (count, value, end) in [(3, 3, ended(ending::CHANGED)), (3, 2, ended(ending::UNCHANGED)), (RECORDS, RECORDS, full), (RECORDS, 0, ended(4))] {
+    for (count, value, end) in
+        [(3, 4, ended(ending::CHANGED)), (3, 2, ended(ending::UNCHANGED)), (RECORDS, RECORDS + 1, full), (RECORDS, 1, ended(4))]
+    {
         for made in 0..=4 {
             let mut hall = Write::Insert(vec![value]).under_way(&hall_of(1, count), made);
             assert_eq!(hall.clone().memories().run(&mut [0; TRAY_LEAST], DESK), end);

@@ -189,13 +189,13 @@ fn long_and_full() {
     let mut owned = Owned::opened(1);
     let mut tray = [9; TRAY_LEAST];
     let mut m = owned.lent();
-    for v in 0..2_048 {
+    for v in 1..=2_048 {
         assert_eq!(m.begin_insert(0, &[1, v]), accepted());
         assert_eq!(m.run(&mut tray, 0).ending, ending::CHANGED);
     }
-    m.begin_insert(0, &[1, 2_047]);
-    assert_eq!(m.run(&mut tray, 0), Reply { number: 0, count: 0, ending: ending::UNCHANGED });
     m.begin_insert(0, &[1, 2_048]);
+    assert_eq!(m.run(&mut tray, 0), Reply { number: 0, count: 0, ending: ending::UNCHANGED });
+    m.begin_insert(0, &[1, 2_049]);
     assert_eq!(m.run(&mut tray, 0), refused(number::FULL));
     m.begin_read(0, &[0, 0]);
     assert_eq!(m.run(&mut tray, 0), refused(number::LONG));
@@ -220,15 +220,15 @@ fn counts_on_each_side_of_the_limits() {
     let mut tray = [9; TRAY_LEAST];
     let mut m = owned.lent();
     assert_eq!((count(&mut m, &[0, 0], 4), count(&mut m, &[0, 0], 2)), ((0, false), (0, true)));
-    for v in 0..2_048 {
+    for v in 1..=2_048 {
         assert_eq!(m.begin_insert(0, &[1, v]), accepted());
         assert_eq!(m.run(&mut tray, 0).ending, ending::CHANGED);
-        if [1, 32, 33, 2_047, 2_048].contains(&(v + 1)) {
-            assert_eq!((count(&mut m, &[0, 0], 4), count(&mut m, &[0, 0], 2)), ((v + 1, false), (v + 1, true)));
+        if [1, 32, 33, 2_047, 2_048].contains(&v) {
+            assert_eq!((count(&mut m, &[0, 0], 4), count(&mut m, &[0, 0], 2)), ((v, false), (v, true)));
         }
     }
     assert_eq!(count(&mut m, &[1, 7], 5), (1, false));
-    assert_eq!(count(&mut m, &[1, 2_048], 5), (0, false));
+    assert_eq!(count(&mut m, &[1, 2_049], 5), (0, false));
 }
 
 /// Both are filed for one query, side by side; neither is given for the other.

@@ -244,14 +244,14 @@ fn replies_tell_ends_from_refusals() {
 #[test]
 fn long_and_full_are_ends() {
     let mut hall = Hall::open(1).unwrap();
-    for value in 0..RECORDS {
+    for value in 1..=RECORDS {
         assert_eq!(insert(&mut hall, 0, &[value]), Outcome::Changed);
-        if value == 31 {
+        if value == 32 {
             assert_eq!(read(&mut hall, 1, &[None].into()).0.len(), 32);
         }
     }
-    assert_eq!(insert(&mut hall, 0, &[2_047]), Outcome::Unchanged);
-    assert_eq!(insert(&mut hall, 0, &[2_048]), Outcome::Full);
+    assert_eq!(insert(&mut hall, 0, &[2_048]), Outcome::Unchanged);
+    assert_eq!(insert(&mut hall, 0, &[2_049]), Outcome::Full);
     hall.begin_read(1, &[None].into()).unwrap();
     let outcome = hall.run(1).unwrap();
     assert!(outcome.has_ended() && outcome.to_string().starts_with("12, long: "));
@@ -357,11 +357,11 @@ fn a_lock_around_each_call_is_enough() {
         for client in 0..4 {
             let hall = &hall;
             scope.spawn(move || {
-                hall.lock().unwrap().begin_insert(client, &[10 + client, 0]).unwrap();
+                hall.lock().unwrap().begin_insert(client, &[10 + client, 9]).unwrap();
                 while !hall.lock().unwrap().step(client).unwrap().has_ended() {}
             });
         }
     });
     let mut hall = hall.into_inner().unwrap();
-    assert_eq!(read(&mut hall, 0, &[None, Some(0)].into()).0, [[10, 0], [11, 0], [12, 0], [13, 0]]);
+    assert_eq!(read(&mut hall, 0, &[None, Some(9)].into()).0, [[10, 9], [11, 9], [12, 9], [13, 9]]);
 }

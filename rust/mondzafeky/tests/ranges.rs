@@ -72,20 +72,23 @@ fn the_smallest_and_the_largest_value() {
     const MAX: u32 = u32::MAX;
     let mut hall = hall_of(1, [0, 1, MAX - 1, MAX].map(|value| vec![value]));
     let mut within = |range| list(&mut hall, &[None], 0, range).0;
-    assert_eq!(within(0..=0), [0]);
+    // 0 means not measured: it lies in no range.
+    assert_eq!(within(0..=0), []);
+    assert_eq!(within(0..=1), [1]);
+    assert_eq!(within(1..=1), [1]);
     assert_eq!(within(MAX..=MAX), [MAX]);
     assert_eq!(within(1..=MAX - 1), [1, MAX - 1]);
-    assert_eq!(within(0..=MAX), [0, 1, MAX - 1, MAX]);
+    assert_eq!(within(0..=MAX), [1, MAX - 1, MAX]);
 }
 
 /// Records outside are not counted among the 32, and a count goes on past them.
 #[test]
 fn more_than_32_within_is_long_and_no_end_of_a_count() {
-    let mut hall = hall_of(2, (0..100).map(|class| vec![3, class]));
+    let mut hall = hall_of(2, (1..=100).map(|class| vec![3, class]));
     assert_eq!(list(&mut hall, &BENCH_3, 1, 10..=41).0, (10..=41).collect::<Vec<_>>());
     hall.begin_read_within(5, &Query::from(BENCH_3), 1, 10..=42).unwrap();
     assert_eq!(hall.run(5), Ok(Outcome::Long));
-    assert_eq!((count(&mut hall, &BENCH_3, 1, 10..=42), count(&mut hall, &BENCH_3, 1, 0..=99)), ((33, false), (100, false)));
+    assert_eq!((count(&mut hall, &BENCH_3, 1, 10..=42), count(&mut hall, &BENCH_3, 1, 1..=100)), ((33, false), (100, false)));
     assert_eq!(hall.step(5), Err(Refusal::Idle));
     assert_eq!(count(&mut hall, &BENCH_3, 1, 10..=42), (33, true));
 }

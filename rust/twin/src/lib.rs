@@ -16,7 +16,8 @@ use layout::*;
 use query::Query;
 use range::Range;
 
-/// Document 01, "Faults a bench would show", and seven more: looks that pay no heed to marks, two each of counts, of ranges and of abandonings.
+/// Document 01, "Faults a bench would show", and ten more: looks that pay no heed to marks, two each of counts, of ranges and of abandonings, three
+/// of the value 0.
 #[derive(Clone, Copy, PartialEq, Eq, Debug)]
 #[repr(u8)]
 pub enum Fault {
@@ -45,6 +46,12 @@ pub enum Fault {
     TakenBack,
     /// a write abandoned after its table step leaves its marks: they stand for good
     MarksLeft,
+    /// a named 0 is taken for a star by the table steps: it finds every record of the other columns
+    ZeroAsStar,
+    /// a range of all values is taken for a star by the table step: it finds the records with 0 too
+    AllValues,
+    /// a write that names 0, an insert too, is taken to meet nothing: it neither marks nor raises
+    ZeroUnseen,
 }
 
 /// The number for a plain twin, to be given as `Memories<'_, PLAIN>` where it is not the default.

@@ -107,7 +107,9 @@ impl<const FAULT: u8> Memories<'_, FAULT> {
     /// Announcements (marks), then table, then raises.
     pub(crate) fn write_step(&mut self, client: u32, query: &Query) -> Reply {
         let (steps, announcements) = (self.client(client)[CLIENT_STEPS], query.announcements());
-        let done = if steps < announcements {
+        let done = if steps != announcements && is_unseen::<FAULT>(query) {
+            Some(())
+        } else if steps < announcements {
             nodes::announce::<FAULT>(self.nodes, &query.write_label::<FAULT>(steps))
         } else if steps == announcements {
             self.write_table(client, query);
@@ -142,16 +144,21 @@ impl<const FAULT: u8> Memories<'_, FAULT> {
         Reply::ACCEPTED
     }
 
-    /// A mark off each node that an abandoned write holds one at; the faults: past its table step it leaves them, or takes them back.
+    /// A mark off each node that an abandoned write holds one at; the faults: past its table step it leaves them, or takes them back, and one that
+    /// is not seen has none.
     fn retire_abandoned(&mut self, query: &Query, marked: Range<u32>, past_table: bool) -> Option<()> {
-        if past_table && FAULT == Fault::MarksLeft as u8 {
+        if past_table && FAULT == Fault::MarksLeft as u8 || is_unseen::<FAULT>(query) {
             return Some(());
         }
         nodes::retire::<FAULT>(self.nodes, query, marked, past_table && FAULT != Fault::TakenBack as u8)
     }
 
     fn write_table(&mut self, client: u32, query: &Query) {
-        let change = if self.client(client)[CLIENT_KIND] == INSERT { table::insert(self.table, query) } else { table::delete(self.table, query) };
+        let change = if self.client(client)[CLIENT_KIND] == INSERT {
+            table::insert(self.table, query)
+        } else {
+            table::delete(self.table, &taken::<FAULT>(query))
+        };
         let own = self.client_mut(client);
         own[CLIENT_CHANGED] = (change == Change::Changed) as u32;
         own[CLIENT_FULL] = (change == Change::Full) as u32;
@@ -165,13 +172,25 @@ impl<const FAULT: u8> Memories<'_, FAULT> {
     }
 }
 
-/// What is taken from the table: what is asked; the fault: and the value just above a range.
+/// What is taken from the table: what is asked; the faults: and the value just above a range, all values of a column that names 0, and 0 where a
+/// range takes all others.
 fn taken<const FAULT: u8>(query: &Query) -> Query {
     let mut query = *query;
     if FAULT == Fault::WideRange as u8 {
         query.range.iter_mut().for_each(|range| range.highest = range.highest.saturating_add(1));
     }
+    if FAULT == Fault::ZeroAsStar as u8 {
+        (0..query.k).for_each(|c| query.named &= !((query.names_zero(c) as u32) << c));
+    }
+    if FAULT == Fault::AllValues as u8 {
+        query.range = query.range.filter(|range| (range.lowest, range.highest) != (0, u32::MAX));
+    }
     query
+}
+
+/// the fault: the write names 0, and is taken to meet nothing
+fn is_unseen<const FAULT: u8>(query: &Query) -> bool {
+    FAULT == Fault::ZeroUnseen as u8 && (0..query.k).any(|c| query.names_zero(c))
 }
 
 /// A list's records, known to be at most 32, go to the tray's start; a count leaves the tray as it is.

@@ -18,9 +18,9 @@ fn own(at: usize) -> usize {
     HEAD + DESK as usize * CLIENT_WIDTH + at
 }
 
-/// A query of k columns: this first column, and 0 in the others, as the records of `filled` have it.
+/// A query of k columns: this first column, and in the others what the records of `filled` have there.
 fn first_column(k: u32, value: u32) -> Vec<u32> {
-    (0..k).flat_map(|c| [1, if c == 0 { value } else { 0 }]).collect()
+    (0..k).flat_map(|c| [1, if c == 0 { value } else { OTHER }]).collect()
 }
 
 fn begun(mut hall: Hall, kind: u32, asked: &[u32]) -> Hall {

@@ -152,9 +152,9 @@ fn a_count_goes_past_32_up_to_all_records() {
 #[test]
 fn a_count_is_of_its_querys_records_alone() {
     let mut hall = filled(2, 40);
-    assert_eq!(hall.count(0, &[1, 39, 0, 0]), (5, from_table(1)));
-    assert_eq!(hall.count(0, &[1, 40, 0, 0]), (5, from_table(0)));
-    assert_eq!(hall.count(0, &[0, 0, 1, 0]), (5, from_table(40)));
+    assert_eq!(hall.count(0, &[1, 40, 0, 0]), (5, from_table(1)));
+    assert_eq!(hall.count(0, &[1, 41, 0, 0]), (5, from_table(0)));
+    assert_eq!(hall.count(0, &[0, 0, 1, OTHER]), (5, from_table(40)));
 }
 
 #[test]

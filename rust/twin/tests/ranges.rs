@@ -28,8 +28,8 @@ fn says(number: u32) -> Reply {
 
 #[test]
 fn both_ends_are_included_and_what_is_just_outside_is_not() {
-    // the records' first columns are 0 to 39
-    for (k, (lowest, highest, n)) in (1..=4).flat_map(|k| [(4, 9, 6), (4, 8, 5), (5, 9, 5), (39, ALL, 1), (40, ALL, 0), (0, 0, 1)].map(|r| (k, r))) {
+    // the records' first columns are 1 to 40
+    for (k, (lowest, highest, n)) in (1..=4).flat_map(|k| [(4, 9, 6), (4, 8, 5), (5, 9, 5), (40, ALL, 1), (41, ALL, 0), (1, 1, 1)].map(|r| (k, r))) {
         let mut hall = filled(k, 40);
         let k = k as usize;
         assert_eq!(read_within(&mut hall, k, lowest, highest), (4, from_table(n)));
@@ -174,10 +174,10 @@ fn no_write_has_a_range_nor_ends_of_one() {
 fn a_filed_range_is_not_tested_and_a_senseless_one_serves_nobody() {
     for (first, lowest, highest) in [(RANGE_UNIT, 9, 4), (2 * RANGE_UNIT, 4, 9), (RANGE_UNIT + 1, 4, 9), (ALL - COUNT_BIT, 4, 9), (0, 4, 9)] {
         let mut hall = filled(1, 9);
-        assert_eq!(read_within(&mut hall, 1, 4, 9), (4, from_table(5)));
+        assert_eq!(read_within(&mut hall, 1, 4, 9), (4, from_table(6)));
         hall.answers[HEAD] = first;
         hall.answers[HEAD + KEY_LOWEST..][..2].copy_from_slice(&[lowest, highest]);
-        assert_eq!(read_within(&mut hall, 1, 4, 9), (4, from_table(5)));
+        assert_eq!(read_within(&mut hall, 1, 4, 9), (4, from_table(6)));
         assert_eq!(hall.read(0, &[0, 0]), (4, from_table(9)));
         assert_eq!((hall.answers[COUNT], hall.lend().renew()), (3, ACCEPTED));
     }

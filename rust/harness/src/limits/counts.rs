@@ -39,9 +39,9 @@ pub fn counted(rows: &mut Vec<Row>, k: u32) {
         let strays = reading(counting(3).put(answer(0, ENTRY_LIST), 9), COUNTS, 0);
         rows.push(strays.row(LISTED, 9, step(0), from_file(n)).counted().after([(answer(0, ENTRY_LIST), 9)]));
     }
-    // the last columns are 0 to 2,047
-    for (last, n) in [(0, 1), (2_047, 1), (2_048, 0)] {
-        let scene = Scene::opened(k).records(2_048, 0).made(begin(COUNTS, 0, one_record(k, last))).steps(0, (1 << k) + 1);
+    // the last columns are 1 to 2,048
+    for (last, n) in [(1, 1), (2_048, 1), (2_049, 0)] {
+        let scene = Scene::opened(k).records(2_048, 1).made(begin(COUNTS, 0, one_record(k, last))).steps(0, (1 << k) + 1);
         rows.push(scene.row(OF_2048, n, step(0), says(0)).after([(held, n)]));
     }
 }

@@ -99,7 +99,7 @@ pub fn filed(rows: &mut Vec<Row>, k: u32) {
             let others = [(step(0), 6), (abandon(0), 6), (Call::EvictAnswer { place: 0 }, 0), (Call::EvictNode { place: 0 }, 0), (Call::Renew, 0)];
             let begun = begins(k, 0).into_iter().map(|call| (call, 0));
             rows.extend(begun.chain(others).map(|(call, number)| filed.row(SENSELESS, first, call, says(number))));
-            let plain = Read { kind, named: 0, value: 7, range: None };
+            let plain = Read::naming(kind, 0, 7);
             for read in [read, plain, Read::within(kind, 0, (column, lowest.min(highest), 9)), Read::within(kind, 0, (column, 0, MOST))] {
                 rows.push(read.up_to(filed.clone(), 0).row(SENSELESS, first, step(0), says(0)).after([(ANSWER_COUNT, 1)]));
                 let after = [(ANSWER_COUNT, 2), (answer(0, 0), first), (answer(0, KEY_LOWEST), lowest), (answer(0, KEY_HIGHEST), highest)];

@@ -1,8 +1,8 @@
-//! Both sides of every limit of document 01, of S-1, S-3 and S-4 in document 02 and of every least length, as rows: a scene, a call, and what the
-//! documents have for it, with the words that give it. Library and twin are each held to that; neither is judged by the other, though their
+//! Both sides of every limit of document 01, of S-1, S-3, S-4 and S-5 in document 02 and of every least length, as rows: a scene, a call, and what
+//! the documents have for it, with the words that give it. Library and twin are each held to that; neither is judged by the other, though their
 //! memories are compared too.
-//! scene: scenes and calls; memories, clients, arguments, steps, counts, nodes, abandonings, passes, ranges, reversed, held: the rows. Leans on
-//! call, hall and side.
+//! scene: scenes and calls; memories, clients, arguments, steps, counts, nodes, abandonings, passes, ranges, reversed, held, zeros: the rows. Leans
+//! on call, hall and side.
 
 mod abandonings;
 mod arguments;
@@ -16,6 +16,7 @@ mod ranges;
 mod reversed;
 mod scene;
 mod steps;
+mod zeros;
 
 use crate::call::Call;
 use crate::hall::{describe, Hall, MEMORY_NAMES};
@@ -146,42 +147,49 @@ impl Row {
 /// What adds the rows of one concern for one k.
 type Part = fn(&mut Vec<Row>, u32);
 
+/// Those of document 01 and of counts (S-1).
+const PLAIN: [[Part; 8]; 3] = [
+    [
+        memories::counts,
+        memories::lists,
+        memories::filed,
+        memories::desks,
+        memories::lengths,
+        arguments::evictions,
+        arguments::queries,
+        arguments::order,
+    ],
+    [clients::kinds, clients::steps, clients::lengths, clients::keys, clients::renewals, steps::lists, steps::fetches, counts::counted],
+    [steps::filings, steps::inserts, steps::deletes, abandonings::by_steps, nodes::room, nodes::writes, nodes::worn, counts::beside_lists],
+];
+/// Of ranges (S-3).
+const RANGES: [Part; 10] = [
+    ranges::taken,
+    ranges::extremes,
+    ranges::other_columns,
+    ranges::lengths,
+    ranges::abandonings,
+    ranges::beside,
+    reversed::begins,
+    reversed::order,
+    held::ranges,
+    held::filed,
+];
+/// Of abandonings (S-4).
+const ABANDONINGS: [Part; 5] = [abandonings::flags, abandonings::nodes, abandonings::desks, abandonings::read_again, abandonings::of_reads];
+/// Of the value 0 (S-5).
+const ZEROS: [Part; 9] =
+    [zeros::named, zeros::ranges, zeros::beside_ranges, zeros::lengths, zeros::inserts, zeros::deletes, zeros::looks, zeros::shared, zeros::found];
+/// Of the passes over records (S-2).
+const PASSES: [Part; 2] = [passes::places, passes::zeros];
+
 /// All rows; each is lent memories that are longer than they need be and, unless it is about lengths, the least lengths too.
 pub fn rows() -> Vec<Row> {
     let mut rows = Vec::new();
     memories::columns(&mut rows);
     reversed::columns(&mut rows);
-    let parts: [[Part; 8]; 3] = [
-        [
-            memories::counts,
-            memories::lists,
-            memories::filed,
-            memories::desks,
-            memories::lengths,
-            arguments::evictions,
-            arguments::queries,
-            arguments::order,
-        ],
-        [clients::kinds, clients::steps, clients::lengths, clients::keys, clients::renewals, steps::lists, steps::fetches, counts::counted],
-        [steps::filings, steps::inserts, steps::deletes, abandonings::by_steps, nodes::room, nodes::writes, nodes::worn, counts::beside_lists],
-    ];
-    let of_ranges: [Part; 10] = [
-        ranges::taken,
-        ranges::extremes,
-        ranges::other_columns,
-        ranges::lengths,
-        ranges::abandonings,
-        ranges::beside,
-        reversed::begins,
-        reversed::order,
-        held::ranges,
-        held::filed,
-    ];
-    let of_abandonings: [Part; 5] = [abandonings::flags, abandonings::nodes, abandonings::desks, abandonings::read_again, abandonings::of_reads];
-    for k in 1..=4 {
-        parts.iter().flatten().chain(&of_ranges).chain(&of_abandonings).for_each(|part| part(&mut rows, k));
-        passes::places(&mut rows, k);
-    }
+    let parts = || PLAIN.iter().flatten().chain(&RANGES).chain(&ABANDONINGS).chain(&ZEROS).chain(&PASSES);
+    (1..=4).for_each(|k| parts().for_each(|part| part(&mut rows, k)));
     let exact: Vec<Row> = rows.iter().filter(|row| row.lent == MORE).map(|row| row.clone().lent(LEAST)).collect();
     rows.extend(exact);
     rows

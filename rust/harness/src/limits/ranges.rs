@@ -1,11 +1,11 @@
 //! Rows of ranges (S-3): which records they take, at both ends and just outside, in every column; lists of 32 and 33 and longer counts; and what
-//! is filed beside what. Leans on scene.
+//! is filed beside what. What they do with 0 is in zeros too. Leans on scene.
 
 use super::*;
-use crate::call::{Ask, Within};
+use crate::call::{Ask, Asked, Within};
 
 const ENDS: Limit = ("records within, of 10 to 19", "a lowest and a highest value, both included");
-const ALL_VALUES: Limit = ("records within, of 0, 5 and the largest number", "exactly the subspace's records within");
+const ALL_VALUES: Limit = ("records within, of 0, 5 and the largest number", "a range skips records with 0 in its column");
 const BESIDE: Limit = ("records within that have the named value of another column", "exactly the subspace's records within");
 const MATCHING: Limit = ("matching records within", "32 matching records are listed; 33 give 12");
 const COUNTED: Limit = ("counted records within", "counts past 32 without giving 12");
@@ -15,30 +15,45 @@ const ABANDONED: Limit = ("abandoning of a read with a range, steps made", "A re
 
 const MOST: u32 = u32::MAX;
 
-/// A read: a list or a count, the columns that name `value`, a range or none.
+/// A read: a list or a count, the columns that are named and the value of each, a range or none.
 #[derive(Clone, Copy)]
 pub struct Read {
     pub kind: u32,
     pub named: u32,
-    pub value: u32,
+    pub values: [u32; 4],
     /// column, lowest, highest
     pub range: Option<(u32, u32, u32)>,
 }
 
 impl Read {
+    /// Without a range; the named columns all name this.
+    pub fn naming(kind: u32, named: u32, value: u32) -> Read {
+        Read { kind, named, values: [value; 4], range: None }
+    }
+
     pub fn within(kind: u32, named: u32, range: (u32, u32, u32)) -> Read {
-        Read { kind, named, value: 7, range: Some(range) }
+        Read { range: Some(range), ..Read::naming(kind, named, 7) }
+    }
+
+    /// The value of a column, 0 where it is a star or none.
+    fn value(&self, k: u32, c: u32) -> u32 {
+        if c < k && self.named >> c & 1 == 1 {
+            self.values[c as usize]
+        } else {
+            0
+        }
     }
 
     pub fn begin(&self, k: u32, desk: u32) -> Call {
         let within = self.range.map(|(column, lowest, highest)| Within { column, lowest, highest });
-        Ask { asked: query(k, self.named, self.value), counts: self.kind == COUNTS, within }.begin(desk)
+        let words: Vec<u32> = (0..k).flat_map(|c| [self.named >> c & 1, self.value(k, c)]).collect();
+        Ask { asked: Asked::new(&words), counts: self.kind == COUNTS, within }.begin(desk)
     }
 
     /// Its key from a place on, as docs/LAYOUT.md has it.
     pub fn key(&self, k: u32, (memory, place): Place) -> Vec<(Place, u32)> {
         let (first, lowest, highest) = self.range.map_or((0, 0, 0), |(column, lowest, highest)| (32 * (column + 1), lowest, highest));
-        let values = (0..4).map(|c| if c < k && self.named >> c & 1 == 1 { self.value } else { 0 });
+        let values = (0..4).map(|c| self.value(k, c));
         let numbers = [self.named | wanted(self.kind) | first].into_iter().chain(values).chain([lowest, highest]);
         numbers.enumerate().map(|(at, number)| ((memory, place + at), number)).collect()
     }
@@ -55,7 +70,7 @@ impl Read {
     }
 
     /// The row of an answer: the records that have `found` in one column and 7 in the others, or how many they are.
-    fn given(&self, scene: Scene, limit: Limit, column: u32, found: &[u32], reply: Reply) -> Row {
+    pub fn given(&self, scene: Scene, limit: Limit, column: u32, found: &[u32], reply: Reply) -> Row {
         let k = scene.k;
         let row = scene.row(limit, found.len() as u32, step(0), reply).after(idle(0));
         if self.kind == COUNTS {
@@ -72,12 +87,12 @@ fn listed(k: u32, column: u32, found: &[u32]) -> impl Iterator<Item = (usize, u3
 }
 
 /// The columns but one that are named, or none is.
-fn named_beside(k: u32, column: u32) -> [u32; 2] {
+pub fn named_beside(k: u32, column: u32) -> [u32; 2] {
     [0, marks(k) - (1 << column)]
 }
 
 /// Table step, file step and the fetch of the next such read.
-fn read_twice(rows: &mut Vec<Row>, limit: Limit, table: &Scene, read: Read, column: u32, found: &[u32]) {
+pub fn read_twice(rows: &mut Vec<Row>, limit: Limit, table: &Scene, read: Read, column: u32, found: &[u32]) {
     let (k, n) = (table.k, found.len() as u32);
     let list = client(0, CLIENT_ENTRY + ENTRY_LIST);
     let numbers: Vec<u32> = if read.kind == COUNTS { Vec::new() } else { listed(k, column, found).map(|(_, number)| number).collect() };
@@ -113,18 +128,17 @@ pub fn taken(rows: &mut Vec<Row>, k: u32) {
 /// The least and the largest value that a record can have, and one between.
 const SPREAD: [u32; 3] = [0, 5, MOST];
 
-/// Three records with these values in a column.
 fn spread(k: u32, column: u32) -> Scene {
-    (0..3).fold(Scene::opened(k).records_by(column, 3, 0), |scene, i| scene.put(record(k, i, column), SPREAD[i as usize]))
+    Scene::opened(k).records_of(column, &SPREAD)
 }
 
-/// Inside and outside.
+/// Inside and outside; 0 is never inside.
 pub fn extremes(rows: &mut Vec<Row>, k: u32) {
     let all: [((u32, u32), &[u32]); 7] = [
-        ((0, MOST), &SPREAD),
-        ((0, 0), &SPREAD[..1]),
+        ((0, MOST), &SPREAD[1..]),
+        ((0, 0), &[]),
         ((MOST, MOST), &SPREAD[2..]),
-        ((0, MOST - 1), &SPREAD[..2]),
+        ((0, MOST - 1), &SPREAD[1..2]),
         ((1, MOST), &SPREAD[1..]),
         ((1, MOST - 1), &SPREAD[1..2]),
         ((6, MOST - 1), &[]),
@@ -139,7 +153,7 @@ pub fn extremes(rows: &mut Vec<Row>, k: u32) {
 pub fn other_columns(rows: &mut Vec<Row>, k: u32) {
     let columns = (0..k).flat_map(|column| (0..k).filter(move |other| *other != column).map(move |other| (column, other)));
     for (kind, (column, other)) in columns.flat_map(|columns| READS.map(|kind| (kind, columns))) {
-        let named = |value, lowest| Read { kind, named: 1 << other, value, range: Some((column, lowest, 9)) };
+        let named = |value, lowest| Read { range: Some((column, lowest, 9)), ..Read::naming(kind, 1 << other, value) };
         read_twice(rows, BESIDE, &ten(k, other), named(14, 7), other, &[14]);
         read_twice(rows, BESIDE, &ten(k, other), named(20, 7), other, &[]);
         read_twice(rows, BESIDE, &ten(k, other), named(14, 8), other, &[]);
@@ -148,7 +162,7 @@ pub fn other_columns(rows: &mut Vec<Row>, k: u32) {
     }
 }
 
-/// 32 and 33 of 40 records, and all of 2,048; a write that meets the query with that column starred, whatever value it has there.
+/// 32 and 33 of 40 records, and all of 2,048; and beside a write, which is seen whatever value it has in the ranged column.
 pub fn lengths(rows: &mut Vec<Row>, k: u32) {
     for column in 0..k {
         let table = || Scene::opened(k).records_by(column, 40, 0);
@@ -159,10 +173,10 @@ pub fn lengths(rows: &mut Vec<Row>, k: u32) {
         rows.push(list(36).up_to(table(), 1).row(MATCHING, 33, step(0), says(12)).after([(ANSWER_COUNT, 0)]).after(idle(0)));
         read_twice(rows, COUNTED, &table(), count(35), column, &found[..32]);
         read_twice(rows, COUNTED, &table(), count(36), column, &found);
-        let every: Vec<u32> = (0..2_048).collect();
-        let full = Scene::opened(k).records_by(column, 2_048, 0);
+        let every: Vec<u32> = (1..=2_048).collect();
+        let full = Scene::opened(k).records_by(column, 2_048, 1);
         read_twice(rows, COUNTED, &full, Read::within(COUNTS, 0, (column, 0, MOST)), column, &every);
-        read_twice(rows, COUNTED, &full, Read::within(COUNTS, 0, (column, 1, 2_047)), column, &every[1..]);
+        read_twice(rows, COUNTED, &full, Read::within(COUNTS, 0, (column, 2, 2_048)), column, &every[1..]);
         // 5,000 is written, far above
         let marked = || table().made(begin(INSERT, 1, query(k, ALL, 5_000))).steps(1, 1 << k);
         let seen = |read: Read| read.given(read.up_to(marked(), 1), SAW, column, &found[..32], from_table(32));
@@ -183,12 +197,15 @@ pub fn abandonings(rows: &mut Vec<Row>, k: u32) {
 /// Two reads whose keys differ in one thing, with the first record that each finds and how many follow, of `ten`.
 fn pairs(k: u32, column: u32, kind: u32) -> Vec<[(Read, std::ops::Range<u32>); 2]> {
     let within = |lowest, highest, found| (Read::within(kind, 0, (column, lowest, highest)), found);
-    let stars = (Read { kind, named: 0, value: 7, range: None }, 10..20);
-    let value = (Read { kind, named: 1 << column, value: 14, range: None }, 14..15);
+    let stars = (Read::naming(kind, 0, 7), 10..20);
+    let value = (Read::naming(kind, 1 << column, 14), 14..15);
+    let zero = (Read::naming(kind, 1 << column, 0), 0..0);
     let other_kind = (Read::within(READ + COUNTS - kind, 0, (column, 12, 15)), 12..16);
     let mut pairs = vec![
         [stars.clone(), within(12, 15, 12..16)],
-        [stars, within(0, MOST, 10..20)],
+        [stars.clone(), within(0, MOST, 10..20)],
+        [stars, zero.clone()],
+        [zero, within(0, 0, 0..0)],
         [within(14, 14, 14..15), value],
         [within(12, 15, 12..16), other_kind],
         [within(12, 15, 12..16), within(12, 16, 12..17)],

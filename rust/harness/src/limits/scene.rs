@@ -152,6 +152,13 @@ impl Scene {
         scene.series(record(k, 0, column), k as usize, n, first, 1)
     }
 
+    /// A record for each of these values of one column, which ascend.
+    pub fn records_of(self, column: u32, values: &[u32]) -> Scene {
+        let k = self.k;
+        let scene = self.records_by(column, values.len() as u32, 0);
+        (0..).zip(values).fold(scene, |scene, (i, value)| scene.put(record(k, i, column), *value))
+    }
+
     /// n nodes of values that no query here names, with that many marks each and the counters 2, 3, ..
     pub fn nodes(self, n: u32, pending: u32) -> Scene {
         let tags = (0..self.k).map(|c| TAG_VALUE << (8 * c)).sum();

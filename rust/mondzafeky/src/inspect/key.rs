@@ -9,7 +9,7 @@ use crate::Query;
 use std::fmt;
 
 /// The range that a read has given: it asks for the records whose value in this column, which is a
-/// star in the query, is lowest to highest, both included.
+/// star in the query, is lowest to highest, both included. 0, not measured, lies in no range.
 #[derive(Clone, Copy, Debug, PartialEq, Eq, Hash)]
 pub struct Range {
     /// The column, by its number from 0.

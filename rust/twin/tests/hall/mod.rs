@@ -92,12 +92,22 @@ pub fn from_file(count: u32) -> Reply {
     Reply { number: 0, count, ending: 1 }
 }
 
-/// A table of `count` records 0, 1, .., with k columns of which only the first differs.
+/// What the records of `filled` have in each column but the first.
+pub const OTHER: u32 = 7;
+
+/// A table of `count` records 1, 2, .., with k columns of which only the first differs.
 pub fn filled(k: u32, count: u32) -> Hall {
+    let values: Vec<u32> = (1..=count).collect();
+    holding(k, &values)
+}
+
+/// A table of one record for each of these values, which ascend, in its first column.
+pub fn holding(k: u32, values: &[u32]) -> Hall {
     let mut hall = Hall::open(k);
-    hall.table[COUNT] = count;
-    for i in 0..count {
-        hall.table[HEAD + (i * k) as usize] = i;
+    hall.table[COUNT] = values.len() as u32;
+    for (record, value) in hall.table[HEAD..].chunks_mut(k as usize).zip(values) {
+        record.fill(OTHER);
+        record[0] = *value;
     }
     hall
 }

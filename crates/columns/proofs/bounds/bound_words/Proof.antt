@@ -12,7 +12,7 @@ use Rattle.query.specs.Encoding.{columnValue}
 use Rattle.columns.specs.BoundContracts.{shiftOf, limitOf, widthOf, shiftsOf, limitsOf, NamesWords}
 use Rattle.columns.proofs.FillLoop.{Filled, fill-none}
 use Rattle.columns.proofs.MaskLaws.{fill-on, fill-end}
-use Rattle.columns.proofs.BoundLaws.{bounds-made, words-more}
+use Rattle.columns.proofs.BoundLaws.{first-below, bounds-made, words-more}
 use Rattle.columns.proofs.bounds.bound_words.Statement.{statement}
 use Rattle.columns.proofs.bounds.bound_words.Tie as tie
 
@@ -86,6 +86,9 @@ loop-again c =
       ),
     )
 
+first-of-requires : tie.Need-first-of-requires Inv-loop μ-loop
+first-of-requires c κs = search needs
+
 shift-of-requires-3 : tie.Need-shift-of-requires-3 Inv-loop μ-loop
 shift-of-requires-3 c κs = search needs
 
@@ -96,7 +99,10 @@ array-write-shifts-2 : tie.Need-array-write-shifts-2 Inv-loop μ-loop
 array-write-shifts-2 c = search needs
 
 sub-limit-of : tie.Need-sub-limit-of Inv-loop μ-loop
-sub-limit-of c = search needs
+sub-limit-of c =
+    let f = c .before in
+    let s = f .before .before .before .before .before in
+    rw (f .first-of .ensures) (first-below _ _ (s .pre .1 .1 .0) (s .pre .1 .1 .1))
 
 limit-of-requires-3 : tie.Need-limit-of-requires-3 Inv-loop μ-loop
 limit-of-requires-3 c κs = search needs
@@ -107,43 +113,45 @@ mul-limits-2 c = search needs
 array-write-limits-2 : tie.Need-array-write-limits-2 Inv-loop μ-loop
 array-write-limits-2 c = search needs
 
-array-read-t25 : tie.Need-array-read-t25 Inv-loop μ-loop
-array-read-t25 c = search needs
+array-read-t26 : tie.Need-array-read-t26 Inv-loop μ-loop
+array-read-t26 c = search needs
 
-array-read-t29 : tie.Need-array-read-t29 Inv-loop μ-loop
-array-read-t29 c = search needs
+array-read-t30 : tie.Need-array-read-t30 Inv-loop μ-loop
+array-read-t30 c = search needs
 
-array-read-t38 : tie.Need-array-read-t38 Inv-loop μ-loop
-array-read-t38 c = search needs
+array-read-t39 : tie.Need-array-read-t39 Inv-loop μ-loop
+array-read-t39 c = search needs
 
-array-read-t41 : tie.Need-array-read-t41 Inv-loop μ-loop
-array-read-t41 c = search needs
+array-read-t42 : tie.Need-array-read-t42 Inv-loop μ-loop
+array-read-t42 c = search needs
 
-array-read-t44 : tie.Need-array-read-t44 Inv-loop μ-loop
-array-read-t44 c = search needs
+array-read-t45 : tie.Need-array-read-t45 Inv-loop μ-loop
+array-read-t45 c = search needs
 
-array-read-t47 : tie.Need-array-read-t47 Inv-loop μ-loop
-array-read-t47 c = search needs
+array-read-t48 : tie.Need-array-read-t48 Inv-loop μ-loop
+array-read-t48 c = search needs
 
-array-read-t50 : tie.Need-array-read-t50 Inv-loop μ-loop
-array-read-t50 c = search needs
+array-read-t51 : tie.Need-array-read-t51 Inv-loop μ-loop
+array-read-t51 c = search needs
 
-array-read-t53 : tie.Need-array-read-t53 Inv-loop μ-loop
-array-read-t53 c = search needs
+array-read-t54 : tie.Need-array-read-t54 Inv-loop μ-loop
+array-read-t54 c = search needs
 
 returns : tie.Need-returns Inv-loop μ-loop
 unfolding columnValue widthOf shiftsOf limitsOf
 returns c =
-    let e = c .before .before in
+    let f = c .before .before in
+    let e = f .before in
     let l = e .before .loop in
     let p = e .before .before in
     let a = p .before .before .args in
     let n : length (take (a .k) (a .t1)) ≡ a .k = length-take-le (a .k) (a .t1) (search needs) in
     let i : l .i ≡ a .k = (let y = e .loop-test .left in let z = l .inv .1 .1 .0 in omega arith) in (
       rw (c .before .shift-of3 .ensures .0, c .limit-of3 .ensures)
-          (bounds-made (take (a .k) (a .t1)) (l .shifts) (l .limits) _ _ _ (omega arith)
+          (bounds-made (take (a .k) (a .t1)) (l .shifts) (l .limits) _ _ _ _ (omega arith)
           (fill-end shift _ (a .t1) (a .k) (l .i) _ (l .inv .0) (sym (p .before .shift-of .ensures .0)) (e .loop-test .left))
-          (fill-end limit _ (a .t1) (a .k) (l .i) _ (l .inv .1 .0) (sym (p .limit-of .ensures)) (e .loop-test .left))),
+          (fill-end limit _ (a .t1) (a .k) (l .i) _ (l .inv .1 .0) (sym (p .limit-of .ensures)) (e .loop-test .left))
+          (f .first-of .ensures)),
       λ j h. l .inv .1 .1 .1 j (omega arith),
     )
 
@@ -169,6 +177,7 @@ bound-words-spec =
     add-i
     loop-less
     loop-again
+    first-of-requires
     shift-of-requires-3
     mul-shifts-2
     array-write-shifts-2
@@ -176,12 +185,12 @@ bound-words-spec =
     limit-of-requires-3
     mul-limits-2
     array-write-limits-2
-    array-read-t25
-    array-read-t29
-    array-read-t38
-    array-read-t41
-    array-read-t44
-    array-read-t47
-    array-read-t50
-    array-read-t53
+    array-read-t26
+    array-read-t30
+    array-read-t39
+    array-read-t42
+    array-read-t45
+    array-read-t48
+    array-read-t51
+    array-read-t54
     returns)

@@ -6,15 +6,14 @@ use native.Mathlib.Omega.{arith}
 use lib.ListN.{length, take}
 use lib.Seq.{length-take-le}
 use borrow.Author.Needs.{needs}
-use Rattle.query.specs.Encoding.{columnValue}
-use Rattle.columns.specs.MaskContracts.{maskOf}
+use Rattle.columns.specs.MaskContracts.{maskOf, soughtOf}
 use Rattle.columns.proofs.FillLoop.{Filled, fill-none}
 use Rattle.columns.proofs.MaskLaws.{fill-on, fill-end, made-of}
 use Rattle.columns.proofs.masks.mask_words.Statement.{statement}
 use Rattle.columns.proofs.masks.mask_words.Tie as tie
 
 abbrev Inv-loop : tie.InvT-loop
-Inv-loop k cols masks₀ values₀ i₀ masks values i = Filled 4 0 (map maskOf (take k cols)) i masks × Filled 4 0 (map columnValue (take k cols)) i values
+Inv-loop k cols masks₀ values₀ i₀ masks values i = Filled 4 0 (map maskOf (take k cols)) i masks × Filled 4 0 (map soughtOf (take k cols)) i values
 
 abbrev μ-loop : tie.MeasureT-loop
 μ-loop k cols masks₀ values₀ i₀ masks values i = k - i
@@ -37,8 +36,8 @@ mul-masks c = search needs
 array-write-masks : tie.Need-array-write-masks Inv-loop μ-loop
 array-write-masks c = search needs
 
-value-of-requires : tie.Need-value-of-requires Inv-loop μ-loop
-value-of-requires c κs = search needs
+sought-of-requires : tie.Need-sought-of-requires Inv-loop μ-loop
+sought-of-requires c κs = search needs
 
 mul-values : tie.Need-mul-values Inv-loop μ-loop
 mul-values c = search needs
@@ -58,7 +57,7 @@ loop-again c =
     let q = l .before .args .t1 in
     let k = l .before .args .k in (
       fill-on maskOf 0 q k (l .loop .i) _ (l .loop .inv .0) _ _ (c .before .mask-of .ensures) (search needs) (search needs) (search needs),
-      fill-on columnValue 0 q k (l .loop .i) _ (l .loop .inv .1) _ _ (c .value-of .ensures) (search needs) (search needs) (search needs),
+      fill-on soughtOf 0 q k (l .loop .i) _ (l .loop .inv .1) _ _ (c .sought-of .ensures) (search needs) (search needs) (search needs),
     )
 
 array-read-t20 : tie.Need-array-read-t20 Inv-loop μ-loop
@@ -86,14 +85,14 @@ array-read-t41 : tie.Need-array-read-t41 Inv-loop μ-loop
 array-read-t41 c = search needs
 
 returns : tie.Need-returns Inv-loop μ-loop
-unfolding maskOf columnValue
+unfolding maskOf soughtOf
 returns c =
     let l = c .before .loop in
     let q = c .before .before .args .t1 in
     let k = c .before .before .args .k in
     let n : length (take k q) ≡ k = length-take-le k q (search needs) in
     made-of (take k q) (l .masks) (l .values) (omega arith)
-    (fill-end maskOf 0 q k (l .i) _ (l .inv .0) refl (c .loop-test .left)) (fill-end columnValue 0 q k (l .i) _ (l .inv .1) refl (c .loop-test .left))
+    (fill-end maskOf 0 q k (l .i) _ (l .inv .0) refl (c .loop-test .left)) (fill-end soughtOf 0 q k (l .i) _ (l .inv .1) refl (c .loop-test .left))
 
 pub mask-words-spec : {M : Type 1} → statement M
 mask-words-spec =
@@ -107,7 +106,7 @@ mask-words-spec =
     mask-of-requires
     mul-masks
     array-write-masks
-    value-of-requires
+    sought-of-requires
     mul-values
     array-write-values
     add-i
