@@ -1,6 +1,6 @@
 -- Document 01, "On each side of a line": cases 1 to 12 as rows of one table, S-1's counts beside case 10, S-3's ranges, S-4's abandoned writes and
--- S-5's zeros, with one computed test. Rows 1 to 5 are those that query states about nodes; 6 to 12 are played on memories of full size that held other numbers
--- before the opening. Leans on the rules' definitions. Assumes nothing.
+-- S-5's zeros, with one computed test. Rows 1 to 5 are those that query states about nodes; 6 to 12 are played on memories of full size that held
+-- other numbers before the opening. Leans on the rules' definitions. Assumes nothing.
 use mathlib.Core.Bool.{Bool, true, false, not, _&&_}
 use mathlib.Core.List.{List, [], _∷_, _++_}
 use Prim.Native.Nat.{ℕ, zero, suc, _+_, _-_}
