@@ -430,11 +430,12 @@ static void check_zeros(mondzafeky_hall *hall)
     REPLIES(count_within(hall, 7, 0, 1), ACCEPTED, 1, MONDZAFEKY_FROM_TABLE);
     REPLIES(read_within(hall, 0, 0, UINT32_MAX), ACCEPTED, 0, MONDZAFEKY_FROM_TABLE);
     REPLIES(write_of(hall, 0, 1, 7, 0), ACCEPTED, 0, MONDZAFEKY_UNCHANGED);
-    /* it shares the node of a read of it, so what was filed is used no more */
-    REPLIES(read_named(hall, 0), ACCEPTED, 0, MONDZAFEKY_FROM_TABLE);
     REPLIES(write_of(hall, 0, 0, 7, 0), ACCEPTED, 0, MONDZAFEKY_UNCHANGED);
-    REPLIES(read_of(hall, 1, 7), ACCEPTED, 32, MONDZAFEKY_FROM_TABLE);
+    /* neither has changed anything, so what was filed is of use; after the next it is not */
+    REPLIES(read_named(hall, 0), ACCEPTED, 0, MONDZAFEKY_FROM_FILE);
+    REPLIES(read_of(hall, 1, 7), ACCEPTED, 32, MONDZAFEKY_FROM_FILE);
     REPLIES(write_of(hall, 0, 0, 7, 1), ACCEPTED, 0, MONDZAFEKY_CHANGED);
+    REPLIES(read_of(hall, 1, 7), ACCEPTED, 31, MONDZAFEKY_FROM_TABLE);
     REPLIES(write_of(hall, 0, 1, 7, 1), ACCEPTED, 0, MONDZAFEKY_CHANGED);
 }
 
@@ -497,7 +498,8 @@ static int is_unmarked(const mondzafeky_hall *hall)
 /*
  * A write of (first, second) is abandoned at desk 6 after each number of its nine steps: given up
  * up to its table step, the fifth with four marks before it; ended so after it, as by its own last
- * step. A read of what it writes is then answered from file at its second time.
+ * step. A read of what it writes was filed before: the next one is answered from file unless the
+ * write has changed the table, and the one after that in any case.
  */
 static void check_abandoned(
     mondzafeky_hall *hall, int inserts, uint32_t first, uint32_t second, uint32_t number,
@@ -509,6 +511,7 @@ static void check_abandoned(
     before = *hall;
     for (made = 0; made < 9; made++) {
         *hall = before;
+        CHECK(mondzafeky_ended(read_of(hall, 7, first)));
         REPLIES(inserts ? mondzafeky_hall_begin_insert(hall, 6, record, 2)
                         : mondzafeky_hall_begin_delete(hall, 6, record, 2), ACCEPTED, 0, NOTHING);
         steps(hall, 6, made);
@@ -523,7 +526,9 @@ static void check_abandoned(
         }
         CHECK(is_unmarked(hall) && mondzafeky_work(hall, 6) == 0);
         REPLIES(mondzafeky_hall_abandon(hall, 6), MONDZAFEKY_IDLE, 0, NOTHING);
-        CHECK(mondzafeky_ended(read_of(hall, 7, first)));
+        CHECK(read_of(hall, 7, first).ending
+              == (made > 4 && ending == MONDZAFEKY_CHANGED ? MONDZAFEKY_FROM_TABLE
+                                                           : MONDZAFEKY_FROM_FILE));
         CHECK(read_of(hall, 7, first).ending == MONDZAFEKY_FROM_FILE);
     }
     *hall = before;

@@ -102,7 +102,7 @@ typedef struct {
 #define MONDZAFEKY_FROM_FILE 1u  /* a read or a count, answered with a filed answer */
 #define MONDZAFEKY_FROM_TABLE 2u /* a read or a count, answered from the table */
 #define MONDZAFEKY_CHANGED 3u    /* a write, and it changed the table */
-#define MONDZAFEKY_UNCHANGED 4u  /* a write, and the table is as it was */
+#define MONDZAFEKY_UNCHANGED 4u  /* a write, and the table is as it was: filed answers still hold */
 
 /*
  * The twelve calls of the archive, each memory for itself. A program with one mondzafeky_hall needs
@@ -209,8 +209,9 @@ mondzafeky_reply mondzafeky_step(
  * Ends what is under way at the desk in one call and at any time. Of a read nothing is left, nor of
  * a write before its table step, whose marks are taken back: number and ending are 0. A write that
  * has made its table step has taken effect: all of its remaining raises are made, and the reply is
- * its end as its last step would have told it, the ending 3 or 4, or the number 13. No mark of the
- * write stays, and the desk is idle. Writes nodes and clients. Refusals: 1, 3, 4, 6.
+ * its end as its last step would have told it, the ending 3 or 4, or the number 13. The counters go
+ * up only if it changed the table. No mark of the write stays, and the desk is idle. Writes nodes
+ * and clients. Refusals: 1, 3, 4, 6.
  */
 mondzafeky_reply mondzafeky_abandon(
     uint32_t *table, size_t table_len, uint32_t *nodes, size_t nodes_len,

@@ -1,6 +1,6 @@
 // The parts that are played, as text. Of document 01 the cases of "On each side of a line", the numbers of "What the controller turns down"
 // (number 3 in three parts; 7 is given no longer), the faults of "Faults a bench would show"; of document 02 the counts of S-1, the ranges of S-3,
-// the abandoned writes of S-4 and the zeros of S-5. Leans on nothing.
+// the abandoned writes of S-4, the zeros of S-5 and the writes of S-6 that change nothing. Leans on nothing.
 // A part is its name and then rows: what is done or looked at, = and what is expected. The first letter of a word counts.
 //   open K; read, Count (the begin of a count), within, Within (a read and a count with a range, which stands in the tray's last three numbers:
 //   column, lowest, highest), insert, delete, step, abandon at a DESK; evict a NODE, Evict an answer; new, the renewal;
@@ -11,7 +11,7 @@
 //   end
 // In a query * is a star, ? is any; ! is 5 under the mark 2, ~ a star with the value 5. 65535 is every place, and the largest desk.
 
-pub const PARTS: u32 = 64;
+pub const PARTS: u32 = 70;
 
 fn byte(text: &[u8], i: usize) -> u8 {
     if i < text.len() {
@@ -81,13 +81,13 @@ fn cases_from_6(part: u32, i: usize) -> u8 {
             b"case 8, expected: open 1 = 0; insert 1 (5) +1 = 0; label 0 = (5); Nodes 13 = 1; read 0 (5) +4 = got 0; Answers 0 = 0",
             i,
         ),
-        // Node 5 leaves at counter 7, floor 1: floor 7, back at 7, and an answer filed under 7 holds. Six inserts of 5 bring the counter
-        // to 7.
+        // Node 5 leaves at counter 7, floor 1: floor 7, back at 7, and an answer filed under 7 holds. Three inserts of 5, each deleted again,
+        // bring the counter to 7.
         9 => byte(
-            b"case 9, expected: open 1 = 0; insert 1 (5) +5 = changed; insert 1 (5) +5 = unchanged; insert 1 (5) +5 = unchanged; \
-            insert 1 (5) +5 = unchanged; insert 1 (5) +5 = unchanged; insert 1 (5) +5 = unchanged; read 0 (5) +5 = got 1; label 0 = (5); \
+            b"case 9, expected: open 1 = 0; insert 1 (5) +5 = changed; delete 1 (5) +5 = changed; insert 1 (5) +5 = changed; \
+            delete 1 (5) +5 = changed; insert 1 (5) +5 = changed; delete 1 (5) +5 = changed; read 0 (5) +5 = got 0; label 0 = (5); \
             Nodes 14 = 7; Answers 16 = 7; Nodes 0 = 1; evict 0 = 0; Nodes 0 = 7; read 0 (5) +2 = 0; label 2 = (5); Nodes 30 = 7; \
-            Desks 21 = 7; step 0 +1 = kept 1; tray 0 = 5",
+            Desks 21 = 7; step 0 +1 = kept 0",
             i,
         ),
         // 32 matching records are listed; 33 give 12.
@@ -159,7 +159,7 @@ fn numbers_from_3(part: u32, i: usize) -> u8 {
         // Unsound, of a write's nodes: marks at 12 to add to; the taking back of a mark, a raise or an abandoning's raises find a node
         // unmarked; a counter at its largest to raise; no unmarked node to put out.
         17 => byte(
-            b"number 3, expected: open 1 = 0; insert 0 (5) +5 = changed; insert 0 (5) = 0; put Nodes 13 = 12; step 0 +1 = 3; \
+            b"number 3, expected: open 1 = 0; insert 0 (5) +5 = changed; delete 0 (5) = 0; put Nodes 13 = 12; step 0 +1 = 3; \
             put Nodes 13 = 11; step 0 +1 = 0; Nodes 13 = 12; put Nodes 13 = 0; abandon 0 = 3; step 0 +2 = 0; step 0 +1 = 3; abandon 0 = 3; \
             put Nodes 13 = 1; put Nodes 14 = 4294967295; step 0 +1 = 3; abandon 0 = 3; put Nodes 14 = 2; step 0 +1 = 0; read 1 (7) = 0; \
             put Nodes 65535 = 1; put Nodes 1 = 1024; step 1 +1 = 3; put Nodes 8197 = 0; step 1 +1 = 0",
@@ -292,11 +292,11 @@ fn counts_from_1(part: u32, i: usize) -> u8 {
             Answers 0 = 1; Answers 8 = 16; Answers 15 = 33; Answers 32 = 0; tray 0 = 7; tray 127 = 7",
             i,
         ),
-        // One record less than the table holds, and all of them; none after a delete.
+        // One record less than the table holds, and all of them, also after an insert that finds the table full; none after a delete.
         34 => byte(
             b"S-1 full table, expected: open 1 = 0; fill (2047) +5 = changed; Count 0 (*) +4 = got 2047; Count 0 (*) +2 = kept 2047; \
             insert 0 (2047) +5 = changed; Count 0 (*) +4 = got 2048; Answers 15 = 2048; Count 0 (*) +2 = kept 2048; \
-            insert 0 (2048) +5 = 13; Count 0 (*) +4 = got 2048; Count 0 (2048) +5 = got 0; delete 0 (*) +5 = changed; \
+            insert 0 (2048) +5 = 13; Count 0 (*) +2 = kept 2048; Count 0 (2048) +5 = got 0; delete 0 (*) +5 = changed; \
             Count 0 (*) +4 = got 0",
             i,
         ),
@@ -456,31 +456,31 @@ fn ranges_from_4(part: u32, i: usize) -> u8 {
 
 fn abandoned_from_1(part: u32, i: usize) -> u8 {
     match part {
-        // An insert abandoned after its table step, with no raise made and with one: the marks go, each counter has gone up once, and the
-        // end is the one that the last raise would have given. The desk is idle, and a read of the record is answered from file at its
+        // An insert abandoned after its table step, with no raise made and with one: the marks go, each counter has gone up once, or not at all
+        // where the table did not change (S-6), and the end is the one that the last raise would have given. The desk is idle, and a read of the record is answered from file at its
         // second time.
         49 => byte(
             b"S-4 insert, expected: open 1 = 0; insert 0 (5) +3 = 0; Nodes 13 = 1; Nodes 21 = 1; abandon 0 = changed; Nodes 13 = 0; \
             Nodes 14 = 2; Nodes 21 = 0; Nodes 22 = 2; Desks 8 = 0; Table 0 = 1; step 0 +1 = 6; abandon 0 = 6; insert 0 (5) +4 = 0; \
-            Nodes 13 = 0; Nodes 14 = 3; Nodes 21 = 1; Nodes 22 = 2; abandon 0 = unchanged; Nodes 13 = 0; Nodes 14 = 3; Nodes 21 = 0; \
-            Nodes 22 = 3; Desks 8 = 0; Desks 9 = 0; abandon 0 = 6; read 1 (5) +5 = got 1; tray 0 = 5; read 1 (5) +3 = kept 1",
+            Nodes 13 = 0; Nodes 14 = 2; Nodes 21 = 1; Nodes 22 = 2; abandon 0 = unchanged; Nodes 13 = 0; Nodes 14 = 2; Nodes 21 = 0; \
+            Nodes 22 = 2; Desks 8 = 0; Desks 9 = 0; abandon 0 = 6; read 1 (5) +5 = got 1; tray 0 = 5; read 1 (5) +3 = kept 1",
             i,
         ),
         // A delete in the same way: of a record that is there, of one that is not, and of all, whose second node is (?).
         50 => byte(
             b"S-4 delete, expected: open 1 = 0; insert 0 (5) +5 = changed; delete 0 (5) +3 = 0; Table 0 = 0; Nodes 13 = 1; Nodes 21 = 1; \
             abandon 0 = changed; Nodes 13 = 0; Nodes 14 = 3; Nodes 21 = 0; Nodes 22 = 3; abandon 0 = 6; delete 0 (5) +3 = 0; \
-            abandon 0 = unchanged; Nodes 14 = 4; Nodes 22 = 4; delete 0 (*) +4 = 0; label 1 = (*); label 2 = (?); Nodes 22 = 5; Nodes 29 = 1; \
-            Nodes 30 = 1; abandon 0 = unchanged; Nodes 22 = 5; Nodes 29 = 0; Nodes 30 = 2; read 1 (5) +5 = got 0; read 1 (5) +3 = kept 0; \
+            abandon 0 = unchanged; Nodes 14 = 3; Nodes 22 = 3; delete 0 (*) +4 = 0; label 1 = (*); label 2 = (?); Nodes 22 = 3; Nodes 29 = 1; \
+            Nodes 30 = 1; abandon 0 = unchanged; Nodes 22 = 3; Nodes 29 = 0; Nodes 30 = 1; read 1 (5) +5 = got 0; read 1 (5) +3 = kept 0; \
             read 1 (*) +4 = got 0; read 1 (*) +2 = kept 0",
             i,
         ),
         // Four nodes, with no raise made, with one, and with all but one.
         51 => byte(
             b"S-4 two columns, expected: open 2 = 0; insert 0 (1,2) +5 = 0; abandon 0 = changed; Nodes 1 = 4; Nodes 13 = 0; Nodes 14 = 2; \
-            Nodes 21 = 0; Nodes 22 = 2; Nodes 29 = 0; Nodes 30 = 2; Nodes 37 = 0; Nodes 38 = 2; insert 0 (1,2) +6 = 0; Nodes 14 = 3; \
-            Nodes 21 = 1; Nodes 22 = 2; abandon 0 = unchanged; Nodes 14 = 3; Nodes 21 = 0; Nodes 22 = 3; Nodes 38 = 3; delete 0 (1,2) +8 = 0; \
-            Table 0 = 0; Nodes 30 = 4; Nodes 37 = 1; Nodes 38 = 3; abandon 0 = changed; Nodes 30 = 4; Nodes 37 = 0; Nodes 38 = 4; \
+            Nodes 21 = 0; Nodes 22 = 2; Nodes 29 = 0; Nodes 30 = 2; Nodes 37 = 0; Nodes 38 = 2; insert 0 (1,2) +6 = 0; Nodes 14 = 2; \
+            Nodes 21 = 1; Nodes 22 = 2; abandon 0 = unchanged; Nodes 14 = 2; Nodes 21 = 0; Nodes 22 = 2; Nodes 38 = 2; delete 0 (1,2) +8 = 0; \
+            Table 0 = 0; Nodes 30 = 3; Nodes 37 = 1; Nodes 38 = 2; abandon 0 = changed; Nodes 30 = 3; Nodes 37 = 0; Nodes 38 = 3; \
             abandon 0 = 6; read 1 (1,2) +7 = got 0; read 1 (1,2) +5 = kept 0; read 1 (*,*) +4 = got 0; read 1 (*,*) +2 = kept 0",
             i,
         ),
@@ -494,9 +494,9 @@ fn abandoned_from_4(part: u32, i: usize) -> u8 {
         // last.
         52 => byte(
             b"S-4 three columns, expected: open 3 = 0; insert 0 (1,2,3) +9 = 0; abandon 0 = changed; Nodes 1 = 8; Nodes 13 = 0; Nodes 14 = 2; \
-            Nodes 69 = 0; Nodes 70 = 2; insert 0 (1,2,3) +10 = 0; Nodes 14 = 3; Nodes 22 = 2; abandon 0 = unchanged; Nodes 14 = 3; \
-            Nodes 22 = 3; Nodes 70 = 3; delete 0 (1,*,3) +9 = 0; Table 0 = 0; Nodes 1 = 12; label 11 = (*,?,*); step 0 +7 = 0; Nodes 30 = 4; \
-            Nodes 94 = 2; Nodes 101 = 1; Nodes 102 = 1; abandon 0 = changed; Nodes 30 = 4; Nodes 94 = 2; Nodes 101 = 0; Nodes 102 = 2; \
+            Nodes 69 = 0; Nodes 70 = 2; insert 0 (1,2,3) +10 = 0; Nodes 14 = 2; Nodes 22 = 2; abandon 0 = unchanged; Nodes 14 = 2; \
+            Nodes 22 = 2; Nodes 70 = 2; delete 0 (1,*,3) +9 = 0; Table 0 = 0; Nodes 1 = 12; label 11 = (*,?,*); step 0 +7 = 0; Nodes 30 = 3; \
+            Nodes 94 = 2; Nodes 101 = 1; Nodes 102 = 1; abandon 0 = changed; Nodes 30 = 3; Nodes 94 = 2; Nodes 101 = 0; Nodes 102 = 2; \
             abandon 0 = 6; read 1 (1,2,3) +11 = got 0; read 1 (1,2,3) +9 = kept 0; read 1 (1,*,3) +7 = got 0; read 1 (1,*,3) +5 = kept 0",
             i,
         ),
@@ -535,7 +535,7 @@ fn abandoned_from_6(part: u32, i: usize) -> u8 {
             Nodes 21 = 1; Nodes 22 = 1; Nodes 29 = 1; Nodes 30 = 1; Nodes 38 = 1; put Nodes 37 = 1; put Nodes 30 = 4294967295; abandon 0 = 3; \
             Nodes 21 = 1; Nodes 22 = 1; Nodes 38 = 1; put Nodes 30 = 1; abandon 0 = changed; Nodes 13 = 0; Nodes 14 = 4294967295; \
             Nodes 22 = 2; Nodes 30 = 2; Nodes 37 = 0; Nodes 38 = 2; put Nodes 14 = 2; insert 0 (1,2) +8 = 0; put Desks 9 = 9; abandon 0 = 3; \
-            put Desks 9 = 7; abandon 0 = 3; Nodes 30 = 3; Nodes 38 = 2; put Desks 9 = 8; abandon 0 = unchanged; Nodes 30 = 3; Nodes 38 = 3; \
+            put Desks 9 = 7; abandon 0 = 3; Nodes 30 = 2; Nodes 38 = 2; put Desks 9 = 8; abandon 0 = unchanged; Nodes 30 = 2; Nodes 38 = 2; \
             Desks 9 = 0",
             i,
         ),
@@ -643,6 +643,80 @@ fn zeros_from_4(part: u32, i: usize) -> u8 {
             read 0 (2,0,3) +11 = got 0; read 0 (2,0,3) +9 = kept 0; Count 0 (*,0,*) +5 = got 0; put tray 125 = 1; put tray 126 = 0; \
             put tray 127 = 0; within 0 (2,*,3) +7 = got 0; put tray 127 = 1; within 0 (2,*,3) +7 = got 1; tray 1 = 1; \
             delete 0 (2,0,3) +15 = 0; step 0 +2 = unchanged; delete 0 (*,*,3) +15 = 0; step 0 +2 = changed; Table 0 = 0",
+            i,
+        ),
+        _ => unchanged_from_1(part, i),
+    }
+}
+
+fn unchanged_from_1(part: u32, i: usize) -> u8 {
+    match part {
+        // An insert of a record that is there: it overlaps neither the read that files nor the one that fetches, the one that files, the one
+        // that fetches, which sees a mark and answers from the table, and both. The counters stay, and a read that begins after its end is
+        // answered from file.
+        65 => byte(
+            b"S-6 there already, expected: open 1 = 0; insert 2 (5) +5 = changed; read 0 (5) +5 = got 1; insert 1 (5) +5 = unchanged; \
+            read 0 (5) +3 = kept 1; Evict 0 = 0; read 0 (5) +2 = 0; insert 1 (5) +5 = unchanged; step 0 +3 = got 1; read 0 (5) +3 = kept 1; \
+            insert 1 (5) +1 = 0; read 0 (5) +4 = got 1; Answers 0 = 1; step 1 +4 = unchanged; read 0 (5) +3 = kept 1; Evict 0 = 0; \
+            read 0 (5) +2 = 0; insert 1 (5) +1 = 0; step 0 +3 = got 1; read 0 (5) +4 = got 1; Answers 0 = 1; step 1 +4 = unchanged; \
+            read 0 (5) +3 = kept 1; label 0 = (5); Nodes 13 = 0; Nodes 14 = 2; label 1 = (*); Nodes 21 = 0; Nodes 22 = 2; Answers 16 = 2; \
+            tray 0 = 5",
+            i,
+        ),
+        // A delete of none in the same way, and then a write that changes the table: after it the read goes there.
+        66 => byte(
+            b"S-6 delete of none, expected: open 1 = 0; insert 2 (4) +5 = changed; read 0 (5) +5 = got 0; delete 1 (5) +5 = unchanged; \
+            read 0 (5) +3 = kept 0; Evict 0 = 0; read 0 (5) +2 = 0; delete 1 (5) +5 = unchanged; step 0 +3 = got 0; read 0 (5) +3 = kept 0; \
+            delete 1 (5) +1 = 0; read 0 (5) +4 = got 0; Answers 0 = 1; step 1 +4 = unchanged; read 0 (5) +3 = kept 0; Evict 0 = 0; \
+            read 0 (5) +2 = 0; delete 1 (5) +1 = 0; step 0 +3 = got 0; read 0 (5) +4 = got 0; Answers 0 = 1; step 1 +4 = unchanged; \
+            read 0 (5) +3 = kept 0; label 2 = (5); Nodes 29 = 0; Nodes 30 = 1; insert 1 (5) +5 = changed; Nodes 30 = 2; read 0 (5) +5 = got 1",
+            i,
+        ),
+        // An insert that finds the table full in the same way, and abandoned after its table step: "A full table is no change."
+        67 => byte(
+            b"S-6 full table, expected: open 1 = 0; fill (2048) +5 = changed; read 0 (3000) +5 = got 0; insert 1 (3000) +5 = 13; \
+            read 0 (3000) +3 = kept 0; Evict 0 = 0; read 0 (3000) +2 = 0; insert 1 (3000) +5 = 13; step 0 +3 = got 0; read 0 (3000) +3 = kept 0; \
+            insert 1 (3000) +1 = 0; read 0 (3000) +4 = got 0; Answers 0 = 1; step 1 +4 = 13; read 0 (3000) +3 = kept 0; Evict 0 = 0; \
+            read 0 (3000) +2 = 0; insert 1 (3000) +1 = 0; step 0 +3 = got 0; read 0 (3000) +4 = got 0; Answers 0 = 1; step 1 +4 = 13; \
+            read 0 (3000) +3 = kept 0; insert 1 (3000) +3 = 0; abandon 1 = 13; read 0 (3000) +3 = kept 0; insert 1 (3000) +4 = 0; \
+            abandon 1 = 13; read 0 (3000) +3 = kept 0",
+            i,
+        ),
+        _ => unchanged_from_4(part, i),
+    }
+}
+
+fn unchanged_from_4(part: u32, i: usize) -> u8 {
+    match part {
+        // A raise that leaves the counter is not refused where that is the largest, at a step or at an abandoning; one that lifts it is, and
+        // may bring it there. An unmarked node, or one whose label is another, is 3 in either case.
+        68 => byte(
+            b"S-6 largest counter, expected: open 1 = 0; insert 0 (5) +5 = changed; insert 0 (5) +3 = 0; put Nodes 14 = 4294967295; \
+            put Nodes 22 = 4294967295; step 0 +1 = 0; Nodes 14 = 4294967295; step 0 +1 = unchanged; Nodes 22 = 4294967295; put Nodes 14 = 2; \
+            put Nodes 22 = 2; insert 0 (5) +3 = 0; put Nodes 14 = 4294967295; abandon 0 = unchanged; Nodes 14 = 4294967295; put Nodes 14 = 2; \
+            delete 0 (5) +3 = 0; put Nodes 14 = 4294967295; step 0 +1 = 3; abandon 0 = 3; put Nodes 14 = 4294967294; step 0 +1 = 0; \
+            Nodes 14 = 4294967295; put Nodes 22 = 4294967295; step 0 +1 = 3; put Nodes 22 = 4294967294; abandon 0 = changed; \
+            Nodes 22 = 4294967295; put Nodes 14 = 2; put Nodes 22 = 2; delete 0 (5) +3 = 0; put Nodes 13 = 0; step 0 +1 = 3; abandon 0 = 3; \
+            put Nodes 13 = 1; put Nodes 9 = 6; step 0 +1 = 3; put Nodes 9 = 5; step 0 +2 = unchanged",
+            i,
+        ),
+        // Whether the counters go up is by the desk's changed flag alone, and whether the end is 13 by the other: both set by hand, the
+        // first set where the table did not change, and taken off where it did.
+        69 => byte(
+            b"S-6 flags, expected: open 1 = 0; insert 0 (5) +3 = 0; Desks 11 = 1; Desks 12 = 0; put Desks 12 = 1; step 0 +1 = 0; Nodes 14 = 2; \
+            step 0 +1 = 13; Nodes 22 = 2; insert 0 (5) +3 = 0; Desks 11 = 0; put Desks 11 = 9; step 0 +2 = changed; Nodes 14 = 3; Nodes 22 = 3; \
+            delete 0 (5) +3 = 0; Desks 11 = 1; put Desks 11 = 0; abandon 0 = unchanged; Nodes 13 = 0; Nodes 14 = 3; Nodes 22 = 3; \
+            insert 0 (5) +3 = 0; put Desks 12 = 7; abandon 0 = 13; Nodes 14 = 4; Nodes 22 = 4; delete 0 (6) +3 = 0; put Desks 12 = 1; \
+            abandon 0 = 13; Nodes 22 = 4; Nodes 30 = 1",
+            i,
+        ),
+        // All eight counters of a write of three columns stay. A write abandoned before its table step leaves them too.
+        70 => byte(
+            b"S-6 three columns, expected: open 3 = 0; insert 0 (1,2,3) +15 = 0; step 0 +2 = changed; read 1 (1,2,3) +11 = got 1; \
+            insert 0 (1,2,3) +15 = 0; Nodes 61 = 1; Nodes 69 = 1; step 0 +2 = unchanged; Nodes 14 = 2; Nodes 22 = 2; Nodes 30 = 2; Nodes 38 = 2; \
+            Nodes 46 = 2; Nodes 54 = 2; Nodes 62 = 2; Nodes 69 = 0; Nodes 70 = 2; read 1 (1,2,3) +9 = kept 1; delete 0 (1,2,4) +15 = 0; \
+            step 0 +2 = unchanged; read 1 (1,2,3) +9 = kept 1; delete 0 (1,*,3) +8 = 0; abandon 0 = 0; read 1 (1,2,3) +9 = kept 1; \
+            delete 0 (1,*,3) +9 = 0; abandon 0 = changed; Nodes 30 = 3; read 1 (1,2,3) +11 = got 0",
             i,
         ),
         _ => 0,

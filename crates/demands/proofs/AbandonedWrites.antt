@@ -26,7 +26,7 @@ use Rattle.rules.specs.Layout.{maxClients}
 use Rattle.rules.specs.Table.{Change, target}
 use Rattle.rules.specs.Work.{Write, writeLabels, Work, writing, Request, readOf, insertOf, deleteOf, isWrite, workOf}
 use Rattle.rules.specs.Nodes.{Words, Store, labelIn, retired}
-use Rattle.rules.specs.Client.{Client, steps, foundFull, idle, isIdle}
+use Rattle.rules.specs.Client.{Client, steps, didChange, foundFull, idle, isIdle}
 use Rattle.rules.specs.Memory.{Mem, storeIn}
 use Rattle.rules.specs.Outcome.{StepResult, number}
 use Rattle.rules.specs.Refusals.{client, allIdle, abandonCode}
@@ -50,7 +50,8 @@ use Rattle.demands.proofs.HistoryRuns.{sound}
 use Rattle.demands.proofs.WorksBegun.{busy-begun, since-under}
 use Rattle.demands.proofs.WriteEffects.{of, write-begins}
 use Rattle.demands.proofs.StepsMade.{under-abandon, keeps-since, step-made, not-refused, nodes-after, no-twice}
-use Rattle.demands.proofs.StepsOfWrites.{count, node-words, node-number, Off, off-in, raises-of}
+use Rattle.demands.proofs.StepsOfWrites.{count, node-words, node-number, Off, off-in}
+use Rattle.demands.proofs.Raisings.{told, raises-of}
 
 -- ---- What an accepted abandoning returns and leaves, by the rules
 accepted-result : (m : Mem) (d : ℕ) → isAccepted (number (abandonResult m d .out)) ≡ true → abandonResult m d ≡ abandoned m d
@@ -86,11 +87,11 @@ module _ (h : History) (r : Request) (d b n i : ℕ) (s : AbandonOf h r d b n i)
 
 -- ---- The raises that are left
 past-result : (m : Mem) (d : ℕ) (w : Write) (i j : ℕ) → i ≡ length (writeLabels w) + 1 + j
-    → abandonedWrite m d w i ≡ retireResult m d (endOf (client m d)) (retired narrow true (drop j (writeLabels w)) (storeIn narrow (m .nodes)))
+    → abandonedWrite m d w i ≡ retireResult m d (endOf (client m d)) (retired narrow (didChange (client m d)) (drop j (writeLabels w)) (storeIn narrow (m .nodes)))
 past-result m d w i j e =
     let z : i - (length (writeLabels w) + 1) ≡ j = omega arith in
     abandon-past m d w i (omega arith)
-    ∙ ap (λ (k : ℕ). retireResult m d (endOf (client m d)) (retired narrow true (drop k (writeLabels w)) (storeIn narrow (m .nodes)))) z
+    ∙ ap (λ (k : ℕ). retireResult m d (endOf (client m d)) (retired narrow (didChange (client m d)) (drop k (writeLabels w)) (storeIn narrow (m .nodes)))) z
 
 -- a label stands once in a part of a write's labels that has it
 part-once : (w : Write) (p : Words) (qs : List Words) → In p qs → tally p qs ≤ tally p (writeLabels w) → tally p qs ≡ 1
@@ -112,15 +113,19 @@ off-case h p d n lift ps out none low a one e R = not-refused h n (memAt h n) []
 off-case h p d n lift ps out (some t) low a one e R = off-in h p n lift ps t _ low one e R (nodes-after (memAt h n) t d (idle narrow))
 
 pub raises-left : (h : History) → RaisesLeft h
-raises-left h r w B d b n j s i l low =
+raises-left h r w B d b n j s =
     let W = of h w in
     let u = under-abandon s in
     let c = count h r w B d b n u .0 in
     let ps : List Words = drop j (writeLabels W) in
-    let p = writeNode (target w) i in
-    let one = subst (λ p. tally p ps ≡ 1) (node-words h r w B d b n i u low .0) (left-once W j i l (omega arith)) in
-    raises-of h n ps p one (off-case h p d n true ps _ _ (s .within) (s .accepted) one refl
-    (write-abandoned h r d b n _ s W (write-begins h r w B) ∙ ap untrayed (past-result (memAt h n) d W _ j (omega arith))))
+    let made = s .made in
+    let x = told h r w B d b n u (omega arith) in (
+      x .tabled,
+      λ i l low. let p = writeNode (target w) i in
+          let one = subst (λ p. tally p ps ≡ 1) (node-words h r w B d b n i u low .0) (left-once W j i l (omega arith)) in
+          raises-of h r d b n ps p x one _ refl (off-case h p d n _ ps _ _ (s .within) (s .accepted) one refl
+          (write-abandoned h r d b n _ s W (write-begins h r w B) ∙ ap untrayed (past-result (memAt h n) d W _ j (omega arith)))),
+    )
 
 pub abandoned-nodes : (h : History) → AbandonedNodes h
 abandoned-nodes h r w B d b n j s p = (
@@ -135,7 +140,8 @@ abandoned-nodes h r w B d b n j s p = (
       let y = step-made h r d b n (2 ^ shapeAt h .columns + 1 + z .0) (under-abandon s) (omega arith) in
       inl (record { number = z .0; low = low; at = y .0; before = y .1; steps = y .2; is = z .2 }))
       (λ t. let l = ltb-false (z .0) j t in
-      inr (z .0, l, z .1, z .2, subst (λ k. Raises h k n) (z .2) (raises-left h r w B d b n j s (z .0) l (z .1))))),
+      let x = raises-left h r w B d b n j s in
+      inr (z .0, l, z .1, z .2, x .0, subst (λ k. Raises h k (x .0 .at) n) (z .2) (x .1 (z .0) l (z .1))))),
 )
 
 -- ---- The marks taken back

@@ -32,7 +32,7 @@ use Rattle.demands.proofs.TableOrdered.{good-table, demand-2-ascending}
 use Rattle.demands.proofs.Flags.{since-read}
 use Rattle.demands.proofs.Works.{one-work}
 use Rattle.demands.proofs.Steady.{lists-stay, answer-short, answer-steps}
-use Rattle.demands.proofs.WriteEnds.{writes-take}
+use Rattle.demands.proofs.WriteEnds.{writes-take, ends-tell}
 use Rattle.demands.proofs.AbandonedWrites.{abandon-tells, idle-unmarked}
 use Rattle.demands.proofs.Seen.{inserted, deleted, keeps}
 use Rattle.rules.specs.Work.{listWithin, askOf, asking, readOf}
@@ -271,6 +271,7 @@ corollaries h = record {
   counts-fit = counts-fit h;
   none-twice = none-twice h;
   writes-take = writes-take h;
+  ends-tell = ends-tell h;
   abandon-tells = abandon-tells h;
   idle-unmarked = idle-unmarked h;
   inserts-seen = inserts-seen h;

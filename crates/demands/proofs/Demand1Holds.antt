@@ -31,7 +31,7 @@ use Rattle.rules.specs.History.{Call, begin, step, abandon, evictAnswer, evictN
 use Rattle.rules.specs.Sound.{Sound, Busy}
 use Rattle.rules.proofs.PassedChecks.{open-passed, begin-passed, step-passed, abandon-passed, evict-answer-passed, evict-node-passed, renew-passed}
 use Rattle.rules.proofs.WorkLaws.{read-label-wide, write-label-wide}
-use Rattle.rules.proofs.ClientLaws.{list-room}
+use Rattle.rules.proofs.ClientLaws.{list-room, wrote-wide}
 use Rattle.records.proofs.RecordLists.{list-numbers}
 use Rattle.records.proofs.RecordWrites.{of-width, effect-wide, effect-few}
 use Rattle.refinement.proofs.ClientPhases.{fits-at, begun-left}
@@ -43,7 +43,7 @@ use Rattle.refinement.proofs.RefusedCalls.{IsCode, begin-coded, step-low, aband
 use Rattle.demands.specs.Demand1.{Unaltered, Leaves, trayOf, Demand1}
 use Rattle.demands.proofs.UnalteredMemories.{unaltered-same, unaltered-then, unaltered-written, unaltered-set, unaltered-cleared, unaltered-store, unaltered-answers}
 use Rattle.demands.proofs.UnalteredMemories.{AllUnaltered, all-same, all-now, all-store, all-filed, all-table, sized-in, wide-held, wide-filed-in}
-use Rattle.demands.proofs.UnalteredMemories.{AllSized, sized-evict, sized-ensured, sized-announced, sized-retired, stepped-wide, noted-wide, wrote-wide, holding-wide, idle-wide}
+use Rattle.demands.proofs.UnalteredMemories.{AllSized, sized-evict, sized-ensured, sized-announced, sized-retired, stepped-wide, noted-wide, holding-wide, idle-wide}
 use Rattle.lists.specs.Lists.{flat}
 use Rattle.demands.proofs.CountTray.{count-tray}
 
@@ -247,7 +247,7 @@ module _ (m : Mem) (s : Sound m) (tray : List ℕ) (room : trayLeast ≤ length 
       (λ t. rw t (announce-leaves b _ (sized-announced _ _ (write-label-wide w i (let a = f .columns in let c = s .most in omega arith) (ltb-true i n t)) (sized-in m s))))
       (λ t. rw t (byTest (eqb i n)
       (λ u. rw u (write-table-leaves b))
-      (λ u. rw u (raise-leaves b _ _ (sized-retired true _ _ (sized-in m s))))))
+      (λ u. rw u (raise-leaves b _ _ (sized-retired _ _ _ (sized-in m s))))))
 
   progress-leaves : (w : Work) → Busy narrow (shape m) (client m d) w → Leaves narrow (shape m) m tray (progressOf m tray d w)
   unfolding progressOf
@@ -273,7 +273,7 @@ unfolding abandonedOf abandonedWrite untrayed
 abandoned-leaves m d (asking x) s h = accepted-leaves (shape m) m _ [] (all-now (shape m) m m d _ (all-same (shape m) m) (s .long .clients) h idle-wide)
 abandoned-leaves m d (writing w) s h =
     byTest (pastTable w (steps (client m d)))
-    (λ t. rw t (retire-leaves m d _ _ (end-went (client m d)) s h (sized-retired true _ _ (sized-in m s))))
+    (λ t. rw t (retire-leaves m d _ _ (end-went (client m d)) s h (sized-retired _ _ _ (sized-in m s))))
     (λ t. rw t (retire-leaves m d _ _ accepted-went s h (sized-retired false _ _ (sized-in m s))))
 
 pub abandon-leaves : (m : Mem) (d : ℕ) → Leaves narrow (shape m) m [] (untrayed (abandonResult m d))

@@ -30,7 +30,8 @@ use Rattle.demands.specs.Demand2.{Reads, GetsIt}
 use Rattle.demands.proofs.HistoryRuns.{responseAt, sound, transition-at}
 use Rattle.demands.proofs.Moments.{reader-there, fetching}
 use Rattle.demands.proofs.Taken.{fetch-step, fetch-accepted, fetch-gave, Gave}
-use Rattle.demands.proofs.Flags.{flagsAt, quiescent-at, since-phase, on-client}
+use Rattle.demands.proofs.Flags.{flagsAt, quiescent-at, since-phase, on-client, quiet-on}
+use Rattle.demands.proofs.EndsUnchanged.{none-since, calm-since}
 use Rattle.demands.proofs.Filings.{step-reply, step-call, on-file}
 use Rattle.rules.specs.Work.{Ask, readLabels, askIn, askKey}
 use Rattle.rules.specs.History as rules
@@ -64,6 +65,7 @@ demand-2-gets h q b n e x b′ f y last c lb lf either k =
     let w = x .within in
     let s = sound h n (omega arith) in
     let z = fetching m d q (s .fits) (x .fetches) in
+    let calm = calm-since h q c b n (omega arith) k in
     let since = since-phase h q d b n (x .request) (omega arith) (x .runs) (ap phaseWork (z .phase)) in
     let step = fetch-step m (x .tray) d q (x .takes) (x .fetches) in
     let i = fetchPlace narrow (length (readLabels q)) (entryOf (client m d)) (answersIn narrow (m .answers)) in
@@ -73,8 +75,9 @@ demand-2-gets h q b n e x b′ f y last c lb lf either k =
     let a = gets (stateOf m) (flagsAt h n) (s .good .inv) (quiescent-at h n (omega arith)) o (ap isRefused r ∙ fetch-accepted (shape m) _ m (x .tray) d i)
     q (z .revs) (z .saw) (z .phase) (z .all) (ansOf (shape m) e) (on-file-there m e (x .place) (x .there) (x .is))
     (its-key m d q (length (readLabels q)) e (s .fits) (x .fetches) (x .key))
-    (on-client h q d b n c since lb k n (x .runs .earlier) (omega arith))
-    (on-file h q b′ f n c (omega arith) y last lf k n (last .0) (omega arith)) in
+    (quiet-on h q d b n since (none-since h q c b n (omega arith) lb k) n (x .runs .earlier) (omega arith))
+    (on-client h q d b n c since lb calm n (x .runs .earlier) (omega arith))
+    (on-file h q b′ f n c (omega arith) y last lf calm n (last .0) (omega arith)) in
     let g : Gave (shapeAt h) (x .tray) e (fetchResult m (x .tray) d i) = subst (λ sh. Gave sh (x .tray) e (fetchResult m (x .tray) d i)) (s .shape)
     (fetch-gave m (x .tray) d _ i e (s .fits) refl (sym r ∙ a ∙ ap (λ v. machine.answered v true) (its-list (shape m) e))) in
     let reply : resultAt h n ≡ fetchResult m (x .tray) d i = fetched h n d (x .tray) (x .calls) ∙ step in

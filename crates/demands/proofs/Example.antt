@@ -37,9 +37,10 @@ use Rattle.machine.specs.Machine.{sameAsk, sameShape, sameQuery, sameColumn, sa
 use Rattle.machine.proofs.Asks.{sameAsk-eq}
 use Rattle.refinement.proofs.ClientPhases.{asking-at}
 use Rattle.demands.specs.WholeHistory.{History, memAt, callAt, resultAt, acceptedAt, endsWork, endsAt, UnderWay}
-use Rattle.demands.specs.Demand2.{isOpen, noneOpen, isQuiet, stillThere, keepsNodes, Quiescent, Reads, Filed, Fetches, LastFiled}
+use Rattle.demands.specs.Demand2.{isOpen, noneOpen, isQuiet, stillThere, keepsNodes, AllQuiet, Reads, Filed, Fetches, LastFiled}
 use Rattle.demands.proofs.HistoryRuns.{next-mem}
 use Rattle.demands.proofs.Demand2Holds.{demand-2-gets}
+use Rattle.demands.proofs.EndsUnchanged.{quiet-suffices}
 use Rattle.rules.specs.Work.{Ask, askFault, listWithin, readOf, ofRecords, valueOf, mayAnswer, readLabels, askKey, askIn, kindOf, keyOf, workIn, workFault, stepsInAll, isWrite, askOf, workOf, faultOf}
 use Rattle.rules.specs.Work.{asking, ofNumber}
 
@@ -279,9 +280,9 @@ last-filed = (
       true≢false (sym (may-file g b x) ∙ not-true _ y)),
 )
 
-was-quiescent : Quiescent example q 0 9
+was-quiet : AllQuiet example q 0 9
 unfolding quiescentAt resultAt
-was-quiescent = record {
+was-quiet = record {
   quiet = λ i l m. and-left (isQuiet q (memAt example i)) _ (at i (omega arith) .quiescent);
   kept = λ i l m. rw (next-mem example i (omega arith)) (and-right (isQuiet q (memAt example i)) _ (at i (omega arith) .quiescent));
 }
@@ -290,5 +291,5 @@ was-quiescent = record {
 pub case-6 : resultAt example 9 .out ≡ Answered 0 true
 unfolding valueIn
 case-6 =
-    demand-2-gets example q 6 9 e fetched 0 5 was-filed last-filed 0 (omega arith) (omega arith) (inr refl) was-quiescent .0
+    demand-2-gets example q 6 9 e fetched 0 5 was-filed last-filed 0 (omega arith) (omega arith) (inr refl) (quiet-suffices example q 0 6 9 (omega arith) was-quiet) .0
     ∙ ap (λ n. Answered n true) (filed-there .none)

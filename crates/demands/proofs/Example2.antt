@@ -38,9 +38,10 @@ use Rattle.machine.specs.Machine.{sameAsk, sameShape, sameQuery, sameColumn, sa
 use Rattle.machine.proofs.Asks.{sameAsk-eq}
 use Rattle.refinement.proofs.ClientPhases.{asking-at}
 use Rattle.demands.specs.WholeHistory.{History, memAt, callAt, resultAt, acceptedAt, endsWork, endsAt, UnderWay}
-use Rattle.demands.specs.Demand2.{isOpen, noneOpen, isQuiet, stillThere, keepsNodes, Quiescent, Reads, Filed, Fetches, LastFiled}
+use Rattle.demands.specs.Demand2.{isOpen, noneOpen, isQuiet, stillThere, keepsNodes, Quiescent, AllQuiet, Reads, Filed, Fetches, LastFiled}
 use Rattle.demands.proofs.HistoryRuns.{next-mem}
 use Rattle.demands.proofs.Demand2WholeHolds.{demand-2}
+use Rattle.demands.proofs.EndsUnchanged.{quiet-suffices}
 use Rattle.rules.specs.Work.{Ask, askFault, listWithin, readOf, insertOf, ofRecords, valueOf, mayAnswer, readLabels, writeLabels, askKey, askIn, changeKind, kindOf, keyOf, changeIn, writeIn}
 use Rattle.rules.specs.Work.{workIn, workFault, stepsInAll, isWrite, askOf, workOf, faultOf, asking, ofNumber}
 
@@ -297,9 +298,9 @@ last-filed = (
       true≢false (sym (may-file g b x) ∙ not-true _ y)),
 )
 
-was-quiescent : Quiescent example q 10 20
+was-quiet : AllQuiet example q 10 20
 unfolding quiescentAt resultAt
-was-quiescent = record {
+was-quiet = record {
   quiet = λ i l m. let z = at i (omega arith) .quiescent in and-left (isQuiet q (memAt example i)) _ (rw (lt-leb i 10 l) at z);
   kept = λ i l m. let z = at i (omega arith) .quiescent in
       rw (next-mem example i (omega arith)) (and-right (isQuiet q (memAt example i)) _ (rw (lt-leb i 10 l) at z));
@@ -312,5 +313,5 @@ mixed-reads =
     let g = demand-2 example .gets-filed q 10 20 e fetched in
     let o = g .only 11 18 was-filed last-filed in
     let b : min 10 (g .begun) ≡ 10 = let i = o .0 in omega arith in
-    let z = g .gets (subst (λ c. Quiescent example q c 20) (sym b) was-quiescent) in
+    let z = g .gets (subst (λ c. Quiescent example q c 10 20) (sym b) (quiet-suffices example q 10 10 20 (omega arith) was-quiet)) in
     (z .0 ∙ ap (λ n. Answered n true) (filed-there .count), z .1 ∙ ap (written tray 0) (filed-there .list))

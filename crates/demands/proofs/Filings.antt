@@ -1,5 +1,5 @@
--- Which calls file an answer: the machine's say (files) and demand 2's (Filed) are the same, and demand 2's condition makes the flag of the
--- answer on file true from its filing on (on-file). Leans on LogPlaces, Moments, Taken and Flags. Assumes nothing.
+-- Which calls file an answer: the machine's say (files) and demand 2's (Filed) are the same, and what demand 2's condition comes to makes
+-- the flag of the answer on file true from its filing on (on-file). Leans on LogPlaces, Moments, Taken and Flags. Assumes nothing.
 use mathlib.Core.Path.{_≡_, refl, sym, ap, _∙_, subst}
 use mathlib.Core.Bool.{true, false, not, false≢true}
 use mathlib.Core.List.{List}
@@ -25,13 +25,13 @@ use Rattle.machine.proofs.Quiescence.{quiescent, filesAt, files, clientOf, quie
 use Rattle.machine.proofs.Frames.{phaseWork}
 use Rattle.refinement.proofs.Abstraction.{stateOf, callOf, responseOf, countsAt}
 use Rattle.demands.specs.WholeHistory.{shapeAt, History, memAt, callAt, resultAt}
-use Rattle.demands.specs.Demand2.{Quiescent, Filed, LastFiled}
+use Rattle.demands.specs.Demand2.{Filed, LastFiled}
 use Rattle.demands.proofs.HistoryRuns.{responseAt, logTo, sound}
 use Rattle.demands.proofs.LogPlaces.{read-places}
 use Rattle.demands.proofs.Moments.{filing-there, files-there}
 use Rattle.demands.proofs.Taken.{step-taken, file-step, file-accepted}
 use Rattle.demands.proofs.Works.{Since}
-use Rattle.demands.proofs.Flags.{flagsAt, quiescent-then, quiescent-less, since-phase, on-client}
+use Rattle.demands.proofs.Flags.{flagsAt, Calm, quiescent-then, calm-less, since-phase, on-client}
 use Rattle.query.specs.Shape.{Shape}
 use Rattle.rules.specs.Layout.{maxClients}
 use Rattle.rules.specs.History as rules
@@ -142,7 +142,7 @@ since-filed h q b f l x =
     let z = filing-there (memAt h f) (x .client) q (s .fits) (x .files) in
     since-phase h q (x .client) b f (x .request) (omega arith) (x .runs) (ap phaseWork (z .2))
 
-filed-now : (h : History) (q : Ask) (b f n c : ℕ) → n ≤ length (h .calls) → f < n → Filed h q b f → c ≤ b → Quiescent h q c n
+filed-now : (h : History) (q : Ask) (b f n c : ℕ) → n ≤ length (h .calls) → f < n → Filed h q b f → c ≤ b → Calm h q c n
     → flagsAt h (suc f) .onFile q ≡ true
 unfolding flagsAt
 filed-now h q b f n c w l x le k =
@@ -156,10 +156,10 @@ filed-now h q b f n c w l x le k =
     ∙ file-accepted (shape m) _ m (x .tray) d (entryOf (client m d)) in
     filed-flag (stateOf m) (stateOf (memAt h (suc f))) (flagsAt h f) (callOf (shapeAt h) (callAt h f)) (responseAt h f) q d (step-call (shapeAt h) (callAt h f) d (x .tray) (x .calls))
     (files-now (shapeAt h) (stateOf m) (callAt h f) (responseAt h f) q d (x .tray) (z .0) (z .1) (x .calls) r (z .2))
-    (on-client h q d b f c (since-filed h q b f (omega arith) x) le (quiescent-less h q c n f k (omega arith)) f early (omega arith))
+    (on-client h q d b f c (since-filed h q b f (omega arith) x) le (calm-less h q c n f k (omega arith)) f early (omega arith))
     (quiescent-then h q c n f k (omega arith) l)
 
-pub on-file : (h : History) (q : Ask) (b f n c : ℕ) → n ≤ length (h .calls) → Filed h q b f → LastFiled h q f n → c ≤ b → Quiescent h q c n
+pub on-file : (h : History) (q : Ask) (b f n c : ℕ) → n ≤ length (h .calls) → Filed h q b f → LastFiled h q f n → c ≤ b → Calm h q c n
     → (i : ℕ) → f < i → i ≤ n → flagsAt h i .onFile q ≡ true
 unfolding flagsAt
 on-file h q b f n c w x y le k zero l m = absurd (omega arith)

@@ -30,7 +30,10 @@ pub mod NotesKept
 pub mod StepsOfReads
 pub mod StepsOfWrites
 pub mod WriteEnds
+pub mod Raisings
+pub mod EndsUnchanged
 pub mod AbandonedWrites
 pub mod Demand2WholeHolds
 pub mod Example2
 pub mod ExampleZero
+pub mod ExampleUnchanged

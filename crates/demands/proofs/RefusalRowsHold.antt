@@ -22,7 +22,7 @@ use Rattle.rules.specs.Work.{Ask, Value, readLabels, mayAnswer, Write, writeLab
 use Rattle.rules.specs.Table.{target}
 use Rattle.rules.specs.Nodes.{Words, Store, isWorn}
 use Rattle.rules.specs.Answers.{keyIn}
-use Rattle.rules.specs.Client.{Client, kind, steps, sawPending, foundFull, entryOf, isIdle, isBad, workAt}
+use Rattle.rules.specs.Client.{Client, kind, steps, sawPending, didChange, foundFull, entryOf, isIdle, isBad, workAt}
 use Rattle.rules.specs.Memory.{Mem, storeIn, answersIn}
 use Rattle.rules.specs.declared.Outcome.{Outcome}
 use Rattle.rules.specs.Outcome.{Result, number}
@@ -33,7 +33,7 @@ use Rattle.rules.specs.Calls.{unless, openResult, beginResult, stepResult, past
 use Rattle.rules.specs.History.{Call, begin, step, abandon, evictAnswer, evictNode, renew, untrayed, callResult, isAccepted}
 use Rattle.rules.proofs.WorkLaws.{write-labels-some, write-label-wide, target-length}
 use Rattle.refinement.proofs.RefusedCalls.{begin-code}
-use Rattle.demands.proofs.NodeFaults.{isNone, look-none, mark-none, raise-none, retired-none, marks-apart, raises-apart}
+use Rattle.demands.proofs.NodeFaults.{isNone, look-none, mark-none, raise-none, retired-none, released-none, marks-apart, raises-apart}
 use Rattle.demands.specs.RefusalRows.{Row, firstOf, someApplies, isThere, isBusy, isUnsoundAt, isUnsoundAbandoned, isLongAt, isFullAt, isFullAbandoned}
 use Rattle.demands.specs.RefusalRows.{openRows, beginRows, stepRows, endRows, abandonRows, abandonEndRows, evictAnswerRows, evictNodeRows, renewRows, rowsOf, endsOf, Gives, RefusalRows, Smallest, SmallestGiven, hasReversed, IsReversedBegin, OnlyReversed, GivenNoLonger}
 
@@ -261,7 +261,7 @@ table-number m tray d x v =
 
 -- the number of work under way, by the rows that are behind its desk's
 abbrev underWay : Mem → ℕ → Work → ℕ → ℕ
-underWay m d w i = cond (isUnsoundAt m w i) 3 (cond (isLongAt m w i) 12 (cond (isFullAt (client m d) w i) 13 0))
+underWay m d w i = cond (isUnsoundAt m (client m d) w i) 3 (cond (isLongAt m w i) 12 (cond (isFullAt (client m d) w i) 13 0))
 
 read-number : (m : Mem) (tray : List ℕ) (d : ℕ) (x : Ask) (i : ℕ) → number (readResult m tray d x i .out) ≡ underWay m d (asking x) i
 unfolding readResult isUnsoundAt isLongAt isFullAt fileResult answered number
@@ -300,7 +300,7 @@ write-number m tray d w i k =
     (λ t. let g = ltb-false i n t in rw t (byTest (eqb i n)
     (λ u. let l = eqb-true i n u in rw (u, ne-eqb i (n + n) (λ e. omega arith), le-ltb n i (omega arith)))
     (λ u. let o : i ≡ n → ⊥ = eqb-false i n u in
-    rw (u, lt-ltb n i (omega arith), ← raise-none (getD (writeLabels w) (i - (n + 1)) []) s) (raise-number m tray d (eqb i (n + n)) _))))
+    rw (u, lt-ltb n i (omega arith), ← raise-none (didChange (client m d)) (getD (writeLabels w) (i - (n + 1)) []) s) (raise-number m tray d (eqb i (n + n)) _))))
 
 -- a write's target has the hall's columns
 abbrev OfHall : Shape → Work → Type 0
@@ -388,7 +388,7 @@ unfolding endOf number
 end-number c = byTest (foundFull c) (λ e. rw e) (λ e. rw e)
 
 abbrev abandonedAt : Mem → ℕ → Work → ℕ → ℕ
-abandonedAt m d w i = cond (isUnsoundAbandoned m w i) 3 (cond (isFullAbandoned (client m d) w i) 13 0)
+abandonedAt m d w i = cond (isUnsoundAbandoned m (client m d) w i) 3 (cond (isFullAbandoned (client m d) w i) 13 0)
 
 abandoned-number : (m : Mem) (d : ℕ) (w : Work) → number (abandonedOf m d w .out) ≡ abandonedAt m d w (steps (client m d))
 unfolding abandonedOf abandonedWrite isUnsoundAbandoned isFullAbandoned number
@@ -397,8 +397,8 @@ abandoned-number m d (writing w) =
     let i : ℕ = steps (client m d) in
     let s : Store = storeIn narrow (m .nodes) in
     byTest (pastTable w i)
-    (λ e. rw (e, ← retired-none true (labelsLeft w i) s (raises-apart w i), ← end-number (client m d)) (retire-number m d _ _))
-    (λ e. rw (e, ← retired-none false (announcedLabels w i) s (marks-apart w i)) (retire-number m d _ _))
+    (λ e. rw (e, ← retired-none (didChange (client m d)) (labelsLeft w i) s (raises-apart w i), ← end-number (client m d)) (retire-number m d _ _))
+    (λ e. rw (e, ← released-none (announcedLabels w i) s (marks-apart w i)) (retire-number m d _ _))
 
 abandon-number : (m : Mem) (d : ℕ) → number (abandonResult m d .out) ≡ cond (eqb (abandonCode m d) 0) (number (abandoned m d .out)) (abandonCode m d)
 unfolding abandonResult unless number
@@ -412,7 +412,7 @@ abandon-first m d =
     let i : ℕ = steps (client m d) in
     abandon-number m d
     ∙ stepping (isShort narrow (shape m) m) (isUnsound m) (noClient d) (isBad narrow (shape m) (client m d)) (isIdle narrow (client m d))
-    (isUnsoundAbandoned m w i) false (isFullAbandoned (client m d) w i) (number (abandoned m d .out)) (λ u. abandoned-number m d w)
+    (isUnsoundAbandoned m (client m d) w i) false (isFullAbandoned (client m d) w i) (number (abandoned m d .out)) (λ u. abandoned-number m d w)
     ∙ rw (and-false (isBusy m d)) refl
 
 abandon-rising : (m : Mem) (d : ℕ) → Rising (abandonRows m d ++ abandonEndRows m d)

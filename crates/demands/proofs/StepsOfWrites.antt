@@ -1,15 +1,15 @@
 -- Demand 2 of the steps of a write: what its table step does to the table's records, that no other call changes them, and the nodes that it
--- marks and raises. Leans on StepsMade, NodeChanges, WriteEffects and machine's Transition. Assumes nothing.
+-- marks and raises (how it raises them is in Raisings). Leans on StepsMade, NodeChanges, WriteEffects and machine's Transition. Assumes nothing.
 use mathlib.Core.Path.{_≡_, refl, sym, ap, _∙_, subst}
 use mathlib.Core.Logic.{inl, inr}
 use mathlib.Core.Bool.{Bool, true, false, not, false≢true, true≢false}
-use mathlib.Core.List.{List, [], _∷_}
+use mathlib.Core.List.{List, []}
 use mathlib.Core.Option.{Option, none, some}
 use Prim.Native.Nat.{ℕ, suc, _+_, _-_, _^_, _≤_, _<_}
 use native.Mathlib.Omega.{arith}
 use lib.Dec.{eqb}
 use lib.ListN.{length, getD}
-use borrow.Author.Tests.{lt-ltb, le-ltb, eq-eqb, ne-eqb, eqb-true, eqb-false}
+use borrow.Author.Tests.{lt-ltb, le-ltb, eq-eqb, eqb-true, eqb-false}
 use Rattle.laws.proofs.TestLaws.{byTest}
 use Rattle.query.specs.Query.{Record, Label, writeNode, writeCount}
 use Rattle.query.specs.Encoding.{queryOf, recordOf, labelWords, labelWidth}
@@ -19,11 +19,11 @@ use Rattle.query.proofs.Agreement.{write-node-edge, write-edge-node}
 use Rattle.rules.specs.Layout.{maxNodes}
 use Rattle.rules.specs.Table.{Table, Change, insert, delete, target, has, effect, isFull, noRoom}
 use Rattle.rules.specs.Nodes.{Words, Store, isPresent, nodeOf, revision, pending, announced, retired}
-use Rattle.rules.specs.Client.{steps, idle, stepped, wrote}
+use Rattle.rules.specs.Client.{steps, stepped, wrote}
 use Rattle.rules.specs.Memory.{Mem, recordsIn, storeIn}
 use Rattle.rules.specs.Outcome.{StepResult}
 use Rattle.rules.specs.Refusals.{shape, columns, client}
-use Rattle.rules.specs.Steps.{nowAt, announceResult, writeTableResult, raiseResult, writeResult}
+use Rattle.rules.specs.Steps.{nowAt, announceResult, writeTableResult, writeResult}
 use Rattle.rules.specs.Sound.{Busy}
 use Rattle.rules.specs.Work.{Write, writeLabels, Work, asking, writing, Request, readOf, insertOf, deleteOf, workOf}
 use Rattle.rules.proofs.WorkLaws.{length-writeLabels, write-label-at, write-label-wide}
@@ -41,14 +41,13 @@ use Rattle.refinement.proofs.Abstraction.{stateOf, callOf, Fits}
 use Rattle.refinement.proofs.MemoryReads.{length-records, records-held, rows-held, records-with}
 use Rattle.demands.specs.WholeHistory.{History, shapeAt, memAt, callAt, resultAt, acceptedAt, StepOf}
 use Rattle.demands.specs.Corollaries.{tableAt, Begins, inserting, deleting}
-use Rattle.demands.specs.Demand2Whole.{nodesAt, revisionAt, Inserts, Deletes, WritesTable, OnlyWrites, Marks, MarksSet, Raises, RaisesMade, MarkedNodes, RaisedNodes}
+use Rattle.demands.specs.Demand2Whole.{nodesAt, Inserts, Deletes, WritesTable, OnlyWrites, Marks, MarksSet, MarkedNodes, RaisedNodes}
 use Rattle.demands.proofs.HistoryRuns.{responseAt, logTo, sound, next-mem, transition-at}
 use Rattle.demands.proofs.LogPlaces.{accepted-at, Begun, under-places}
 use Rattle.demands.proofs.Works.{Since}
 use Rattle.demands.proofs.Demand3Holds.{table-is}
 use Rattle.demands.proofs.WriteEffects.{of, write-begins}
 use Rattle.demands.proofs.NodeChanges.{marked, marked-new, TakenOff, taken-off}
-use Rattle.machine.proofs.PendingLabels.{one-self}
 use Rattle.revisions.specs.EffectiveRevision.{tally, lifts}
 use Rattle.demands.proofs.StepsMade.{Under, under-step, keeps-since, write-at, step-before, no-twice, not-refused, nodes-after, few-nodes, nodes-count, madeIn, made-since}
 use Rattle.rules.specs.History as rules
@@ -59,7 +58,7 @@ use Rattle.machine.specs.Transition
 pub since-under : (h : History) (r : Request) (w : Change) → Begins r w → (d b n : ℕ) → Under h r d b n → Since h (writing (of h w)) d b n
 since-under h r w B d b n u = record { request = r; is = write-begins h r w B; within = u .0; runs = u .1 }
 
-writer : (h : History) (r : Request) (w : Change) → Begins r w → (d b n : ℕ) → Under h r d b n
+pub writer : (h : History) (r : Request) (w : Change) → Begins r w → (d b n : ℕ) → Under h r d b n
     → Busy narrow (shape (memAt h n)) (client (memAt h n) d) (writing (of h w))
 writer h r w B d b n u = keeps-since h (writing (of h w)) d b n _ (since-under h r w B d b n u) refl .busy
 
@@ -172,21 +171,7 @@ marks-set h r w B d b n i l s =
     (write-at h r (of h w) d b n i (write-begins h r w B) s ∙ mark-of m (s .tray) d (of h w) i (omega arith)
     ∙ ap (λ q. announceResult m (s .tray) d (announced narrow q (nodesAt h n))) (k .0))
 
--- ---- A raise
-raise-of : (m : Mem) (tray : List ℕ) (d : ℕ) (w : Write) (i j : ℕ) → i ≡ length (writeLabels w) + 1 + j
-    → writeResult m tray d w i
-    ≡ raiseResult m tray d (eqb i (length (writeLabels w) + length (writeLabels w))) (retired narrow true (getD (writeLabels w) j [] ∷ []) (storeIn narrow (m .nodes)))
-unfolding writeResult
-raise-of m tray d w i j e =
-    let z : i - (length (writeLabels w) + 1) ≡ j = omega arith in
-    rw (le-ltb i (length (writeLabels w)) (omega arith), ne-eqb i (length (writeLabels w)) (λ y. omega arith), z) refl
-
-raised-nodes : (m : Mem) (tray : List ℕ) (d : ℕ) (isLast : Bool) (t : Store) → Fits m → AllRows (t .nodes) → length (t .nodes) ≤ maxNodes
-    → storeIn narrow (raiseResult m tray d isLast (some t) .mem .nodes) ≡ t
-unfolding raiseResult
-raised-nodes m tray d true t f r l = nodes-after m t d (idle narrow) f r l
-raised-nodes m tray d false t f r l = nodes-after m t d (stepped (client m d)) f r l
-
+-- ---- Marks taken off
 -- call n, which takes marks off the nodes of these labels and leaves x with the nodes t, takes one off each that stands there once
 abbrev pub Off : History → ℕ → Bool → List Words → Label → Type 0
 Off h n lift ps p = TakenOff (lifts lift ps (labelWords p)) (labelWords p) (nodesAt h n) (nodesAt h (suc n))
@@ -205,32 +190,6 @@ off-in h p n lift ps t x low one e R back =
     let st : nodesAt h (suc n) ≡ t =
     ap (λ (k : Mem). storeIn narrow (k .nodes)) (next-mem h n low ∙ ap (λ (k : StepResult). k .mem) R) ∙ back (S .fits) (A .1) (omega arith) in
     subst (λ y. TakenOff (lifts lift ps w) w (nodesAt h n) y) (sym st) (taken-off lift w ps (nodesAt h n) t one (A .0))
-
--- with a lift it is raised
-pub raises-of : (h : History) (n : ℕ) (ps : List Words) (p : Label) → tally (labelWords p) ps ≡ 1 → Off h n true ps p → Raises h p n
-unfolding lifts
-raises-of h n ps p one o = record { was = o .was; there = o .there; raised = o .raised ∙ ap (λ i. revisionAt h n p + i) one; taken = o .taken }
-
-raise-case : (h : History) (p : Label) (d n : ℕ) (tray : List ℕ) (isLast : Bool) (o : Option Store) → n < length (h .calls) → acceptedAt h n ≡ true
-    → retired narrow true (labelWords p ∷ []) (nodesAt h n) ≡ o → resultAt h n ≡ raiseResult (memAt h n) tray d isLast o → Raises h p n
-unfolding tally
-raise-case h p d n tray isLast none low a e R = not-refused h n (memAt h n) tray a (unfold raiseResult in R)
-raise-case h p d n tray isLast (some t) low a e R =
-    let z = one-self (labelWords p) in
-    let ps : List Words = labelWords p ∷ [] in
-    let y : tally (labelWords p) ps ≡ 1 = omega arith in
-    raises-of h n ps p y (off-in h p n true ps t _ low y e R (raised-nodes (memAt h n) tray d isLast t))
-
-pub raises-made : (h : History) → RaisesMade h
-raises-made h r w B d b n j l s =
-    let m = memAt h n in
-    let i = 2 ^ shapeAt h .columns + 1 + j in
-    let c = count h r w B d b n (under-step s) .0 in
-    let k = node-words h r w B d b n j (under-step s) l in
-    let p = writeNode (target w) j in
-    raise-case h p d n (s .tray) _ (retired narrow true (labelWords p ∷ []) (nodesAt h n)) (s .within) (s .accepted) refl
-    (write-at h r (of h w) d b n i (write-begins h r w B) s ∙ raise-of m (s .tray) d (of h w) i j (omega arith)
-    ∙ ap (λ q. raiseResult m (s .tray) d (eqb i (length (writeLabels (of h w)) + length (writeLabels (of h w)))) (retired narrow true (q ∷ []) (nodesAt h n))) (k .0))
 
 -- ---- All of definition 11's nodes, and no others
 pub node-number : (h : History) (r : Request) (w : Change) → Begins r w → (d b n : ℕ) → Under h r d b n → (p : Label) → E′ (target w) p

@@ -26,7 +26,7 @@ use Rattle.rules.specs.Work.{Value}
 use Rattle.rules.specs.Nodes.{Words, Node, Store, pending, revision, withPending, withRevision, nodePlace, nodeOf, isPresent, withNode, evictNode, added, oldestFree, makeRoom}
 use Rattle.rules.specs.Nodes.{addedIn, ensured, announcedIn, announced, released, lifted, mayRetire, retired}
 use Rattle.rules.specs.Answers.{Entry}
-use Rattle.rules.specs.Client.{Client, idle, stepped, noted, holding, wrote}
+use Rattle.rules.specs.Client.{Client, idle, stepped, noted, holding}
 use Rattle.rules.specs.Memory.{Mem, recordsIn, withRecords, storeIn, withStore, answersIn, withAnswers, withClient, withTable, withFiled, cleared}
 use Rattle.rules.specs.Refusals.{columns, shape}
 use Rattle.rules.specs.Steps.{nowAt, storeBack}
@@ -243,10 +243,6 @@ module _ (c : Client) (w : length c ≡ clientWidth narrow) where
   pub noted-wide : (j r p : ℕ) → length (noted narrow j r p c) ≡ clientWidth narrow
   unfolding noted stepped
   noted-wide j r p = rw (length-set, length-set, length-set) w
-
-  pub wrote-wide : (changed full : Bool) → length (wrote changed full c) ≡ clientWidth narrow
-  unfolding wrote stepped
-  wrote-wide changed full = rw (length-set, length-set, length-set) w
 
   pub holding-wide : (sh : Shape) (v : Value) → length (v .numbers) ≤ listRoom → length (holding narrow sh v c) ≡ clientWidth narrow
   unfolding holding

@@ -24,7 +24,7 @@ use Rattle.rules.specs.Memory.{storeIn}
 use Rattle.rules.specs.Refusals.{form, client}
 use Rattle.rules.specs.Work.{Ask, valueFor, listWithin, asking, Request, readOf, insertOf, deleteOf, workOf}
 use Rattle.demands.specs.WholeHistory.{History, shapeAt, memAt, resultAt, UnderWay, stepsIn, StepOf, AbandonOf}
-use Rattle.demands.specs.Demand2.{Quiescent, Reads, Filed, Fetches, LastFiled, valueAt}
+use Rattle.demands.specs.Demand2.{Quiescent, QuietSuffices, Reads, Filed, Fetches, LastFiled, valueAt}
 use Rattle.demands.specs.Demand3.{AnswerIs}
 use Rattle.demands.specs.Corollaries.{tableAt, Begins, WritesTake}
 
@@ -126,12 +126,21 @@ pub record Marks (h : History) (p : Label) (n : ℕ) : Type 0 where
   pub kept : hasNode h n p ≡ true → revisionAt h (suc n) p ≡ revisionAt h n p
   pub added : hasNode h n p ≡ false → revisionAt h (suc n) p ≡ nodesAt h (suc n) .floor
 
--- call n raises it: "counter up by one, marks down by one"
-pub record Raises (h : History) (p : Label) (n : ℕ) : Type 0 where
+-- call n makes the raise at it of a write whose table step was call t: "counter up by one, marks down by one"; but "after no change, each raise
+-- step takes the mark off and leaves the counter" (S-6)
+pub record Raises (h : History) (p : Label) (t n : ℕ) : Type 0 where
   pub was : hasNode h n p ≡ true
   pub there : hasNode h (suc n) p ≡ true
-  pub raised : revisionAt h (suc n) p ≡ revisionAt h n p + 1
+  pub lifted : (tableAt h (suc t) ≡ tableAt h t → ⊥) → revisionAt h (suc n) p ≡ revisionAt h n p + 1
+  pub left : tableAt h (suc t) ≡ tableAt h t → revisionAt h (suc n) p ≡ revisionAt h n p
   pub taken : pendingAt h (suc n) p + 1 ≡ pendingAt h n p
+
+-- such a write: what call b began by r at desk d, which had made its table step, after its 2^k marks, before call n. There is one such call: a desk
+-- makes each of its steps once
+pub record Tabled (h : History) (r : Request) (d b n : ℕ) : Type 0 where
+  pub at : ℕ
+  pub before : at < n
+  pub steps : StepOf h r d b at (2 ^ shapeAt h .columns)
 
 -- "One look for each node, in order."
 abbrev pub Looks : History → Type 0
@@ -145,7 +154,7 @@ MarksSet h = (r : Request) (w : Change) → Begins r w → (d b n i : ℕ) → i
 
 abbrev pub RaisesMade : History → Type 0
 RaisesMade h = (r : Request) (w : Change) → Begins r w → (d b n j : ℕ) → j < 2 ^ shapeAt h .columns
-    → StepOf h r d b n (2 ^ shapeAt h .columns + 1 + j) → Raises h (writeNode (target w) j) n
+    → StepOf h r d b n (2 ^ shapeAt h .columns + 1 + j) → (t : Tabled h r d b n) × Raises h (writeNode (target w) j) (t .at) n
 
 -- call n takes its mark back: marks down by one, and the counter stays
 pub record TakesBack (h : History) (p : Label) (n : ℕ) : Type 0 where
@@ -163,7 +172,7 @@ MarksBack h = (r : Request) (w : Change) → Begins r w → (d b n i : ℕ) → 
 -- nodes of those stay is in the call's equation
 abbrev pub RaisesLeft : History → Type 0
 RaisesLeft h = (r : Request) (w : Change) → Begins r w → (d b n j : ℕ) → AbandonOf h r d b n (2 ^ shapeAt h .columns + 1 + j)
-    → (i : ℕ) → j ≤ i → i < 2 ^ shapeAt h .columns → Raises h (writeNode (target w) i) n
+    → (t : Tabled h r d b n) × ((i : ℕ) → j ≤ i → i < 2 ^ shapeAt h .columns → Raises h (writeNode (target w) i) (t .at) n)
 
 -- before call n came step `least` + number, with number below count, of what call b began at desk d; its node is p
 pub record Came (h : History) (r : Request) (d b n least count : ℕ) (node : ℕ → Label) (p : Label) : Type 0 where
@@ -176,7 +185,7 @@ pub record Came (h : History) (r : Request) (d b n least count : ℕ) (node : �
 
 -- Past its looks a read has looked at the nodes that definition 11's E'' gives it and at no others, and "For its nodes that [ranged] column
 -- counts as a star" (S-3); past its marks a write has marked those
--- of E', and with its end it has raised them.
+-- of E', and with its end it has made a raise at each of them.
 abbrev pub ReadNodes : History → Type 0
 ReadNodes h = (counts : Bool) (range : Range) (a : List ℕ) (d b n i : ℕ) → StepOf h (readOf counts range a) d b n i → readCount (queryOf a) ≤ i
     → (p : Label) → Came h (readOf counts range a) d b n 0 (readCount (queryOf a)) (readNode (queryOf a)) p ↔ E″ p (starred range (queryOf a))
@@ -192,7 +201,8 @@ RaisedNodes h = (r : Request) (w : Change) → Begins r w → (d b n : ℕ) → 
 -- so has one whose end an abandoning reports: the first j by steps before, the others by that call (S-4)
 abbrev pub AbandonedNodes : History → Type 0
 AbandonedNodes h = (r : Request) (w : Change) → Begins r w → (d b n j : ℕ) → AbandonOf h r d b n (2 ^ shapeAt h .columns + 1 + j) → (p : Label)
-    → (Came h r d b n (2 ^ shapeAt h .columns + 1) j (writeNode (target w)) p ⊎ ((i : ℕ) × (j ≤ i) × (i < 2 ^ shapeAt h .columns) × (writeNode (target w) i ≡ p) × Raises h p n))
+    → (Came h r d b n (2 ^ shapeAt h .columns + 1) j (writeNode (target w)) p
+    ⊎ ((i : ℕ) × (j ≤ i) × (i < 2 ^ shapeAt h .columns) × (writeNode (target w) i ≡ p) × (t : Tabled h r d b n) × Raises h p (t .at) n))
     ↔ E′ (target w) p
 
 -- ---- A list taken, filed
@@ -216,7 +226,8 @@ ListsFiled h = (counts : Bool) (range : Range) (a : List ℕ) (d b n : ℕ) → 
 
 -- ---- The last sentence, with the read that filed the answer found
 -- "A read whose fetch finds a filed answer to its query gets it, if from the earlier of its own begin and the filing read's to that fetch
--- no write meeting the query [S-5: sharing one of the answer's nodes] was open and none of its nodes was put out."
+-- no write meeting the query [S-5: sharing one of the answer's nodes; S-6: other than those that had ended unchanged before that read
+-- began] was open and none of its nodes was put out."
 pub record GetsFiled (h : History) (x : Ask) (b n : ℕ) (e : Entry) (y : Fetches h x b n e) : Type 0 where
   -- the filing read: call `begun` began it, call `by` is its file step, the last that filed under x; it is the only one
   pub begun : ℕ
@@ -226,7 +237,7 @@ pub record GetsFiled (h : History) (x : Ask) (b n : ℕ) (e : Entry) (y : Fetche
   pub only : (b′ f : ℕ) → Filed h x b′ f → LastFiled h x f n → (b′ ≡ begun) × (f ≡ by)
   -- what is on file is what it held, list and revisions
   pub entry : e ≡ entryAt h by (filing .client)
-  pub gets : Quiescent h x (min b begun) n
+  pub gets : Quiescent h x (min b begun) b n
       → (resultAt h n .out ≡ Answered (valueAt h n e .count) true) × (resultAt h n .tray ≡ written (y .tray) 0 (valueAt h n e .numbers))
 
 -- `Fetches` and `Filed` go by what a client keeps. The calls tell the same of what is under way: a read of x that has made i steps.
@@ -260,3 +271,5 @@ pub record Demand2 (h : History) : Type 0 where
   -- "A read whose fetch finds a filed answer to its query gets it, if .."
   pub reads-tell : ReadsTell h
   pub gets-filed : (x : Ask) (b n : ℕ) (e : Entry) (y : Fetches h x b n e) → GetsFiled h x b n e y
+  -- so too where no such write was open at all, which is the sentence as it stood before S-6
+  pub quiet-suffices : QuietSuffices h

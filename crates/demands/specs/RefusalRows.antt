@@ -15,7 +15,7 @@ use Rattle.rules.specs.Layout.{maxNodes, maxPending, maxRevision, trayLeast, no
 use Rattle.rules.specs.Layout.{refusedTaken, refusedIdle, notGiven, refusedNoEntry, refusedPending, refusedWorn, refusedOccupied, refusedReversed, endedLong, endedFull}
 use Rattle.rules.specs.Work.{readLabels, valueOf, mayAnswer, writeLabels, Work, asking, writing, Request, readOf, insertOf, deleteOf, isWrite, faultOf}
 use Rattle.rules.specs.Nodes.{Words, Node, Store, pending, revision, isPresent, nodeOf, isFree, isWorn}
-use Rattle.rules.specs.Client.{Client, steps, foundFull, isIdle, isBad, workAt}
+use Rattle.rules.specs.Client.{Client, steps, didChange, foundFull, isIdle, isBad, workAt}
 use Rattle.rules.specs.Memory.{Mem, recordsIn, storeIn}
 use Rattle.rules.specs.Outcome.{number}
 use Rattle.rules.specs.Refusals.{form, shape, columns, client, isShort, badColumns, isUnsound, noClient, allIdle}
@@ -72,20 +72,21 @@ isFullyPending p s = isPresent p s && leb maxPending (pending (nodeOf p s))
 unfoldable pub isAtLargest : Form → Words → Store → Bool
 isAtLargest f p s = isPresent p s && leb (maxRevision f) (revision f (nodeOf p s))
 
--- "a raise .. finds its node missing or unmarked", or "a counter at its largest to raise"
-unfoldable pub cannotRaise : Form → Words → Store → Bool
-cannotRaise f p s = isMissingOrFree p s || isAtLargest f p s
+-- "a raise .. finds its node missing or unmarked", or "a counter at its largest to raise": one that "leaves the counter" (S-6) has none to raise
+unfoldable pub cannotRaise : Form → Bool → Words → Store → Bool
+cannotRaise f lift p s = isMissingOrFree p s || (lift && isAtLargest f p s)
 
 -- What step i of some work may find: a look "no unmarked node to put out"; a mark that, or "marks at 12 or more to add to"; a raise what is
--- said above; the other steps nothing. In a row this is asked of a busy desk only (`isBusy`), so 3 at a node never applies together with 4 or 6.
-unfoldable pub isUnsoundAt : Mem → Work → ℕ → Bool
-isUnsoundAt m (asking x) i = ltb i (length (readLabels x)) && hasNoRoom (getD (readLabels x) i []) (storeIn (form m) (m .nodes))
-isUnsoundAt m (writing w) i =
+-- said above, and whether it lifts the counter is what the client c keeps of its table step; the other steps nothing. In a row this is asked of a
+-- busy desk only (`isBusy`), so 3 at a node never applies together with 4 or 6.
+unfoldable pub isUnsoundAt : Mem → Client → Work → ℕ → Bool
+isUnsoundAt m c (asking x) i = ltb i (length (readLabels x)) && hasNoRoom (getD (readLabels x) i []) (storeIn (form m) (m .nodes))
+isUnsoundAt m c (writing w) i =
     let s : Store = storeIn (form m) (m .nodes) in
     let n : ℕ = length (writeLabels w) in
     let p : Words = getD (writeLabels w) i [] in
     let q : Words = getD (writeLabels w) (i - (n + 1)) [] in
-    cond (ltb i n) (hasNoRoom p s || isFullyPending p s) (ltb n i && cannotRaise (form m) q s)
+    cond (ltb i n) (hasNoRoom p s || isFullyPending p s) (ltb n i && cannotRaise (form m) (didChange c) q s)
 
 -- some label's node is so, of the nodes as the call finds them
 unfoldable pub someOf : (Words → Store → Bool) → List Words → Store → Bool
@@ -94,12 +95,12 @@ someOf test (p ∷ ps) s = test p s || someOf test ps s
 
 -- What an abandoning of work of i steps may find: "A writer before its table step takes back the marks it has set", and "the taking back of a
 -- mark finds its node missing or unmarked", at any of them; after it, it "performs all remaining raises" (S-4), and any of these may find what
--- a raise finds.
-unfoldable pub isUnsoundAbandoned : Mem → Work → ℕ → Bool
-isUnsoundAbandoned m (asking x) i = false
-isUnsoundAbandoned m (writing w) i =
+-- a raise finds, by what the client c keeps.
+unfoldable pub isUnsoundAbandoned : Mem → Client → Work → ℕ → Bool
+isUnsoundAbandoned m c (asking x) i = false
+isUnsoundAbandoned m c (writing w) i =
     let s : Store = storeIn (form m) (m .nodes) in
-    cond (pastTable w i) (someOf (cannotRaise (form m)) (labelsLeft w i) s) (someOf isMissingOrFree (announcedLabels w i) s)
+    cond (pastTable w i) (someOf (cannotRaise (form m) (didChange c)) (labelsLeft w i) s) (someOf isMissingOrFree (announcedLabels w i) s)
 
 -- ---- 12 and 13
 -- "a read's table step finds over 32 records"; a count "counts past 32 without giving 12" (S-1), which is in `mayAnswer`
@@ -169,7 +170,7 @@ stepRows m tray d =
     ∷ row refusedIdle (isThere d && isIdle (form m) (client m d))
     -- "a raise .. finds its node missing or unmarked; no unmarked node to put out; a counter at its largest to raise; marks at 12 or more to
     -- add to"
-    ∷ row refusedUnsound (isBusy m d && isUnsoundAt m (workAt (shape m) (client m d)) (steps (client m d))) ∷ []
+    ∷ row refusedUnsound (isBusy m d && isUnsoundAt m (client m d) (workAt (shape m) (client m d)) (steps (client m d))) ∷ []
 
 -- "12 and 13 end the work they name": what a step that is not refused may return beside 0
 unfoldable pub endRows : Mem → ℕ → List Row
@@ -194,7 +195,7 @@ abandonRows m d =
     ∷ row refusedIdle (isThere d && isIdle (form m) (client m d))
     -- "a raise or the taking back of a mark finds its node missing or unmarked; .. a counter at its largest to raise", at any of those that are
     -- to be raised (S-4) or whose mark is taken back. 7 has no row: it "is given no longer" (S-4)
-    ∷ row refusedUnsound (isBusy m d && isUnsoundAbandoned m (workAt (shape m) (client m d)) (steps (client m d))) ∷ []
+    ∷ row refusedUnsound (isBusy m d && isUnsoundAbandoned m (client m d) (workAt (shape m) (client m d)) (steps (client m d))) ∷ []
 
 -- what an abandoning that is not refused may return beside 0
 unfoldable pub abandonEndRows : Mem → ℕ → List Row

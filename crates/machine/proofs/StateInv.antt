@@ -24,8 +24,9 @@ use Rattle.machine.specs.Machine.{Response, AskFits, WriteFits}
 use Rattle.machine.proofs.Sums.{upd-same, upd-other, sumBelow-some}
 use Rattle.laws.proofs.Members.{in-none, in-take, in-drop}
 use Rattle.rules.proofs.WorkLaws.{write-labels-some}
+use Rattle.records.proofs.RecordSets.{none-changed, full-unchanged}
 use Rattle.machine.proofs.FiledAnswers.{OneEach, in-filed}
-use Rattle.machine.proofs.PendingLabels.{holds, owes, owing, held-of, held-upd, none-held, reader-holds, reader-owes, tally-take}
+use Rattle.machine.proofs.PendingLabels.{holds, owes, owing, owing-none, held-of, held-upd, none-held, reader-holds, reader-owes, tally-take}
 use Rattle.machine.proofs.PendingLabels.{take-whole, tally-pos, Leaves, one-leaves, all-leave, raise-up, raise-owed, back-up}
 use Rattle.machine.proofs.Frames.{phaseWork, transition-once, transition-one}
 use Rattle.machine.proofs.Moves.{BoundTo, bound-on, IsAns, in-file, in-hand, AnsOk, New, Move, ans-moves, MoveAt, move-at, move-refl}
@@ -41,7 +42,7 @@ Fit sh e (looking q ns saw) = AskFits sh q × (length ns ≤ length (readLabels 
 Fit sh e (tabling q ns saw) = AskFits sh q × BoundTo (length (readLabels q)) e q ns
 Fit sh e (filing q ns l) = AskFits sh q
 Fit sh e (announcing w i) = WriteFits sh w × (i ≤ length (writeLabels w))
-Fit sh e (raising w j c f) = WriteFits sh w × (j < length (writeLabels w))
+Fit sh e (raising w j c f) = WriteFits sh w × (j < length (writeLabels w)) × (f ≡ true → c ≡ false)
 
 pub record StateInv (s : State) : Type 0 where
   pub few : s .shape .columns ≤ maxColumns
@@ -170,7 +171,7 @@ look-fit sh e f q ns saw saw′ l m o =
 
 -- a writer's raises: of one label, or of all that are left
 raise-at : {y : Call} (s : State) (t : Store) (d : ℕ) (w : Write) (j : ℕ) (c f : Bool) (ps : List Words) (x : Phase) → d < maxClients → s .clients d ≡ raising w j c f
-    → isFiling x ≡ false → Retired true ps (s .store) t → Leaves w j ps (holds x) → ((p : Words) → tally p (owes x) ≡ tally p (holds x))
+    → isFiling x ≡ false → Retired c ps (s .store) t → Leaves w j ps (holds x) → ((p : Words) → tally p (owes x) ≡ tally p (owing c (holds x)))
     → Fit (s .shape) (effective t) x
     → Kept s y (at-client (with-store s t) d x)
 unfolding at-client with-store
@@ -181,7 +182,7 @@ raise-at s t d w j c f ps x l e nf m lv ow fi =
         shape = refl;
         clients = refl;
         lists = same-lists s (at-client (with-store s t) d x) refl;
-        mono = λ p. let a = raise-up ps (s .store) t m p in omega arith;
+        mono = λ p. let a = raise-up c ps (s .store) t m p in omega arith;
         owed = λ p a. rw (ow p) (raise-owed s d w j c f t ps (holds x) e lv m p a);
         file = λ q r u a. inl (in-file a);
         hand = λ q r u a. not-filing x nf a;
@@ -192,7 +193,7 @@ raise-at s t d w j c f ps x l e nf m lv ow fi =
 
 -- ---- The one walk
 pub transition-kept : (s : State) {c : Call} {a : Response} {t : State} → StateInv s → Transition s c a t → Kept s c t
-unfolding at-client with-store with-filed with-tab holds owes owing tally grown
+unfolding at-client with-store with-filed with-tab holds owes tally grown
 transition-kept s v (Transition.nothing e) = aside (record { move = move-refl s; clients = refl; pendings = λ p. refl })
 transition-kept s v (Transition.began {d} {q} l e k) =
     quiet-at s (s .store) d (looking q [] false) v l (λ p. omega arith) (λ p. rw e refl) refl (k, omega arith, λ j b. absurd (omega arith)) (λ p. rw e refl)
@@ -260,26 +261,26 @@ transition-kept s v (Transition.wrote {d} {w} {i} l e k) =
         low = l;
         shape = refl;
         clients = refl;
-        lists = λ q z. wrote-lists s t d w c f q z (o .0) l (upd-same (s .clients) d (raising w 0 c f)) refl;
+        lists = λ q z. wrote-lists s t d w c f q z (o .0) l (upd-same (s .clients) d (raising w 0 c f)) refl (none-changed (w .change) (s .tab));
         mono = λ p. omega arith;
         owed = λ p a. let b : tally p (owes (s .clients d)) ≡ 0 = rw e refl in absurd (omega arith);
         file = λ q r u a. inl (in-file a);
         hand = λ q r u a. not-filing (raising w 0 c f) refl a;
       };
-      fit = (o .0, write-labels-some w);
+      fit = (o .0, write-labels-some w, full-unchanged (w .change) (s .tab));
       pendings = λ p. rw e (let a = take-whole p (writeLabels w) i k in omega arith);
     })
 transition-kept s v (Transition.raised {d} {w} {j} {c} {f} {t} l e k m) =
     let o = fit-at s d (raising w j c f) v e in
-    raise-at s t d w j c f _ (raising w (suc j) c f) l e refl m (one-leaves w j (o .1)) (λ p. refl) (o .0, k)
+    raise-at s t d w j c f _ (raising w (suc j) c f) l e refl m (one-leaves w j (o .1)) (λ p. refl) (o .0, k, o .2)
 transition-kept s v (Transition.last {d} {w} {j} {c} {f} {t} l e k m) =
     let o = fit-at s d (raising w j c f) v e in
     let z : drop (suc j) (writeLabels w) ≡ [] = drop-of-length-le (writeLabels w) k in
-    raise-at s t d w j c f _ idle l e refl m (subst (Leaves w j (getD (writeLabels w) j [] ∷ [])) z (one-leaves w j (o .1))) (λ p. refl) tt
+    raise-at s t d w j c f _ idle l e refl m (subst (Leaves w j (getD (writeLabels w) j [] ∷ [])) z (one-leaves w j (o .1))) (λ p. sym (owing-none c p)) tt
 transition-kept s v (Transition.abandoned-read {d} l e) = reader-at s d idle v l e refl tt (λ p. refl)
 transition-kept s v (Transition.abandoned-write {d} {w} {i} {t} l e m) =
     quiet-at s t d idle v l (λ p. let a = back-up (take i (writeLabels w)) (s .store) t m p in omega arith) (λ p. rw e refl) refl tt (λ p. rw e (let a = m .less p in omega arith))
-transition-kept s v (Transition.abandoned-raising {d} {w} {j} {c} {f} {t} l e m) = raise-at s t d w j c f _ idle l e refl m (all-leave w j) (λ p. refl) tt
+transition-kept s v (Transition.abandoned-raising {d} {w} {j} {c} {f} {t} l e m) = raise-at s t d w j c f _ idle l e refl m (all-leave w j) (λ p. sym (owing-none c p)) tt
 transition-kept s v (Transition.evicted-answer {i} l) = aside (record { move = cut-move s i; clients = refl; pendings = λ p. refl })
 transition-kept s v (Transition.evicted-node {t} l m) = aside (record { move = out-move s t m; clients = refl; pendings = m .keep })
 transition-kept s v (Transition.renewed i) = anew (record { idle = i; clients = refl; shape = refl; store = refl; filed = refl })

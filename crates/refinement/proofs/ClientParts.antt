@@ -1,7 +1,7 @@
 -- What the changes of a client do to its parts: kind, steps, flags and entry. Leans on rules' Client and HoldingLaws, and on the laws of
 -- lists. Assumes nothing.
-use mathlib.Core.Path.{_≡_, refl, sym, ap, _∙_}
-use mathlib.Core.Bool.{Bool, true, false, cond, not, _||_, or-true, or-false}
+use mathlib.Core.Path.{_≡_, sym, ap, _∙_}
+use mathlib.Core.Bool.{Bool, false, cond, not, _||_, or-true, or-false}
 use mathlib.Core.List.{List, [], _∷_, _++_}
 use Prim.Native.Nat.{ℕ, suc, _+_, _-_, _≤_, _<_}
 use native.Mathlib.Omega.{arith}
@@ -17,6 +17,7 @@ use Rattle.query.specs.Encoding.{labelWidth, keyWidth}
 use Rattle.query.specs.Shape.{Shape, narrow}
 use Rattle.rules.specs.Work.{Value, Work, kindOf, keyOf}
 use Rattle.rules.specs.Answers.{Entry, keyIn, lengthIn, isCount, mostIn, isLong}
+use Rattle.rules.proofs.ClientLaws.{flag-read}
 use Rattle.rules.specs.Client.{Client, kind, steps, sawPending, didChange, foundFull, entryOf, begun, stepped, flag, noted, holding, wrote}
 use Rattle.rules.specs.Layout.{lookRoom, listOffset, listRoom, entryWidth, clientWidth, notedOffset, heldListOffset}
 use Rattle.rules.proofs.HoldingLaws.{counted, holding-entry, holding-key, long-counted}
@@ -32,11 +33,6 @@ module _ (s : List ℕ) (i x j y l z : ℕ) where
   three-first f g h =
       getD-set-other (set (set s i x) j y) l i z 0 g ∙ getD-set-other (set s i x) j i y 0 f ∙ getD-set-same s i x 0 h
 
-  three-second : (j ≡ l → ⊥) → j < length s → getD (set (set (set s i x) j y) l z) j 0 ≡ y
-  three-second g h =
-      let n = length-set s i x in
-      getD-set-other (set (set s i x) j y) l j z 0 g ∙ getD-set-same (set s i x) j y 0 (omega arith)
-
   three-length : length (set (set (set s i x) j y) l z) ≡ length s
   three-length = length-set (set (set s i x) j y) l z ∙ length-set (set s i x) j y ∙ length-set s i x
 
@@ -49,12 +45,6 @@ pub record Next (c t : Client) : Type 0 where
   pub keys : keyIn (entryOf t) ≡ keyIn (entryOf c)
   pub one : steps t ≡ steps c + 1
   pub wide : length t ≡ clientWidth narrow
-
--- a flag as it is kept
-flag-read : (b : Bool) → not (eqb (flag b) 0) ≡ b
-unfolding flag
-flag-read true = refl
-flag-read false = refl
 
 module _ (c : Client) (w : length c ≡ clientWidth narrow) where
   -- a number in front of the entry
@@ -160,11 +150,6 @@ module _ (c : Client) (w : length c ≡ clientWidth narrow) where
           one = three-first c 1 x 3 (flag changed) 4 (flag full) (λ e. omega arith) (λ e. omega arith) (omega arith);
           wide = three-length c 1 x 3 (flag changed) 4 (flag full) ∙ w;
         }
-
-    pub wrote-change : didChange (wrote changed full c) ≡ changed
-    unfolding wrote didChange stepped
-    wrote-change =
-        ap (λ (x : ℕ). not (eqb x 0)) (three-second c 1 (steps c + 1) 3 (flag changed) 4 (flag full) (λ e. omega arith) (omega arith)) ∙ flag-read changed
 
     pub wrote-full : foundFull (wrote changed full c) ≡ full
     unfolding wrote foundFull stepped

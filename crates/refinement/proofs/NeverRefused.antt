@@ -17,7 +17,7 @@ use Rattle.rules.specs.declared.Outcome.{Outcome}
 use Rattle.rules.specs.declared.Outcome.the-variants.{Refused, Accepted, Answered, Long}
 use Rattle.rules.specs.Work.{Ask, Value, Work, asking, writing, Write, readLabels, writeLabels, mayAnswer}
 use Rattle.rules.specs.Nodes.{Words, Store, ensured, announced, retired}
-use Rattle.rules.specs.Client.{Client, sawPending, foundFull, entryOf, isIdle}
+use Rattle.rules.specs.Client.{Client, sawPending, didChange, foundFull, entryOf, isIdle}
 use Rattle.rules.specs.Memory.{Mem, storeIn, withStore, answersIn, renewed}
 use Rattle.rules.specs.Refusals.{columns, client, shape, stepCode, beginCode, abandonCode, evictAnswerCode, evictNodeCode, renewCode}
 use Rattle.rules.specs.Outcome.{Result, result, StepResult, resultWith, number}
@@ -31,7 +31,7 @@ use Rattle.rules.proofs.WorkLaws.{read-label-wide, write-label-wide}
 use Rattle.revisions.specs.EffectiveRevision.{NoDup}
 use Rattle.revisions.proofs.NodeRows.{AllRows, Each}
 use Rattle.revisions.proofs.NodeOperations.{EnsuredOk, ensured-ok, AnnouncedOk, announced-ok, RetiredOk, retired-ok, evict-ok}
-use Rattle.revisions.proofs.RevisionBounds.{Below, BelowIn, below-more, ensured-bound, announced-bound, raised-bound, released-all-bound, evict-bound}
+use Rattle.revisions.proofs.RevisionBounds.{Below, BelowIn, below-more, ensured-bound, announced-bound, retired-bound, released-all-bound, evict-bound}
 use Rattle.revisions.proofs.OperationsGo.{ensured-some, announced-some, retired-some}
 use Rattle.machine.specs.Machine as machine
 use Rattle.machine.specs.Machine.{WriteFits, announcing, raising}
@@ -142,12 +142,12 @@ module _ (m : Mem) (g : Lasting m) (b n : ℕ) (low : Below b (storeIn narrow (m
   unfolding endOf isAccepted number
   end-accepted c = byTest (foundFull c) (λ e. rw e refl) (λ e. rw e refl)
 
-  raise-goes : (tray : List ℕ) (d : ℕ) (isLast : Bool) (ps : List Words) (o : Option Store) → IsSome o → RetiredOk true ps (nodesOf m) o → BelowIn (b + n) o
+  raise-goes : (tray : List ℕ) (d : ℕ) (isLast lift : Bool) (ps : List Words) (o : Option Store) → IsSome o → RetiredOk lift ps (nodesOf m) o → BelowIn (b + n) o
       → Went b n (raiseResult m tray d isLast o)
   unfolding raiseResult nowAt storeBack isAccepted number
-  raise-goes tray d isLast ps none i k l = absurd i
-  raise-goes tray d true ps (some t) i k l = let z = few-nodes m g in let y = k .2 in stored (endOf (client m d)) t _ tray (end-accepted (client m d)) refl (k .1) (omega arith) l
-  raise-goes tray d false ps (some t) i k l = let z = few-nodes m g in let y = k .2 in stored Accepted t _ tray refl refl (k .1) (omega arith) l
+  raise-goes tray d isLast lift ps none i k l = absurd i
+  raise-goes tray d true lift ps (some t) i k l = let z = few-nodes m g in let y = k .2 in stored (endOf (client m d)) t _ tray (end-accepted (client m d)) refl (k .1) (omega arith) l
+  raise-goes tray d false lift ps (some t) i k l = let z = few-nodes m g in let y = k .2 in stored Accepted t _ tray refl refl (k .1) (omega arith) l
 
   -- marks taken off by an abandoning
   retire-goes : (d : ℕ) (lift : Bool) (ps : List Words) (out : Outcome) (o : Option Store) → isAccepted (number out) ≡ true → IsSome o → RetiredOk lift ps (nodesOf m) o → BelowIn (b + n) o
@@ -178,28 +178,29 @@ module _ (m : Mem) (g : Lasting m) (b : ℕ) (low : Below b (storeIn narrow (m .
   raises = stepsAt m d - (labels + 1)
 
   -- one of the raises that are left, or all of them
-  raised-goes : (ps rest : List Words) {c f : Bool} → stateOf m .clients d ≡ raising w raises c f → Leaves w raises ps rest → IsSome (retired narrow true ps (nodesOf m))
+  raised-goes : (ps rest : List Words) {c f : Bool} → stateOf m .clients d ≡ raising w raises c f → Leaves w raises ps rest → IsSome (retired narrow c ps (nodesOf m))
   unfolding stateOf
   raised-goes ps rest {c} {f} e lv =
       let k = raises-go (stateOf m) d w raises c f ps rest (g .inv) (g .room) h e lv in
-      retired-some true ps (nodesOf m) (once m g) (rows-held m (g .fits)) (λ q. k q .0) (λ t q. k q .1)
+      retired-some c ps (nodesOf m) (once m g) (rows-held m (g .fits)) (λ q. k q .0) (λ t q. k q .1)
 
   raising-goes : (isLast : Bool) {c f : Bool} → stateOf m .clients d ≡ raising w raises c f
-      → Went b (liftAt (stateOf m .clients d)) (raiseResult m tray d isLast (retired narrow true (getD (writeLabels w) raises [] ∷ []) (nodesOf m)))
+      → Went b (liftAt (stateOf m .clients d)) (raiseResult m tray d isLast (retired narrow c (getD (writeLabels w) raises [] ∷ []) (nodesOf m)))
   raising-goes isLast {c} {f} e =
       let ps : List Words = getD (writeLabels w) raises [] ∷ [] in
       let o = fit-at (stateOf m) d (raising w raises c f) (g .inv) e .1 in
-      rw e (raise-goes m g b 1 low tray d isLast ps _ (raised-goes ps _ e (one-leaves w raises o))
-      (retired-ok true ps (nodesOf m) (once m g) (rows-held m (g .fits))) (raised-bound ps b (nodesOf m) low))
+      rw e (raise-goes m g b 1 low tray d isLast c ps _ (raised-goes ps _ e (one-leaves w raises o))
+      (retired-ok c ps (nodesOf m) (once m g) (rows-held m (g .fits))) (retired-bound c ps b (nodesOf m) low))
 
   -- ---- Its abandoning: all raises that are left, or the marks taken back
-  raises-left-go : labels < stepsAt m d → Went b (liftAll (stateOf m .clients d)) (untrayed (retireResult m d (endOf (client m d)) (retired narrow true (labelsLeft w (stepsAt m d)) (nodesOf m))))
+  raises-left-go : labels < stepsAt m d → Went b (liftAll (stateOf m .clients d)) (untrayed (retireResult m d (endOf (client m d)) (retired narrow (didChange (client m d)) (labelsLeft w (stepsAt m d)) (nodesOf m))))
   raises-left-go z =
       let ps : List Words = labelsLeft w (stepsAt m d) in
       let e = raising-at m d h y z in
-      let k = raised-bound ps b (nodesOf m) low in
-      rw e (retire-goes m g b (labels - raises) low d true ps _ _ (end-accepted m g b 0 low (client m d)) (raised-goes ps [] e (all-leave w raises))
-      (retired-ok true ps (nodesOf m) (once m g) (rows-held m (g .fits))) (subst (λ i. BelowIn (b + i) (retired narrow true ps (nodesOf m))) (length-drop raises (writeLabels w)) k))
+      let c : Bool = didChange (client m d) in
+      let k = retired-bound c ps b (nodesOf m) low in
+      rw e (retire-goes m g b (labels - raises) low d c ps _ _ (end-accepted m g b 0 low (client m d)) (raised-goes ps [] e (all-leave w raises))
+      (retired-ok c ps (nodesOf m) (once m g) (rows-held m (g .fits))) (subst (λ i. BelowIn (b + i) (retired narrow c ps (nodesOf m))) (length-drop raises (writeLabels w)) k))
 
   release-goes : stepsAt m d ≤ labels → Went b (liftAll (stateOf m .clients d)) (untrayed (retireResult m d Accepted (retired narrow false (announcedLabels w (stepsAt m d)) (nodesOf m))))
   unfolding stateOf holds isAccepted number

@@ -98,7 +98,7 @@ module _ (m : Mem) (f : Fits m) (once : NoDup (storeIn narrow (m .nodes) .nodes)
   unfolding abandonedWrite pastTable retireResult untrayed responseIn stateOf
   writer-simulated w b =
       byTest (ltb (length (writeLabels w)) (stepsAt m d))
-      (λ e. rw e (retired-simulated true (labelsLeft w (stepsAt m d)) _ (λ t k a.
+      (λ e. rw e (retired-simulated _ (labelsLeft w (stepsAt m d)) _ (λ t k a.
       ended-simulated [] d a low (steps-of.abandoned-raising low (raising-at m d low b (ltb-true _ _ e)) k))))
       (λ e. rw e (retired-simulated false (announcedLabels w (stepsAt m d)) _ (λ t k a.
       simulated Accepted [] (then-idle a d low) (steps-of.abandoned-write low (announcing-at m d low b (ltb-false _ _ e)) k))))

@@ -16,14 +16,14 @@ use Rattle.rules.specs.Answers.{isCount, mostIn, isLong}
 use Rattle.rules.specs.Client.{Client, steps, sawPending, didChange, foundFull, entryOf, stepped, noted, holding, wrote}
 use Rattle.rules.specs.Sound.{Busy}
 use Rattle.rules.proofs.WorkLaws.{write-labels-some}
-use Rattle.rules.proofs.ClientLaws.{asked-counts, list-room}
+use Rattle.rules.proofs.ClientLaws.{asked-counts, list-room, wrote-change}
 use Rattle.rules.proofs.HoldingLaws.{Whole, holding-length, holding-counts, holding-value}
 use Rattle.machine.specs.Machine.{looking, tabling, filing, announcing, raising}
 use Rattle.machine.proofs.Asks.{read-few}
 use Rattle.refinement.proofs.Abstraction.{revisionsIn, notedOf}
 use Rattle.refinement.proofs.ClientParts.{length-entry, stepped-next, stepped-entry, stepped-saw, stepped-change, stepped-full, noted-next, noted-revisions}
 use Rattle.refinement.proofs.ClientParts.{noted-short, noted-saw, holding-next, holding-revisions, wrote-next}
-use Rattle.refinement.proofs.ClientParts.{wrote-entry, wrote-change, wrote-full}
+use Rattle.refinement.proofs.ClientParts.{wrote-entry, wrote-full}
 use Rattle.refinement.proofs.ClientPhases.{Left, busy-left, next-busy, fits-at, looking-eq, looking-phase, tabling-phase, filing-phase}
 use Rattle.refinement.proofs.ClientPhases.{announcing-phase, raising-phase}
 

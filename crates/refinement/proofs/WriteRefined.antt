@@ -16,6 +16,7 @@ use Rattle.rules.specs.declared.Outcome.the-variants.{Accepted}
 use Rattle.rules.specs.Table.{Table, effect, changes, noRoom, Change}
 use Rattle.rules.specs.Work.{Write, writeLabels, writing, stepsInAll}
 use Rattle.rules.specs.Nodes.{Store, retired}
+use Rattle.rules.specs.Client.{didChange}
 use Rattle.rules.specs.Memory.{Mem, recordsIn, storeIn}
 use Rattle.rules.specs.Refusals.{shape, columns, client}
 use Rattle.rules.specs.Steps.{storeBack, announceResult, writeTableResult, raiseResult, writeResult}
@@ -72,7 +73,7 @@ module _ (m : Mem) (f : Fits m) (once : NoDup (storeIn narrow (m .nodes) .nodes)
 
   -- ---- A raise
   raised-simulated : (isLast : Bool) (t : Store) → labels < stepsAt m d → eqb (stepsAt m d) (labels + labels) ≡ isLast
-      → Retired true (getD (writeLabels w) raises [] ∷ []) (storeIn narrow (m .nodes)) t
+      → Retired (didChange (client m d)) (getD (writeLabels w) raises [] ∷ []) (storeIn narrow (m .nodes)) t
       → After m (storeBack m t) (with-store (stateOf m) t) → Simulated m (step d) (raiseResult m tray d isLast (some t))
   unfolding raiseResult responseIn stateOf stepsInAll
   raised-simulated true t h l k a =
@@ -87,9 +88,9 @@ module _ (m : Mem) (f : Fits m) (once : NoDup (storeIn narrow (m .nodes) .nodes)
       (transition.raised low (raising-at m d low b h) j k)
 
   raise-simulated : (isLast : Bool) → labels < stepsAt m d → eqb (stepsAt m d) (labels + labels) ≡ isLast
-      → Simulated m (step d) (raiseResult m tray d isLast (retired narrow true (getD (writeLabels w) raises [] ∷ []) (storeIn narrow (m .nodes))))
+      → Simulated m (step d) (raiseResult m tray d isLast (retired narrow (didChange (client m d)) (getD (writeLabels w) raises [] ∷ []) (storeIn narrow (m .nodes))))
   raise-simulated isLast h l =
-      by-retired m f once true (getD (writeLabels w) raises [] ∷ []) (λ o. Simulated m (step d) (raiseResult m tray d isLast o))
+      by-retired m f once _ (getD (writeLabels w) raises [] ∷ []) (λ o. Simulated m (step d) (raiseResult m tray d isLast o))
       (unfold raiseResult in refused-simulated m (step d) 3 tray f (inl (omega arith)) (λ z. omega arith))
       (λ t k a. raised-simulated isLast t h l k a)
 

@@ -1,5 +1,5 @@
--- Document 01, "On each side of a line": cases 1 to 12 as rows of one table, S-1's counts beside case 10, S-3's ranges, S-4's abandoned writes and
--- S-5's zeros, with one computed test. Rows 1 to 5 are those that query states about nodes; 6 to 12 are played on memories of full size that held
+-- Document 01, "On each side of a line": cases 1 to 12 as rows of one table, S-1's counts beside case 10, S-3's ranges, S-4's abandoned writes,
+-- S-5's zeros and S-6's writes that change nothing, with one computed test. Rows 1 to 5 are those that query states about nodes; 6 to 12 are played on memories of full size that held
 -- other numbers before the opening. Leans on the rules' definitions. Assumes nothing.
 use mathlib.Core.Bool.{Bool, true, false, not, _&&_}
 use mathlib.Core.List.{List, [], _∷_, _++_}
@@ -21,12 +21,12 @@ use Rattle.rules.specs.Work.{Request, readOf, insertOf, deleteOf, ofReco
 use Rattle.rules.specs.Nodes.{labelIn, pending, revision, withPending, withRevision, hasLabel, nodePlace, isPresent, nodeOf, withNode, evictNode, added, isFree, oldestFree, makeRoom, addedIn, ensured, announcedIn, announced, isPending, released, lifted, mayRetire, retired, isHigh, isWorn}
 use Rattle.rules.specs.Answers.{keyIn, lengthIn, revisionIn, isCount, mostIn, listIn, valueIn, hasKeyOf, atLeast, serves, fetchPlace, keyPlace, filed, isLong, someLong}
 use Rattle.rules.specs.Client.{kind, steps, sawPending, didChange, foundFull, entryOf, idle, isIdle, begun, workAt, isBad, stepped, flag, noted, holding, wrote}
-use Rattle.rules.specs.Memory.{Mem, mem, withTable, withNodes, recordsIn, withRecords, storeIn, withStore, answersIn, withAnswers, clientIn, withClient, cleared, opened, renewed}
+use Rattle.rules.specs.Memory.{Mem, mem, withTable, withNodes, withClients, recordsIn, withRecords, storeIn, withStore, answersIn, withAnswers, clientIn, withClient, cleared, opened, renewed}
 use Rattle.rules.specs.Refusals.{columns, client, isShort, badColumns, isUnsound, noClient, allIdle, openCode, beginCode, atClient, stepCode, abandonCode, evictAnswerCode, evictNodeCode, renewCode}
 use Rattle.rules.specs.Steps.{nowAt, storeBack, answered, lookResult, fetchResult, tableResult, fileResult, readResult, announceResult, writeTableResult, endOf, raiseResult, writeResult, progressOf, progress}
 use Rattle.rules.specs.Calls.{unless, openResult, beginResult, stepResult, pastTable, retireResult, abandonedWrite, abandonedOf, abandoned, abandonResult, evictAnswerResult, evictNodeResult, renewResult}
 use Rattle.query.specs.Shape.{narrow}
-use Rattle.rules.specs.History.{Call, begin, step, abandon, evictNode as dropNode, untrayed, callResult}
+use Rattle.rules.specs.History.{Call, begin, step, abandon, evictNode as dropNode, untrayed, callResult, memAfter}
 
 -- memories that held other numbers, as an opening with k columns leaves them
 abbrev fresh : ℕ → Mem
@@ -167,9 +167,10 @@ writes r d changed = does (begin d r) goesOn ∷ going d 4 ++ (does (step d tray
 abbrev inserts5 : ℕ → Bool → List Line
 inserts5 d changed = writes (insertOf (one 5)) d changed
 
-abbrev insertsAgain : ℕ → List Line
-insertsAgain zero = []
-insertsAgain (suc n) = inserts5 1 false ++ insertsAgain n
+-- n times: 5 is taken out and put in again, which raises the nodes of both twice
+abbrev turns5 : ℕ → List Line
+turns5 zero = []
+turns5 (suc n) = writes (deleteOf (one 5)) 1 true ++ inserts5 1 true ++ turns5 n
 
 -- 6. k 1, empty table, read 5: answers 0 records at its fifth step; read again, at its third.
 abbrev case-6 : Row
@@ -194,8 +195,8 @@ abbrev node5 : ℕ → Line
 node5 i = node-is i (value 5 ∷ []) 7
 
 abbrev case-9 : Row
-case-9 = from (fresh 1)
-    (inserts5 1 true ++ insertsAgain 5 ++ (read5 0 ∷ going 0 4)
+case-9 = from (stocked (5 ∷ []))
+    (turns5 3 ++ (read5 0 ∷ going 0 4)
     ++ (does (step 0 tray) (answers (5 ∷ []) false) ∷ filed-under 0 (7 ∷ 1 ∷ []) ∷ floor-is 1 ∷ node5 0 ∷ does (dropNode 0) goesOn ∷ floor-is 7 ∷ read5 0 ∷ going 0 2)
     ++ (node5 2 ∷ noted-at 0 (7 ∷ 1 ∷ []) ∷ does (step 0 tray) (answers (5 ∷ []) true) ∷ []))
 
@@ -262,7 +263,7 @@ case-range-refused = from (fresh 1)
 
 -- S-4, "Abandoning after the table step now performs all remaining raises itself and reports the write's end as its last raise would have":
 -- insert 5 abandoned after its two marks, which are taken back; after its table step, with both raises left; with the last one left, when 5 is
--- there already; and a full one. A read of 5 is then answered from file at its second time: no mark has stayed
+-- there already, so that no counter goes up (S-6); and a full one. A read of 5 is then answered from file at its second time: no mark has stayed
 abbrev begins5 : ℕ → List Line
 begins5 n = does (begin 1 (insertOf (one 5))) goesOn ∷ going 1 n
 
@@ -279,7 +280,7 @@ abbrev case-abandoned-raising : Row
 case-abandoned-raising = from (fresh 1) (begins5 3 ++ (does (abandon 1) (ends true) ∷ both-nodes 2) ++ read-twice (5 ∷ []) ++ (does (abandon 1) (refuses 6) ∷ []))
 
 abbrev case-abandoned-last : Row
-case-abandoned-last = from (fresh 1) (inserts5 1 true ++ begins5 4 ++ (marks-at 0 0 ∷ marks-at 1 1 ∷ does (abandon 1) (ends false) ∷ both-nodes 3) ++ read-twice (5 ∷ []))
+case-abandoned-last = from (fresh 1) (inserts5 1 true ++ begins5 4 ++ (marks-at 0 0 ∷ marks-at 1 1 ∷ does (abandon 1) (ends false) ∷ both-nodes 2) ++ read-twice (5 ∷ []))
 
 abbrev case-abandoned-full : Row
 case-abandoned-full = from (stocked (numbers 2048))
@@ -311,6 +312,63 @@ case-zero-shared = from (fresh 1)
     ((readOne 0 0 ∷ going 0 4) ++ (does (step 0 tray) (answers [] false) ∷ filed-under 0 (1 ∷ 1 ∷ []) ∷ writes (insertOf (one 0)) 1 true)
     ++ (node-is 0 (value 0 ∷ []) 2 ∷ readOne 0 0 ∷ going 0 2) ++ (noted-at 0 (2 ∷ 1 ∷ []) ∷ going 0 2) ++ (does (step 0 tray) (answers [] false) ∷ []))
 
+-- S-6, "after no change, each raise step takes the mark off and leaves the counter. A full table is no change.": a write r that ends with x, and
+-- the read of v that shares its nodes and has the list l. The write overlaps neither the read that files l nor the one that fetches it; the one
+-- that files; the one that fetches, which sees a mark and answers from the table; both. A read that begins after the write's end gets l from file
+abbrev whole : Request → Expect → List Line
+whole r x = does (begin 1 r) goesOn ∷ going 1 4 ++ (does (step 1 tray) x ∷ [])
+
+abbrev listed-here : List ℕ → List Line
+listed-here l = going 0 2 ++ (does (step 0 tray) (answers l false) ∷ [])
+
+abbrev fetched : ℕ → List ℕ → List Line
+fetched v l = (readOne v 0 ∷ going 0 2) ++ (noted-at 0 (1 ∷ 1 ∷ []) ∷ does (step 0 tray) (answers l true) ∷ filed-count 1 ∷ [])
+
+abbrev sees-mark : ℕ → List ℕ → List Line
+sees-mark v l = (readOne v 0 ∷ going 0 3) ++ (does (step 0 tray) (answers l false) ∷ filed-count 1 ∷ [])
+
+abbrev spared : Mem → Request → Expect → ℕ → List ℕ → List Row
+spared m r x v l =
+    from m ((readOne v 0 ∷ going 0 2) ++ listed-here l ++ whole r x ++ fetched v l)
+    ∷ from m ((readOne v 0 ∷ going 0 2) ++ whole r x ++ listed-here l ++ fetched v l)
+    ∷ from m ((readOne v 0 ∷ going 0 2) ++ listed-here l ++ (does (begin 1 r) goesOn ∷ going 1 1) ++ sees-mark v l ++ going 1 3 ++ (does (step 1 tray) x ∷ fetched v l))
+    ∷ from m ((readOne v 0 ∷ going 0 2) ++ (does (begin 1 r) goesOn ∷ going 1 1) ++ listed-here l ++ sees-mark v l ++ going 1 3 ++ (does (step 1 tray) x ∷ fetched v l))
+    ∷ []
+
+abbrev unchanged : List Row
+unchanged =
+    spared (stocked (5 ∷ [])) (insertOf (one 5)) (ends false) 5 (5 ∷ [])
+    ++ spared (stocked (4 ∷ [])) (deleteOf (one 5)) (ends false) 5 []
+    ++ spared (stocked (numbers 2048)) (insertOf (one 5000)) full 5000 []
+
+-- "a counter at its largest to raise" (3) is no refusal for a raise that leaves the counter: insert 5 after its table step, with the node of 5 at
+-- this counter, when 5 is there and when it is not. Its next raise, and its abandoning; a missing or unmarked node is 3 all the same
+abbrev afterTable : List ℕ → ℕ → ℕ → Mem
+afterTable values marks x =
+    let m = memAfter (stocked values) (begin 1 (insertOf (one 5)) ∷ step 1 tray ∷ step 1 tray ∷ step 1 tray ∷ []) in
+    withNodes m (set (set (m .nodes) 13 marks) 14 x)
+
+-- the node of 5 has become one of 6
+abbrev relabelled : Mem → Mem
+relabelled m = withNodes m (set (m .nodes) 9 6)
+
+abbrev at-largest : List Row
+at-largest =
+    from (afterTable (5 ∷ []) 1 4294967295) (going 1 1 ++ (node-is 0 (value 5 ∷ []) 4294967295 ∷ marks-at 0 0 ∷ does (step 1 tray) (ends false) ∷ []))
+    ∷ from (afterTable (5 ∷ []) 1 4294967295) (does (abandon 1) (ends false) ∷ node-is 0 (value 5 ∷ []) 4294967295 ∷ [])
+    ∷ from (afterTable [] 1 4294967295) (does (step 1 tray) (refuses 3) ∷ does (abandon 1) (refuses 3) ∷ marks-at 0 1 ∷ marks-at 1 1 ∷ [])
+    ∷ from (afterTable [] 1 4294967294) (going 1 1 ++ (node-is 0 (value 5 ∷ []) 4294967295 ∷ does (step 1 tray) (ends true) ∷ []))
+    ∷ from (afterTable (5 ∷ []) 0 1) (does (step 1 tray) (refuses 3) ∷ does (abandon 1) (refuses 3) ∷ [])
+    ∷ from (relabelled (afterTable (5 ∷ []) 1 1)) (does (step 1 tray) (refuses 3) ∷ does (abandon 1) (refuses 3) ∷ [])
+    ∷ []
+
+-- Where a client keeps that the table changed and that it was full, which no history leaves: the counter goes up, and the end is 13
+abbrev changed-and-full : Row
+changed-and-full =
+    let m = afterTable [] 1 1 in
+    from (withClients m (withClient narrow (m .clients) 1 (set (clientIn narrow (m .clients) 1) 4 1)))
+    (going 1 1 ++ (does (step 1 tray) full ∷ both-nodes 2))
+
 -- 11. Table of 2,048: inserting one already there ends unchanged; a new one gives 13.
 abbrev case-11 : Row
 case-11 = from (stocked (numbers 2048))
@@ -332,7 +390,8 @@ abbrev pub cases : List Row
 cases =
     stated nodes.cases
     ++ (case-6 ∷ case-7 ∷ case-8 ∷ case-9 ∷ case-10-at ∷ case-10-above ∷ case-count-above ∷ case-count-beside ∷ case-list-beside ∷ case-range ∷ case-range-whole ∷ case-range-equal ∷ case-range-refused ∷ case-abandoned-marking ∷ case-abandoned-raising ∷ case-abandoned-last ∷ case-abandoned-full ∷ case-zero-read ∷ case-zero-range ∷ case-zero-write ∷ case-zero-shared ∷ case-11 ∷ case-12-at ∷ case-12-above ∷ case-12-floor)
+    ++ unchanged ++ at-largest ++ (changed-and-full ∷ [])
 
 pub cases-1-to-12 : T (all cases)
-unfolding readNodes writeNodes sheetEntry turned looks wildcardsOf wildcardsIn same keep place without allBelow listed padded written rows flat entriesIn withEntries admits lies naming pick readNode writeNode named readCount writeCount columnOf queryOf wellMarked isQuery namesAll recordOf termValue columnValue tag tags labelWords marks keyWords columnsIn queryIn countsIn countKey rangeOf rangeIn rangeKey wantedKey unranged bareKey range.within isNamed isRange isReversed listOf before has putIn target isFull outside effect noRoom changes labelIn pending revision withPending withRevision hasLabel nodePlace isPresent nodeOf withNode evictNode added isFree oldestFree makeRoom addedIn ensured announcedIn announced isPending released lifted mayRetire retired isHigh isWorn keyIn lengthIn revisionIn isCount mostIn listIn valueIn hasKeyOf atLeast serves fetchPlace keyPlace filed isLong someLong kind steps sawPending didChange foundFull entryOf idle isIdle begun workAt isBad stepped flag noted holding wrote recordsIn withRecords storeIn withStore answersIn withAnswers clientIn withClient cleared opened renewed columns client isShort badColumns isUnsound noClient allIdle openCode beginCode atClient stepCode abandonCode evictAnswerCode evictNodeCode renewCode nowAt storeBack answered lookResult fetchResult tableResult fileResult readResult announceResult writeTableResult endOf raiseResult writeResult progressOf progress unless openResult beginResult stepResult pastTable retireResult abandonedWrite abandonedOf abandoned abandonResult evictAnswerResult evictNodeResult renewResult untrayed callResult ofRecords ofNumber askFault listWithin valueOf mayAnswer readLabels askKey askIn writeLabels changeKind kindOf keyOf changeIn writeIn workIn workFault stepsInAll isWrite askOf workOf faultOf
+unfolding readNodes writeNodes sheetEntry turned looks wildcardsOf wildcardsIn same keep place without allBelow listed padded written rows flat entriesIn withEntries admits lies naming pick readNode writeNode named readCount writeCount columnOf queryOf wellMarked isQuery namesAll recordOf termValue columnValue tag tags labelWords marks keyWords columnsIn queryIn countsIn countKey rangeOf rangeIn rangeKey wantedKey unranged bareKey range.within isNamed isRange isReversed listOf before has putIn target isFull outside effect noRoom changes labelIn pending revision withPending withRevision hasLabel nodePlace isPresent nodeOf withNode evictNode added isFree oldestFree makeRoom addedIn ensured announcedIn announced isPending released lifted mayRetire retired isHigh isWorn keyIn lengthIn revisionIn isCount mostIn listIn valueIn hasKeyOf atLeast serves fetchPlace keyPlace filed isLong someLong kind steps sawPending didChange foundFull entryOf idle isIdle begun workAt isBad stepped flag noted holding wrote recordsIn withRecords storeIn withStore answersIn withAnswers clientIn withClient cleared opened renewed columns client isShort badColumns isUnsound noClient allIdle openCode beginCode atClient stepCode abandonCode evictAnswerCode evictNodeCode renewCode nowAt storeBack answered lookResult fetchResult tableResult fileResult readResult announceResult writeTableResult endOf raiseResult writeResult progressOf progress unless openResult beginResult stepResult pastTable retireResult abandonedWrite abandonedOf abandoned abandonResult evictAnswerResult evictNodeResult renewResult untrayed callResult ofRecords ofNumber askFault listWithin valueOf mayAnswer readLabels askKey askIn writeLabels changeKind kindOf keyOf changeIn writeIn workIn workFault stepsInAll isWrite askOf workOf faultOf memAfter
 cases-1-to-12 = tt

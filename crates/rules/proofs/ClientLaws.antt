@@ -8,8 +8,8 @@ use native.Mathlib.Nat.{mul-le-mul}
 use native.Mathlib.Omega.{arith}
 use lib.Dec.{eqb, ltb}
 use borrow.Author.Tests.{eqb-true, eqb-false, eq-eqb, ne-eqb, ltb-true, ltb-false, le-ltb, lt-leb, leb-false, not-false}
-use lib.ListN.{length, getD, take, drop, length-drop}
-use lib.Seq.{take-at, length-take-le}
+use lib.ListN.{length, getD, take, drop, set, length-drop, length-set}
+use lib.Seq.{take-at, length-take-le, getD-set-same, getD-set-other}
 use Rattle.lists.specs.Lists.{same, written}
 use Rattle.laws.proofs.ListLaws.{same-refl, same-eq}
 use Rattle.laws.proofs.TestLaws.{byTest, or-false}
@@ -19,7 +19,7 @@ use Rattle.query.specs.Range.{isRanged}
 use Rattle.query.specs.Shape.{Shape, maxColumns, narrow}
 use Rattle.rules.specs.Layout.{maxList, columnsOffset, listRoom, entryOffset, clientWidth, clientOffset, reads, inserts, deletes}
 use Rattle.rules.specs.Answers.{keyIn, lengthIn, isCount, mostIn, isLong}
-use Rattle.rules.specs.Client.{Client, kind, steps, entryOf, queryAt, rangeAt, askAt, writeAt, workAt, isIdle, isBad}
+use Rattle.rules.specs.Client.{Client, kind, steps, didChange, entryOf, queryAt, rangeAt, askAt, writeAt, workAt, isIdle, isBad, stepped, flag, wrote}
 use Rattle.rules.specs.Sound.{Busy}
 use Rattle.rules.specs.Table.{Change, insert, delete, target}
 use Rattle.rules.specs.Work.{Ask, askIn, isAskKey, readLabels, Write, writeIn, writeLabels, Work, asking, writing, changeKind, kindOf, changeIn, workIn, keyOf, workFault, stepsInAll}
@@ -197,6 +197,26 @@ module _ {sh : Shape} {c : Client} {w : Write} (b : Busy narrow sh c (writing w)
 pub idle-sound : (sh : Shape) (c : Client) → isIdle narrow c ≡ true → isBad narrow sh c ≡ false
 unfolding isBad
 idle-sound sh c e = rw e
+
+-- ---- A write past its table step
+-- a flag as it is kept
+pub flag-read : (b : Bool) → not (eqb (flag b) 0) ≡ b
+unfolding flag
+flag-read true = refl
+flag-read false = refl
+
+module _ (c : Client) (w : length c ≡ clientWidth narrow) (changed full : Bool) where
+  pub wrote-wide : length (wrote changed full c) ≡ clientWidth narrow
+  unfolding wrote stepped
+  wrote-wide = rw (length-set, length-set, length-set) w
+
+  pub wrote-change : didChange (wrote changed full c) ≡ changed
+  unfolding wrote didChange stepped
+  wrote-change =
+      let x : List ℕ = set c 1 (steps c + 1) in
+      let l : length x ≡ length c = length-set c 1 (steps c + 1) in
+      ap (λ (y : ℕ). not (eqb y 0)) (getD-set-other (set x 3 (flag changed)) 4 3 (flag full) 0 (λ e. omega arith) ∙ getD-set-same x 3 (flag changed) 0 (omega arith))
+      ∙ flag-read changed
 
 -- ---- In the desks memory
 -- a list of at most 32 records of at most 4 numbers

@@ -1,6 +1,6 @@
 -- The calls of document 01, each as one outcome and one set of memories for any contents and any arguments: what the contracts cite.
 -- Leans on Refusals and Steps. Definitions only. Assumes nothing.
-use mathlib.Core.Bool.{Bool, cond, true, false}
+use mathlib.Core.Bool.{Bool, cond, false}
 use mathlib.Core.List.{List}
 use mathlib.Core.Option.{Option, none, some}
 use Prim.Native.Nat.{ℕ, _+_, _-_}
@@ -12,7 +12,7 @@ use Rattle.rules.specs.declared.Outcome.the-variants.{Refused, Accepted}
 use Rattle.query.specs.Shape.{narrow, shapeOf}
 use Rattle.rules.specs.Nodes.{Words, Store, evictNode, retired}
 use Rattle.rules.specs.Work.{Write, writeLabels, Work, asking, writing, Request, workOf}
-use Rattle.rules.specs.Client.{steps, idle, begun, workAt}
+use Rattle.rules.specs.Client.{steps, didChange, idle, begun, workAt}
 use Rattle.rules.specs.Layout.{refusedUnsound}
 use Rattle.rules.specs.Memory.{Mem, withFiled, storeIn, answersIn, withAnswers, opened, renewed}
 use Rattle.rules.specs.Outcome.{Result, result, StepResult, resultWith}
@@ -52,11 +52,11 @@ retireResult m d o none = result (Refused refusedUnsound) m
 retireResult m d o (some s) = result o (nowAt (storeBack m s) d (idle (form m)))
 
 -- "A writer before its table step takes back the marks it has set."; "Abandoning after the table step now performs all remaining raises itself
--- and reports the write's end as its last raise would have." (S-4)
+-- and reports the write's end as its last raise would have." (S-4), each with a lift if the client keeps that the table changed (S-6)
 unfoldable pub abandonedWrite : Mem → ℕ → Write → ℕ → Result
 abandonedWrite m d w i =
     cond (pastTable w i)
-    (retireResult m d (endOf (client m d)) (retired (form m) true (labelsLeft w i) (storeIn (form m) (m .nodes))))
+    (retireResult m d (endOf (client m d)) (retired (form m) (didChange (client m d)) (labelsLeft w i) (storeIn (form m) (m .nodes))))
     (retireResult m d Accepted (retired (form m) false (announcedLabels w i) (storeIn (form m) (m .nodes))))
 
 -- "**Abandon.** A reader's desk becomes idle."

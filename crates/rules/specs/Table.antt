@@ -67,9 +67,15 @@ unfoldable pub noRoom : Change → Table → Bool
 noRoom (insert r) t = isFull r t
 noRoom (delete q) t = false
 
--- "whether the table changed": a write changes the records exactly if it changes their number
+-- "whether the table changed": by the number of its records. That this is whether the list itself changed, is proved (records' `changes-says`)
 unfoldable pub changes : Change → Table → Bool
 changes w t = not (eqb (length (effect w t)) (length t))
+
+-- "The table step now promises whether the record list changed" (S-6): what is said of a step that found the list t and left u. True exactly if
+-- they differ
+pub record SaysChanged (said : Bool) (t u : Table) : Type 0 where
+  pub changed : said ≡ true → u ≡ t → ⊥
+  pub unchanged : said ≡ false → u ≡ t
 
 -- ---- "ascending by first column, then second, and so on; no record twice"
 -- r is before the first of t

@@ -15,13 +15,13 @@ use Rattle.laws.proofs.ListLaws.{same-eq, take-padded}
 use Rattle.query.specs.declared.Column.{Column}
 use Rattle.query.specs.declared.Column.the-variants.{Is, Wildcard}
 use Rattle.query.specs.Query.{Query, Record, writeCount}
-use Rattle.query.specs.Encoding.{recordOf, columnValue, keyWords, queryIn, isKey}
+use Rattle.query.specs.Encoding.{recordOf, columnValue, keyWords, queryIn, isKey, bareKey}
 use Rattle.query.specs.Shape.{Shape, maxColumns, narrow}
 use Rattle.query.proofs.EncodingLaws.{columns-length, query-in-length}
 use Rattle.rules.specs.declared.Outcome.{Outcome}
 use Rattle.rules.specs.declared.Outcome.the-variants.{Refused, Accepted, Ended, Full}
-use Rattle.rules.specs.Layout.{maxList, lookRoom}
-use Rattle.rules.specs.Table.{Change, insert, delete, effect}
+use Rattle.rules.specs.Layout.{maxList, lookRoom, clientWidth, inserts}
+use Rattle.rules.specs.Table.{Change, insert, delete, effect, SaysChanged}
 use Rattle.rules.specs.Nodes.{Words, Store, announced, retired}
 use Rattle.rules.specs.Work.{Write, writeLabels, writeIn, changeIn, stepsInAll}
 use Rattle.rules.specs.Answers.{keyIn}
@@ -31,17 +31,22 @@ use Rattle.rules.specs.Outcome.{result, resultWith}
 use Rattle.rules.specs.Refusals.{client}
 use Rattle.rules.specs.Steps.{nowAt, storeBack, announceResult, writeTableResult, endOf, raiseResult, writeResult}
 use Rattle.rules.specs.Calls.{announcedLabels, labelsLeft, retireResult}
-use Rattle.rules.proofs.ClientLaws.{busy-key, announcement-count-of}
+use Rattle.rules.proofs.ClientLaws.{busy-key, announcement-count-of, wrote-wide, wrote-change}
+use Rattle.records.proofs.RecordWrites.{OfWidth}
+use Rattle.records.proofs.RecordSets.{changes-says}
 use Rattle.columns.specs.ColumnContracts.{four}
 use Rattle.columns.proofs.ColumnLoops.{four-back}
 use Rattle.table.specs.declared.Inserted.{Inserted}
 use Rattle.table.specs.TableContracts
 use Rattle.table.specs.TableContracts.{insertedAs, isAdded, hadNoRoom, gone}
+use Rattle.table.proofs.TableMemory.{write-records}
 use Rattle.table.proofs.TableLists.{added-changes, full-noRoom, gone-changes, delete-noRoom}
 use Rattle.nodes.specs.NodeContracts.{attempt, tried}
 use Rattle.nodes.proofs.NodePresent.{Went, went-well, went-not}
 use Rattle.clients.specs.declared.Held.{Held}
 use Rattle.clients.specs.ClientContracts.{heldQuery, writtenAt, Writer}
+use Rattle.clients.specs.ClientContracts
+use Rattle.clients.proofs.ClientMemory.{length-client, client-same}
 use Rattle.clients.proofs.HeldLaws.{at-query, writer-bare, writer-announcements, writer-few, writer-label}
 use Rattle.writing.specs.declared.Report.{Report}
 use Rattle.writing.specs.WriteContracts.{stepAt, labelsAt, countAt, heldChange, report, reported}
@@ -122,6 +127,21 @@ module _ {h : Held} {s : List ℕ} {d : ℕ} (w : Writer h s d) where
   unfolding heldChange writeAt writeIn changeIn queryAt
   held-change = rw (w .held .kind, record-held, at-query w, writer-bare w)
 
+  -- an insert's record has as many numbers as the table has columns
+  pub held-width : OfWidth (h .columns) (heldChange h)
+  unfolding heldChange queryAt
+  held-width = go (eqb (h .kind) inserts)
+    where
+      q : Query
+      q = queryIn (shapeIn s) (bareKey (keyIn (entryOf (clientIn narrow s d))))
+
+      n : length (take (h .columns) (h .values)) ≡ h .columns
+      n = ap length (record-held ∙ sym (record-values q)) ∙ length-map q columnValue ∙ query-in-length (shapeIn s) _ ∙ sym (w .held .columns)
+
+      go : (b : Bool) → OfWidth (h .columns) (cond b (insert (take (h .columns) (h .values))) (delete (heldQuery h)))
+      go true = n
+      go false = tt
+
   -- its nodes by what was read: as many, and with the same labels
   count-held : writeCount (heldQuery h) ≡ countAt s d
   count-held = ap writeCount (at-query w) ∙ sym (announcement-count-of (w .busy))
@@ -177,7 +197,7 @@ module _ (t n a s y : List ℕ) (d : ℕ) (w : Write) (i : ℕ) (u : List ℕ) (
   announce-stored h e f l = rw (lt-ltb i (length (writeLabels w)) h, e, f, l)
 
   raise-stored : length (writeLabels w) < i
-      → retired narrow true (getD (writeLabels w) (i - (length (writeLabels w) + 1)) [] ∷ []) (storeIn narrow n) ≡ some st
+      → retired narrow (didChange (clientIn narrow s d)) (getD (writeLabels w) (i - (length (writeLabels w) + 1)) [] ∷ []) (storeIn narrow n) ≡ some st
       → u ≡ withStore narrow n st → (last : Bool) (o : Outcome) → last ≡ eqb i (length (writeLabels w) + length (writeLabels w))
       → (o ≡ raiseEnd last (clientIn narrow s d)) × (v ≡ withClient narrow s d (raiseLeft last (clientIn narrow s d)))
       → resultWith o (mem t u a v) y ≡ writeResult (mem t n a s) y d w i
@@ -214,20 +234,21 @@ module _ (t n a s y : List ℕ) (d : ℕ) (w : Write) (i : ℕ) (b : Bool) (u : 
         announce-stored t n a s y d w i u (x .store) v h o (x .mem) l
 
   module _
-      (ps : List Words) (e : ps ≡ getD (writeLabels w) (i - (length (writeLabels w) + 1)) [] ∷ [])
-      (g : attempt b u ≡ tried n (retired narrow true ps (storeIn narrow n))) (h : length (writeLabels w) < i) where
+      (ps : List Words) (e : ps ≡ getD (writeLabels w) (i - (length (writeLabels w) + 1)) [] ∷ []) (lift : Bool) (c : lift ≡ didChange (clientIn narrow s d))
+      (g : attempt b u ≡ tried n (retired narrow lift ps (storeIn narrow n))) (h : length (writeLabels w) < i) where
     pub raise-refused : b ≡ false → resultWith (Refused 3) (mem t u a s) y ≡ writeResult (mem t n a s) y d w i
-    unfolding writeResult raiseResult
+    unfolding writeResult raiseResult client
     raise-refused z =
-        let x = went-not n (retired narrow true ps (storeIn narrow n)) u (rw z at g) in
-        rw (le-ltb i (length (writeLabels w)) (omega arith), ne-eqb i (length (writeLabels w)) (λ m. omega arith), ← e, x .0, x .1)
+        let x = went-not n (retired narrow lift ps (storeIn narrow n)) u (rw z at g) in
+        rw (le-ltb i (length (writeLabels w)) (omega arith), ne-eqb i (length (writeLabels w)) (λ m. omega arith), ← e, ← c, x .0, x .1)
 
     pub raise-done : b ≡ true → (last : Bool) (o : Outcome) (v : List ℕ) → last ≡ eqb i (length (writeLabels w) + length (writeLabels w))
         → (o ≡ raiseEnd last (clientIn narrow s d)) × (v ≡ withClient narrow s d (raiseLeft last (clientIn narrow s d)))
         → resultWith o (mem t u a v) y ≡ writeResult (mem t n a s) y d w i
     raise-done z last o v m l =
-        let x : Went n (retired narrow true ps (storeIn narrow n)) u = went-well n _ u (rw z at g) in
-        let r = ap (λ (l : List Words). retired narrow true l (storeIn narrow n)) (sym e) ∙ x .is in
+        let x : Went n (retired narrow lift ps (storeIn narrow n)) u = went-well n _ u (rw z at g) in
+        let r = ap (λ (l : List Words). retired narrow (didChange (clientIn narrow s d)) l (storeIn narrow n)) (sym e)
+        ∙ ap (λ (o : Bool). retired narrow o ps (storeIn narrow n)) (sym c) ∙ x .is in
         raise-stored t n a s y d w i u (x .store) v h r (x .mem) last o m l
 
 -- ---- the abandoning
@@ -238,20 +259,20 @@ unfolding retireResult nowAt storeBack
 off-stored t n a s d o r u st v e f l = rw (e, f, l)
 
 module _
-    (t n a s : List ℕ) (d : ℕ) (lift b : Bool) (u : List ℕ) (ps qs : List Words) (e : ps ≡ qs)
+    (t n a s : List ℕ) (d : ℕ) (lift must b : Bool) (c : lift ≡ must) (u : List ℕ) (ps qs : List Words) (e : ps ≡ qs)
     (g : attempt b u ≡ tried n (retired narrow lift ps (storeIn narrow n))) (o : Outcome) where
   pub off-refused : b ≡ false
-      → result (Refused 3) (mem t u a s) ≡ retireResult (mem t n a s) d o (retired narrow lift qs (storeIn narrow n))
+      → result (Refused 3) (mem t u a s) ≡ retireResult (mem t n a s) d o (retired narrow must qs (storeIn narrow n))
   unfolding retireResult
   off-refused z =
       let x = went-not n (retired narrow lift ps (storeIn narrow n)) u (rw z at g) in
-      rw (← e, x .0, x .1)
+      rw (← e, ← c, x .0, x .1)
 
   pub off-done : b ≡ true → (r : Outcome) (v : List ℕ) → (r ≡ o) × (v ≡ withClient narrow s d (idle narrow))
-      → result r (mem t u a v) ≡ retireResult (mem t n a s) d o (retired narrow lift qs (storeIn narrow n))
+      → result r (mem t u a v) ≡ retireResult (mem t n a s) d o (retired narrow must qs (storeIn narrow n))
   off-done z r v l =
       let x : Went n (retired narrow lift ps (storeIn narrow n)) u = went-well n _ u (rw z at g) in
-      rw (← e, l .0) (off-stored t n a s d o (retired narrow lift ps (storeIn narrow n)) u (x .store) v (x .is) (x .mem) (l .1))
+      rw (← e, ← c, l .0) (off-stored t n a s d o (retired narrow lift ps (storeIn narrow n)) u (x .store) v (x .is) (x .mem) (l .1))
 
 pub table-done : (t n a s y : List ℕ) (d k : ℕ) (w : Write) (c : Change) (i : ℕ) (x v : List ℕ) (r : Report) → i ≡ length (writeLabels w)
     → k ≡ shapeIn s .columns → c ≡ w .change → (r ≡ reported c (recordsIn k t)) × (x ≡ withRecords k t (effect c (recordsIn k t)))
@@ -260,6 +281,20 @@ pub table-done : (t n a s y : List ℕ) (d k : ℕ) (w : Write) (c : Change) (i 
 unfolding writeResult writeTableResult nowAt client reported
 table-done t n a s y d k w c i x v r h e f l m =
     rw (le-ltb i (length (writeLabels w)) (omega arith), eq-eqb i (length (writeLabels w)) h, ← e, m, l .0, l .1, f)
+
+-- the client keeps whether the two lists differ (S-6)
+pub table-says : (t s : List ℕ) (d k : ℕ) (c : Change) (x v : List ℕ) (r : Report) → ClientContracts.Fit s d → TableContracts.Fit k t → OfWidth k c
+    → (r ≡ reported c (recordsIn k t)) × (x ≡ withRecords k t (effect c (recordsIn k t)))
+    → v ≡ withClient narrow s d (wrote (r .changed) (r .full) (clientIn narrow s d))
+    → SaysChanged (didChange (clientIn narrow v d)) (recordsIn k t) (recordsIn k x)
+unfolding reported
+table-says t s d k c x v r f g o l m =
+    let b : Client = clientIn narrow s d in
+    let w : length b ≡ clientWidth narrow = length-client s d f in
+    let e : didChange (clientIn narrow v d) ≡ r .changed =
+    ap (λ (y : List ℕ). didChange (clientIn narrow y d)) m
+    ∙ ap didChange (client-same s d f (wrote (r .changed) (r .full) b) (wrote-wide b w (r .changed) (r .full))) ∙ wrote-change b w (r .changed) (r .full) in
+    rw (e, l .0, l .1, write-records k t c g o) (changes-says c (recordsIn k t))
 
 -- ---- the table's change
 pub fit-wide : {n k : ℕ} {t : List ℕ} → n ≡ k → TableContracts.Fit k t → TableContracts.Fit n t

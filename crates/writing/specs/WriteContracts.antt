@@ -17,7 +17,7 @@ use Rattle.rules.specs.Layout.{maxRevision, inserts}
 use Rattle.rules.specs.Table.{Table, Change, insert, delete, changes, noRoom}
 use Rattle.rules.specs.Nodes.{Words, Store, pending, revision, nodePlace, retired}
 use Rattle.rules.specs.Work.{writeLabels}
-use Rattle.rules.specs.Client.{Client, steps, idle, stepped}
+use Rattle.rules.specs.Client.{Client, steps, didChange, idle, stepped}
 use Rattle.rules.specs.Memory.{Mem, clientIn, storeIn}
 use Rattle.rules.specs.Outcome.{Result, StepResult}
 use Rattle.rules.specs.Steps.{writeResult, endOf}
@@ -41,14 +41,14 @@ countAt s d = length (labelsAt s d)
 abbrev pub stepOf : Mem → List ℕ → ℕ → StepResult
 stepOf m tray d = writeResult m tray d (writtenAt (m .clients) d) (stepAt (m .clients) d)
 
--- what the taking back of its marks leaves; and what the raises that are left leave, all at once (S-4)
+-- what the taking back of its marks leaves; and what the raises that are left leave, all at once (S-4), with a lift if the table changed (S-6)
 abbrev pub backOf : Mem → ℕ → Result
 backOf m d = retireResult m d Accepted (retired narrow false (announcedLabels (writtenAt (m .clients) d) (stepAt (m .clients) d)) (storeIn narrow (m .nodes)))
 
 abbrev pub raisedOf : Mem → ℕ → Result
 raisedOf m d =
     retireResult m d (endOf (clientIn narrow (m .clients) d))
-    (retired narrow true (labelsLeft (writtenAt (m .clients) d) (stepAt (m .clients) d)) (storeIn narrow (m .nodes)))
+    (retired narrow (didChange (clientIn narrow (m .clients) d)) (labelsLeft (writtenAt (m .clients) d) (stepAt (m .clients) d)) (storeIn narrow (m .nodes)))
 
 -- what its abandoning leaves: the one before its table step, the other after it
 abbrev pub abandonOf : Mem → ℕ → Result

@@ -10,8 +10,8 @@ ghost use Prim.Native.Nat.{ℕ, _≤_, _<_};
 ghost use lib.ListN.{take};
 ghost use Rattle.query.specs.Shape.{narrow};
 ghost use Rattle.rules.specs.Layout.{maxWord};
-ghost use Rattle.rules.specs.Table.{insert, effect};
-ghost use Rattle.rules.specs.Client.{idle};
+ghost use Rattle.rules.specs.Table.{insert, effect, SaysChanged};
+ghost use Rattle.rules.specs.Client.{didChange, idle};
 ghost use Rattle.rules.specs.Memory.{mem, recordsIn, withRecords, clientIn, withClient};
 ghost use Rattle.rules.specs.Outcome.{result, resultWith};
 ghost use Rattle.rules.specs.Steps.{endOf};
@@ -89,12 +89,14 @@ fn change(table: &mut [u32], h: Held) -> Report
     }
 }
 
-// The table step: the change is made, and the client keeps whether the table changed and whether it was full.
+// The table step: the change is made, and the client keeps whether the list of records changed (exactly if the two lists differ) and whether it
+// was full.
 fn write_table_step(table: &mut [u32], clients: &mut [u32], d: usize, h: Held) -> Outcome
     requires { ⌜ Writer h (now clients) d ⌝ }
     requires { ⌜ TableContracts.Fit (h .columns) (now table) ⌝ }
     requires { ⌜ stepAt (now clients) d ≡ countAt (now clients) d ⌝ }
     ensures { λ r. ⌜ ((n a y : List ℕ) → resultWith r (mem (now (table .exit)) n a (now (clients .exit))) y ≡ stepOf (mem (now (table .entry)) n a (now (clients .entry))) y d) ⌝ }
+    ensures { λ r. ⌜ SaysChanged (didChange (clientIn narrow (now (clients .exit)) d)) (recordsIn (h .columns) (now (table .entry))) (recordsIn (h .columns) (now (table .exit))) ⌝ }
 {
     let said = change(table, h);
     clients::set_wrote(clients, d, said.changed, said.full);
@@ -128,16 +130,18 @@ fn after_raise(clients: &mut [u32], d: usize, last: bool) -> Outcome
     Outcome::Accepted
 }
 
-// A raise at the write's next node. Refused where the node is missing, has no pending write or cannot be raised.
+// A raise at the write's next node: its revision goes up if the client keeps that the list of records changed, else it stays. Refused where the
+// node is missing, has no pending write or cannot be raised; one whose revision stays is not refused for a revision at its largest.
 fn raise_step(nodes: &mut [u32], clients: &mut [u32], d: usize, h: Held) -> Outcome
     requires { ⌜ Writer h (now clients) d ⌝ }
     requires { ⌜ NodeContracts.Fit (now nodes) ⌝ }
     requires { ⌜ countAt (now clients) d < stepAt (now clients) d ⌝ }
     ensures { λ r. ⌜ ((t a y : List ℕ) → resultWith r (mem t (now (nodes .exit)) a (now (clients .exit))) y ≡ stepOf (mem t (now (nodes .entry)) a (now (clients .entry))) y d) ⌝ }
 {
+    let lift = clients::did_change(clients, d);
     let count = columns::keys::power(h.columns) as usize;
     let number = h.steps - (count + 1);
-    if !retire::retire(nodes, h, number, 1, true) {
+    if !retire::retire(nodes, h, number, 1, lift) {
         return Outcome::Refused(Hall::REFUSED_UNSOUND);
     }
     after_raise(clients, d, h.steps == count + count)
@@ -182,17 +186,19 @@ fn release_all(nodes: &mut [u32], clients: &mut [u32], d: usize, h: Held) -> Out
     Outcome::Accepted
 }
 
-// Makes all raises that are left of a write after its table step: the write ends as its last raise would have ended it. Refused where one of
-// their nodes is missing, has no pending write or cannot be raised.
+// Makes all raises that are left of a write after its table step: the write ends as its last raise would have ended it. Their
+// revisions go up if the client keeps that the list of records changed, else they stay. Refused where one of their nodes is missing, has no
+// pending write or cannot be raised, as at a raise step.
 fn raise_all(nodes: &mut [u32], clients: &mut [u32], d: usize, h: Held) -> Outcome
     requires { ⌜ Writer h (now clients) d ⌝ }
     requires { ⌜ NodeContracts.Fit (now nodes) ⌝ }
     requires { ⌜ countAt (now clients) d < stepAt (now clients) d ⌝ }
     ensures { λ r. ⌜ ((t a : List ℕ) → result r (mem t (now (nodes .exit)) a (now (clients .exit))) ≡ raisedOf (mem t (now (nodes .entry)) a (now (clients .entry))) d) ⌝ }
 {
+    let lift = clients::did_change(clients, d);
     let count = columns::keys::power(h.columns) as usize;
     let first = h.steps - (count + 1);
-    if !retire::retire(nodes, h, first, count - first, true) {
+    if !retire::retire(nodes, h, first, count - first, lift) {
         return Outcome::Refused(Hall::REFUSED_UNSOUND);
     }
     end(clients, d)

@@ -228,19 +228,24 @@ fn filings(rows: &mut Vec<Row>) {
     row(rows, "file", "new, 64 kept", filing(asked, ANSWERS, None), Act::Step(CLIENT), from_table(1));
 }
 
-/// The first announcement (mark) and the first raise of an insert of the middle record, which is there.
+/// The first announcement (mark) of an insert of the middle record, which is there, and the first raise of that insert, which changes nothing and so
+/// leaves the counter, beside the raise of a delete of the record.
 fn announcements(rows: &mut Vec<Row>) {
     let asked = all_named(4);
     let own = write_labels(4, asked);
-    let hall = |n, own, place, steps| full(4).with_nodes(n, own, place).begun(Kind::Insert, CLIENT, asked, steps);
+    let writing = |kind, n, own, place, steps| full(4).with_nodes(n, own, place).begun(kind, CLIENT, asked, steps);
+    let hall = |n, own, place, steps| writing(Kind::Insert, n, own, place, steps);
     row(rows, "mark", "node first of 1,024", hall(NODES, &own[..1], 0, 0), Act::Step(CLIENT), ACCEPTED);
     row(rows, "mark", "node last of 1,024", hall(NODES, &own[..1], NODES - 1, 0), Act::Step(CLIENT), ACCEPTED);
     row(rows, "mark", "node missing, added to 1,023", hall(NODES - 1, &[], 0, 0), Act::Step(CLIENT), ACCEPTED);
     row(rows, "mark", "node missing, room made in 1,024", hall(NODES, &[], 0, 0), Act::Step(CLIENT), ACCEPTED);
-    row(rows, "raise", "node first of 1,024", hall(NODES, &own, 0, 17), Act::Step(CLIENT), ACCEPTED);
     let last_first: Vec<_> = own.iter().rev().copied().collect();
-    row(rows, "raise", "node last of 1,024", hall(NODES, &last_first, NODES - 16, 17), Act::Step(CLIENT), ACCEPTED);
-    row(rows, "raise", "the write's last", hall(NODES, &own, NODES - 16, 32), Act::Step(CLIENT), UNCHANGED);
+    for (kind, end, text) in [(Kind::Delete, CHANGED, ""), (Kind::Insert, UNCHANGED, ", no change")] {
+        let raising = |own, place, steps| writing(kind, NODES, own, place, steps);
+        row(rows, "raise", &format!("node first of 1,024{text}"), raising(&own, 0, 17), Act::Step(CLIENT), ACCEPTED);
+        row(rows, "raise", &format!("node last of 1,024{text}"), raising(&last_first, NODES - 16, 17), Act::Step(CLIENT), ACCEPTED);
+        row(rows, "raise", &format!("the write's last{text}"), raising(&own, NODES - 16, 32), Act::Step(CLIENT), end);
+    }
 }
 
 /// Before the table step of a write, its nodes standing last.
@@ -273,20 +278,23 @@ fn deletes(rows: &mut Vec<Row>) {
     row(rows, "delete", "all", delete(Asked::new(&[None; 4])), Act::Step(CLIENT), ACCEPTED);
 }
 
+/// A delete of the middle record, and past the table step beside it an insert of it, which changes nothing.
 fn abandonings(rows: &mut Vec<Row>) {
     let asked = all_named(4);
     let own = write_labels(4, asked);
-    let write = |steps| full(4).with_nodes(NODES, &own, NODES - 16).begun(Kind::Insert, CLIENT, asked, steps);
+    let write = |kind, steps| full(4).with_nodes(NODES, &own, NODES - 16).begun(kind, CLIENT, asked, steps);
     row(rows, "abandon", "a read", fetching(asked, None), Act::Abandon(CLIENT), ACCEPTED);
-    row(rows, "abandon", "a write with no mark", write(0), Act::Abandon(CLIENT), ACCEPTED);
-    row(rows, "abandon", "a write with 1 mark", write(1), Act::Abandon(CLIENT), ACCEPTED);
-    row(rows, "abandon", "a write with 16 marks", write(16), Act::Abandon(CLIENT), ACCEPTED);
-    row(rows, "abandon", "a write with 16 raises left", write(17), Act::Abandon(CLIENT), UNCHANGED);
-    row(rows, "abandon", "a write with 1 raise left", write(32), Act::Abandon(CLIENT), UNCHANGED);
-    let few = |steps| light(&own).begun(Kind::Insert, CLIENT, asked, steps);
-    row(rows, "abandon", "96 nodes, a write with 16 marks", few(16), Act::Abandon(CLIENT), ACCEPTED);
-    row(rows, "abandon", "96 nodes, a write with 16 raises left", few(17), Act::Abandon(CLIENT), UNCHANGED);
-    row(rows, "abandon", "96 nodes, a write with 1 raise left", few(32), Act::Abandon(CLIENT), UNCHANGED);
+    row(rows, "abandon", "a write with no mark", write(Kind::Delete, 0), Act::Abandon(CLIENT), ACCEPTED);
+    row(rows, "abandon", "a write with 1 mark", write(Kind::Delete, 1), Act::Abandon(CLIENT), ACCEPTED);
+    row(rows, "abandon", "a write with 16 marks", write(Kind::Delete, 16), Act::Abandon(CLIENT), ACCEPTED);
+    let few = |kind, steps| light(&own).begun(kind, CLIENT, asked, steps);
+    row(rows, "abandon", "96 nodes, a write with 16 marks", few(Kind::Delete, 16), Act::Abandon(CLIENT), ACCEPTED);
+    for (kind, end, text) in [(Kind::Delete, CHANGED, ""), (Kind::Insert, UNCHANGED, ", no change")] {
+        for (steps, left) in [(17, "16 raises left"), (32, "1 raise left")] {
+            row(rows, "abandon", &format!("a write with {left}{text}"), write(kind, steps), Act::Abandon(CLIENT), end);
+            row(rows, "abandon", &format!("96 nodes, a write with {left}{text}"), few(kind, steps), Act::Abandon(CLIENT), end);
+        }
+    }
 }
 
 fn evictions(rows: &mut Vec<Row>) {

@@ -24,9 +24,10 @@ the table has of binding 7; a star stands for any value.
   node     a place where reads and writes that concern the same records meet. It has a name: this
            read looks at (7, *) and at (?, *), where ? is \"any one value\"; each of the two writes
            goes to four nodes, and (7, *) is one of them
-  counter  a number at each node. A write raises it, and an answer from file holds only as long as
-           no counter at its read's nodes is above the one it was filed under
-  mark     set at a node by a write that is under way there, taken away when it raises the counter
+  counter  a number at each node. A write that has changed the table raises it, and an answer from
+           file holds only as long as no counter at its read's nodes is above the one it was filed
+           under
+  mark     set at a node by a write that is under way there, taken away when the counter is raised
 ";
 
 const FAULTY_HEAD: &str = "\

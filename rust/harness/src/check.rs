@@ -157,9 +157,10 @@ impl Checker {
     }
 
     /// How many fetches were owed the filed answer by demand 2's last sentence, how many of them of reads begun before the read that
-    /// filed it, how many of counts, and how many of reads with a range.
-    pub fn owed(&self) -> [u64; 4] {
-        [self.filing.owed, self.filing.owed_to_earlier, self.filing.owed_to_counts, self.filing.owed_to_ranges]
+    /// filed it, how many of counts, how many of reads with a range, and how many since S-6 alone.
+    pub fn owed(&self) -> [u64; 5] {
+        let Filing { owed, owed_to_earlier, owed_to_counts, owed_to_ranges, owed_past_unchanged, .. } = self.filing;
+        [owed, owed_to_earlier, owed_to_counts, owed_to_ranges, owed_past_unchanged]
     }
 
     /// Before a call of the history.

@@ -29,6 +29,8 @@ pub struct Mixing {
     ranges: u32,
     /// writes keep the table near this many records; 0: they do not care
     band: u32,
+    /// once there are so many, writes are few and reads are of what is filed
+    settles: bool,
     /// of 1,000 calls
     evictions: u32,
     abandonings: u32,
@@ -43,10 +45,28 @@ pub struct Mixing {
 impl Mixing {
     fn new(k: u32, values: u32, named: u32, kinds: [u32; 3]) -> Mixing {
         let (zeros, far) = (1, 1);
-        let (again, counts, ranges, band) = (3, 6, 6, 0);
+        let (again, counts, ranges, band, settles) = (3, 6, 6, 0, false);
         let (evictions, abandonings, odd) = (20, 15, 30);
         let (burst, before_drain, draining) = ((0, 0), 500, 0);
-        Mixing { k, values, zeros, far, named, kinds, again, counts, ranges, band, evictions, abandonings, odd, burst, before_drain, draining }
+        Mixing {
+            k,
+            values,
+            zeros,
+            far,
+            named,
+            kinds,
+            again,
+            counts,
+            ranges,
+            band,
+            settles,
+            evictions,
+            abandonings,
+            odd,
+            burst,
+            before_drain,
+            draining,
+        }
     }
 
     /// Few values: reads and writes meet all the time.
@@ -99,7 +119,7 @@ impl Mixing {
     pub fn filling(rng: &mut Rng) -> Mixing {
         let mut mixing = Mixing::new(1 + rng.below(2), 0, 14, [1, 12, 1]);
         mixing.zeros = 0;
-        mixing.band = 2048;
+        (mixing.band, mixing.settles) = (2048, true);
         mixing.before_drain = 30_000;
         mixing.abandonings = 40;
         mixing
@@ -178,13 +198,16 @@ impl Mixing {
     }
 
     fn begin(&mut self, rng: &mut Rng, hall: &Hall, client: u32) -> Call {
+        let count = hall.get(0, COUNT);
+        if self.settles && count >= self.band {
+            self.settle();
+        }
         let [reads, inserts, deletes] = self.kinds;
         let roll = rng.below(reads + inserts + deletes);
         if roll < reads {
             let again = if rng.chance(self.again, 16) { asked_again(rng, hall, self.k) } else { None };
             return again.unwrap_or_else(|| self.ask(rng, hall)).begin(client);
         }
-        let count = hall.get(0, COUNT);
         let inserting = if self.band > 0 { count < self.band || rng.chance(1, 2) } else { roll < reads + inserts };
         if inserting {
             return Call::BeginInsert { client, asked: self.query(rng, hall, true) };
@@ -193,6 +216,13 @@ impl Mixing {
             return Call::BeginDelete { client, asked: record_in(rng, hall, self.k) };
         }
         Call::BeginDelete { client, asked: self.query(rng, hall, false) }
+    }
+
+    /// Counts of stars are kept, and each insert that finds no room shares a node with them (S-6).
+    fn settle(&mut self) {
+        (self.kinds, self.again) = ([40, 3, 1], 12);
+        (self.named, self.counts, self.settles) = (4, 12, false);
+        self.abandonings = 80;
     }
 
     fn ask(&self, rng: &mut Rng, hall: &Hall) -> Ask {

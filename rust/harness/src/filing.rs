@@ -1,38 +1,46 @@
 //! The checker of demand 2's last sentence on executed histories: "A read whose fetch finds a filed answer to its query gets it, if from the
 //! earlier of its own begin and the filing read's to that fetch no write meeting the query was open and none of its nodes was put out." By S-5
 //! "a write sharing one of the answer's nodes takes the place of one meeting the query": more writes, since a read or delete that names 0 meets
-//! nothing and shares nodes all the same.
+//! nothing and shares nodes all the same. By S-6 "A write that ended unchanged before a read began no longer counts against that read's use of a
+//! kept answer": fewer writes, so more reads are owed theirs.
 //!
 //! Told by the calls' arguments and replies alone: what is under way at a desk and how many steps it has made, so which step is a fetch and
-//! which a file step; which read was the last to file under a query, since when it ran and with which list; which writes are open. Told by
-//! the memories, because the sentence asks it of them: whether an answer to the query is filed (answers, just before the fetch), and whether
-//! a node that was there no longer is (nodes, after each call; by a call or to make room). Where they stand there is docs/LAYOUT.md's.
+//! which a file step; which read was the last to file under a query, since when it ran and with which list; which writes are open, and which end
+//! unchanged. Told by the memories, because the sentence asks it of them: whether an answer to the query is filed (answers, just before the
+//! fetch), and whether a node that was there no longer is (nodes, after each call; by a call or to make room). Where they stand there is
+//! docs/LAYOUT.md's.
 //!
 //! As the sentence is read here (docs/DECISIONS.md, R-22; crates/demands/specs/Demand2.antt): a write counts that is open at any moment from
-//! just after the earlier begin to just before the fetch, abandoned later or not; one that ends just before the earlier begin does not. "gets
-//! it" is the filing read's list, from file, and the rest of the tray as it was; of a count (S-1) the filing count's number, and all of the
-//! tray as it was. An answer is filed for what a read asks: its query, which of the two it wants, and its range (S-3). For its nodes a range's
-//! column is a star, as it is in the query: a write shares one with such a read whatever it writes there. Leans on call and hall; on nothing of
-//! the library or the twin.
+//! just after the earlier begin to just before the fetch, abandoned later or not; one that ends just before the earlier begin does not. Nor does
+//! one whose last raise or abandoning says that it ended unchanged, or 13, before the fetching read's begin, though it was open beside the filing
+//! read; one abandoned before its table step has not ended unchanged, and one that is open at the fetching read's begin counts whatever it will
+//! say. "gets it" is the filing read's list, from file, and the rest of the tray as it was; of a count (S-1) the filing count's number, and all
+//! of the tray as it was. An answer is filed for what a read asks: its query, which of the two it wants, and its range (S-3). For its nodes a
+//! range's column is a star, as it is in the query: a write shares one with such a read whatever it writes there. Leans on call and hall; on
+//! nothing of the library or the twin.
 
 use crate::call::{tray_of, Ask, Asked, Call};
 use crate::hall::Hall;
 use crate::side::Reply;
 use std::collections::HashSet;
 
-/// Which writes the sentence speaks of: those that share one of the answer's nodes, or, as it was before S-5 and is only tried, those that meet
-/// the query.
+/// Which writes the sentence speaks of, as it is and as it is only tried, to see that it would be false.
 #[derive(Clone, Copy, PartialEq, Eq, Debug)]
 pub enum Sentence {
+    /// those that share one of the answer's nodes
     Sharing,
+    /// as it was before S-5: those that meet the query
     Meeting,
+    /// of those that share a node, none that has ended unchanged by the fetch, though it was open after the fetching read's begin. Were it so that
+    /// a write which changes nothing never counts, this would hold
+    UnchangedByFetch,
 }
 
 impl Sentence {
     /// Whether it speaks of this write for a read of this query.
     pub fn is_of(self, write: &Asked, inserts: bool, query: &Asked) -> bool {
         match self {
-            Sentence::Sharing => share(write, query),
+            Sentence::Sharing | Sentence::UnchangedByFetch => share(write, query),
             Sentence::Meeting => meet(write, inserts, query),
         }
     }
@@ -48,18 +56,27 @@ struct Work {
     steps: u32,
     /// which call began it
     begun: u64,
-    /// of a read: since its begin no write that the sentence is of was open and none of its nodes was put out
-    quiescent: bool,
+    /// of a read: what was since its begin
+    since: Since,
 }
 
-/// What the last read that filed for this gave, which call began that read, and whether it is quiescent since then.
+/// What has been since a read's begin, of the writes that the sentence is of and of the read's nodes.
+#[derive(Clone, Copy, PartialEq, Eq)]
+struct Since {
+    /// no such write was open and no node was put out
+    quiescent: bool,
+    /// no such write has ended otherwise than unchanged and no node was put out; those that are open are not asked
+    unchanged: bool,
+}
+
+/// What the last read that filed for this gave, which call began that read, and what was since then.
 struct Filed {
     ask: Ask,
     count: u32,
     /// the numbers of the list's records; of a count none
     list: Vec<u32>,
     begun: u64,
-    quiescent: bool,
+    since: Since,
 }
 
 /// The five numbers of a node's label.
@@ -92,13 +109,26 @@ pub struct Filing {
     pub owed_to_counts: u64,
     /// how many of them were of reads with a range
     pub owed_to_ranges: u64,
+    /// how many of them are owed since S-6 alone: a write that ended unchanged before the fetching read's begin was open after the filing read's
+    pub owed_past_unchanged: u64,
 }
 
 impl Filing {
     /// At an accepted opening.
     pub fn opened(sentence: Sentence) -> Filing {
-        let (clients, filed, labels) = ([const { None }; 12], Vec::new(), Vec::new());
-        Filing { sentence, clients, filed, labels, finds: false, calls: 0, owed: 0, owed_to_earlier: 0, owed_to_counts: 0, owed_to_ranges: 0 }
+        Filing {
+            sentence,
+            clients: [const { None }; 12],
+            filed: Vec::new(),
+            labels: Vec::new(),
+            finds: false,
+            calls: 0,
+            owed: 0,
+            owed_to_earlier: 0,
+            owed_to_counts: 0,
+            owed_to_ranges: 0,
+            owed_past_unchanged: 0,
+        }
     }
 
     /// Just before a call of the history.
@@ -121,7 +151,8 @@ impl Filing {
         let accepted = matches!(reply.number, 0 | 12 | 13);
         let wrong = if accepted { self.feed(call, reply, hall) } else { None };
         for label in self.evicted(hall.nodes()) {
-            self.disturb(|asked| is_node_of(&label, asked));
+            let gone = Since { quiescent: false, unchanged: false };
+            self.disturb(gone, |asked| is_node_of(&label, asked));
         }
         wrong
     }
@@ -138,31 +169,46 @@ impl Filing {
                 self.stepped(*client, reply, hall);
                 return wrong.map(|wrong| (*client, wrong));
             }
-            Call::Abandon { client } => self.clients[*client as usize] = None,
+            Call::Abandon { client } => self.end(*client, reply),
             _ => {}
         }
         None
     }
 
     fn begin_read(&mut self, client: u32, ask: Ask) {
-        let of = |work: &Work| !work.reads && self.sentence.is_of(&work.ask.asked, work.inserts, &ask.asked);
-        let quiescent = !self.clients.iter().flatten().any(of);
-        self.clients[client as usize] = Some(Work { reads: true, inserts: false, ask, steps: 0, begun: self.calls, quiescent });
+        let open = self.clients.iter().flatten().any(|work| self.is_open(work, &ask.asked));
+        let since = Since { quiescent: !open, unchanged: true };
+        self.clients[client as usize] = Some(Work { reads: true, inserts: false, ask, steps: 0, begun: self.calls, since });
     }
 
     fn begin_write(&mut self, client: u32, asked: Asked, inserts: bool) {
         let (ask, sentence) = (Ask { asked, counts: false, within: None }, self.sentence);
-        self.clients[client as usize] = Some(Work { reads: false, inserts, ask, steps: 0, begun: self.calls, quiescent: false });
-        self.disturb(|query| sentence.is_of(&asked, inserts, query));
+        let opened = Since { quiescent: false, unchanged: true };
+        self.clients[client as usize] = Some(Work { reads: false, inserts, ask, steps: 0, begun: self.calls, since: opened });
+        self.disturb(opened, |query| sentence.is_of(&asked, inserts, query));
     }
 
-    /// The reads under way and the filed answers whose query is such a one are quiescent no more.
-    fn disturb(&mut self, hit: impl Fn(&Asked) -> bool) {
-        for work in self.clients.iter_mut().flatten().filter(|work| work.quiescent) {
-            work.quiescent = !hit(&work.ask.asked);
+    /// What is under way at a desk ends there. A write has changed something unless it says that it did not; one that is abandoned before its table
+    /// step says nothing.
+    fn end(&mut self, client: u32, reply: Reply) {
+        let Some(work) = self.clients[client as usize].take() else {
+            return;
+        };
+        let unchanged = reply.ending == 4 || reply.number == 13;
+        if !work.reads && !unchanged {
+            let sentence = self.sentence;
+            self.disturb(Since { quiescent: false, unchanged }, |query| sentence.is_of(&work.ask.asked, work.inserts, query));
         }
-        for filed in self.filed.iter_mut().filter(|filed| filed.quiescent) {
-            filed.quiescent = !hit(&filed.ask.asked);
+    }
+
+    /// This has been, for the reads under way and the filed answers whose query is such a one.
+    fn disturb(&mut self, been: Since, hit: impl Fn(&Asked) -> bool) {
+        let works = self.clients.iter_mut().flatten().map(|work| (&work.ask.asked, &mut work.since));
+        for (asked, since) in works.chain(self.filed.iter_mut().map(|filed| (&filed.ask.asked, &mut filed.since))) {
+            let after = Since { quiescent: since.quiescent && been.quiescent, unchanged: since.unchanged && been.unchanged };
+            if after != *since && hit(asked) {
+                *since = after;
+            }
         }
     }
 
@@ -173,15 +219,31 @@ impl Filing {
             return (self.finds || reply.ending == 1).then_some(Wrong::NotFiled);
         };
         let gets_it = gets(call, reply, tray, filed);
-        let quiescent = if work.begun < filed.begun { work.quiescent } else { filed.quiescent };
-        if self.finds && quiescent {
+        if self.finds && self.owes(work, filed) {
+            let earlier = work.begun < filed.begun;
             self.owed += 1;
-            self.owed_to_earlier += (work.begun < filed.begun) as u64;
+            self.owed_to_earlier += earlier as u64;
             self.owed_to_counts += work.ask.counts as u64;
             self.owed_to_ranges += work.ask.within.is_some() as u64;
+            self.owed_past_unchanged += (!earlier && !filed.since.quiescent) as u64;
             return (!gets_it).then_some(Wrong::NotFetched);
         }
         (reply.ending == 1 && !gets_it).then_some(Wrong::NotFiled)
+    }
+
+    /// From the earlier begin to the fetch no write counts and no node was put out. Since its own begin no write may have been open at all; of those
+    /// that ended between the filing read's begin and its own, each has ended unchanged.
+    fn owes(&self, work: &Work, filed: &Filed) -> bool {
+        let quiet = match self.sentence {
+            Sentence::Sharing | Sentence::Meeting => work.since.quiescent,
+            Sentence::UnchangedByFetch => work.since.unchanged && !self.clients.iter().flatten().any(|other| self.is_open(other, &work.ask.asked)),
+        };
+        quiet && (work.begun < filed.begun || filed.since.unchanged)
+    }
+
+    /// It is a write that the sentence is of for this query.
+    fn is_open(&self, work: &Work, query: &Asked) -> bool {
+        !work.reads && self.sentence.is_of(&work.ask.asked, work.inserts, query)
     }
 
     fn stepped(&mut self, client: u32, reply: Reply, hall: &Hall) {
@@ -191,14 +253,14 @@ impl Filing {
         work.steps += 1;
         let ended = reply.ending != 0 || reply.number != 0;
         if work.reads && reply.ending == 2 && work.steps == looks(&work.ask.asked) + 3 {
-            let (ask, count, begun, quiescent) = (work.ask, reply.count, work.begun, work.quiescent);
+            let (ask, count, begun, since) = (work.ask, reply.count, work.begun, work.since);
             let numbers = if ask.counts { 0 } else { count as usize * ask.asked.words().len() / 2 };
             let list = hall.tray()[..numbers.min(hall.tray().len())].to_vec();
             self.filed.retain(|filed| filed.ask != ask);
-            self.filed.push(Filed { ask, count, list, begun, quiescent });
+            self.filed.push(Filed { ask, count, list, begun, since });
         }
         if ended {
-            self.clients[client as usize] = None;
+            self.end(client, reply);
         }
     }
 

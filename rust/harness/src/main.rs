@@ -23,7 +23,8 @@ const USAGE: &str = "usage: harness [--seed N] [--calls N] [--gate | --limits | 
                  the checkers' own findings, the limits
   --limits       both sides of every limit of the documents, library and twin each held to its number; --verbose prints every row
   --fault NAME   build this fault into the twin: early-raise, back-at-one, one-bit, late-look, stacked, no-marks, one-key,
-                 count-on-tray, plain-key, wide-range, taken-back, marks-left, zero-as-star, all-values, zero-unseen
+                 count-on-tray, plain-key, wide-range, taken-back, marks-left, zero-as-star, all-values, zero-unseen,
+                 always-raised, never-raised, full-raised
   --all-faults   each fault in turn; status 0 only if every one is found
   --check        run the checkers over the library's histories (the default); --no-check leaves them out
   --check-twin   histories of the twin alone (with its fault) under the checkers; nothing is compared
@@ -187,14 +188,15 @@ fn check_twin(options: &Options) -> u8 {
     }
 }
 
-/// A part of the whole is enough here: each finds its fault within some thousand calls.
+/// A part of the whole is enough here: each finds its fault within some thousand calls. Only a run of so many as `WITH_FULL_TABLES` fills some.
 const CHECKED_ALONE: u64 = 100_000;
+const WITH_FULL_TABLES: u64 = 200_000;
 
 /// What a side is like, the side, and whether what was found in its histories is as it should be.
 type Tried = (&'static str, &'static dyn Side, fn(&Findings) -> bool);
 
 /// What the checkers should find in each side.
-fn tried() -> [Tried; 12] {
+fn tried() -> [Tried; 14] {
     [
         ("the plain twin: nothing is found", twin_with(Fault::None), |f| f.first.is_none() && f.owed > 0),
         ("looks that see no marks: stale answers are found", twin_with(Fault::NoPending), |f| f.stale > 0),
@@ -206,8 +208,8 @@ fn tried() -> [Tried; 12] {
             f.stale > 0 && f.not_filed + f.not_fetched + f.others == 0
         }),
         ("abandonings after the table step that take the marks back: stale answers are found", twin_with(Fault::TakenBack), |f| f.stale > 0),
-        ("abandonings after the table step that leave the marks: they are found, and nothing else", twin_with(Fault::MarksLeft), |f| {
-            f.marked > 0 && f.not_fetched == 0 && f.is_otherwise_true()
+        ("abandonings after the table step that leave the marks: they are found, and not fetched", twin_with(Fault::MarksLeft), |f| {
+            f.marked > 0 && f.not_fetched > 0 && f.is_otherwise_true()
         }),
         ("named zeros that are taken for stars: stale answers are found, and tables that are not the plain one", twin_with(Fault::ZeroAsStar), |f| {
             f.stale > 0 && f.others > 0
@@ -216,14 +218,23 @@ fn tried() -> [Tried; 12] {
             f.stale > 0 && f.not_filed + f.not_fetched + f.others == 0
         }),
         ("writes of 0 that neither mark nor raise: stale answers are found", twin_with(Fault::ZeroUnseen), |f| f.stale > 0),
+        ("writes that change nothing and raise all the same: not fetched is found, and nothing else", twin_with(Fault::AlwaysRaised), |f| {
+            is_not_fetched_alone(f)
+        }),
+        ("writes that change the table and raise nothing: stale answers are found", twin_with(Fault::NeverRaised), |f| f.stale > 0),
     ]
+}
+
+fn is_not_fetched_alone(findings: &Findings) -> bool {
+    findings.not_fetched > 0 && findings.trays + findings.marked == 0 && findings.is_otherwise_true()
 }
 
 /// The checkers find something where there is something, each its own: stale answers where looks pay no heed to marks, fetches that
 /// do not get the filed answer where none does, answers of the other wanting or of another range where a key does not tell it, trays
 /// that counts have written, records just outside a range, stale answers and marks for good where abandonings raise nothing, records with 0
-/// that only a star may find, and lists that miss one where its insert was not seen. In the plain twin they find nothing; but they would, were
-/// demand 2's last sentence still of writes that meet the query.
+/// that only a star may find, lists that miss one where its insert was not seen, and fetches that do not get the filed answer where a write that
+/// changed nothing, or found no room, has raised. In the plain twin they find nothing; but they would, were demand 2's last sentence still of
+/// writes that meet the query, or did a write that changes nothing not count even while it is open.
 fn checkers(options: &Options) -> u8 {
     let calls = options.calls.min(CHECKED_ALONE);
     let mut missed = 0;
@@ -237,9 +248,16 @@ fn checkers(options: &Options) -> u8 {
         let good = as_it_should(&findings);
         tell(name, findings, good);
     }
-    let meeting = check_alone_by(Sentence::Meeting, twin_with(Fault::None), options.seed, calls);
-    let good = meeting.not_fetched > 0 && meeting.is_otherwise_true();
-    tell("a last sentence of writes that meet the query, and the plain twin: not fetched is found, and nothing else", meeting, good);
+    let full = check_alone(twin_with(Fault::FullRaised), options.seed, options.calls.min(WITH_FULL_TABLES));
+    let good = is_not_fetched_alone(&full);
+    tell("inserts into a full table that raise: not fetched is found, and nothing else", full, good);
+    let sentences =
+        [(Sentence::Meeting, "of writes that meet the query"), (Sentence::UnchangedByFetch, "of no write that ends unchanged by the fetch")];
+    for (sentence, text) in sentences {
+        let findings = check_alone_by(sentence, twin_with(Fault::None), options.seed, calls);
+        let good = is_not_fetched_alone(&findings);
+        tell(&format!("a last sentence {text}, and the plain twin: not fetched is found, and nothing else"), findings, good);
+    }
     if missed == 0 {
         0
     } else {

@@ -38,10 +38,10 @@ pub const ENDINGS: [&[u32]; KINDS] = {
 const ENDING_NAMES: [&str; 5] = ["nothing ended", "answered from file", "answered from the table", "a write changed the table", "a write did not"];
 
 /// How many fetches a long run must have owed the filed answer, how many of them to reads begun before the filing read, how many to counts,
-/// how many to reads with a range: fewer would try demand 2's last sentence too little. How many counts and how many ranges the checker of
-/// demand 3 must have looked at, and after how many calls with every desk idle at the nodes' marks. How many writes it must have seen abandoned
-/// before their table step, and after one that changed the table, did not, or found it full.
-const OWED: [u64; 4] = [2000, 200, 500, 300];
+/// how many to reads with a range, how many past a write that ended unchanged (S-6): fewer would try demand 2's last sentence too little. How
+/// many counts and how many ranges the checker of demand 3 must have looked at, and after how many calls with every desk idle at the nodes'
+/// marks. How many writes it must have seen abandoned before their table step, and after one that changed the table, did not, or found it full.
+const OWED: [u64; 5] = [2000, 200, 500, 300, 200];
 const SEEN: [u64; 3] = [5000, 3000, 300];
 const ABANDONED: [u64; 4] = [500, 500, 300, 30];
 /// How often each thing of `zeros::MET` must have been met.
@@ -86,7 +86,8 @@ fn scripts(tally: &Tally) -> Vec<Wanted> {
 /// What the checkers have looked at.
 fn checked(tally: &Tally) -> Vec<Wanted> {
     let enough = |(name, (times, least)): (String, (&u64, u64))| (*times >= least, format!("{name}: {times}, at least {least} are asked"));
-    let owed = ["", " of reads begun before the filing one", " of counts", " of ranges"].map(|whose| format!("fetches{whose} owed the filed answer"));
+    let whose = ["", " of reads begun before the filing one", " of counts", " of ranges", " past a write that ended unchanged"];
+    let owed = whose.map(|whose| format!("fetches{whose} owed the filed answer"));
     let seen = ["counts", "ranges", "calls that leave every desk idle"].map(|what| format!("{what} of histories looked at"));
     let stood = ["before their table step", "after one that changed the table", "after one that did not", "after one that found it full"];
     let abandoned = stood.map(|stood| format!("writes of histories abandoned {stood}"));

@@ -49,11 +49,12 @@ pub fn print_tally(tally: &Tally, checked: bool) {
     println!("  ways of lengths 0, least-1, least, least+1: {} of 256", tally.ways.iter().filter(|way| **way).count());
     println!("{} calls, {} numbers compared", grouped(tally.calls), grouped(tally.numbers));
     if checked {
-        let ([checked, counts, ranges, rests], [owed, earlier, of_counts, of_ranges]) = (tally.checked.map(grouped), tally.owed.map(grouped));
+        let [checked, counts, ranges, rests] = tally.checked.map(grouped);
+        let [owed, earlier, of_counts, of_ranges, past_unchanged] = tally.owed.map(grouped);
         let [before, changed, unchanged, full] = tally.abandoned.map(grouped);
         println!("checkers: {checked} answers of histories looked at, {counts} of them counts, {ranges} of reads with a range;");
         println!("  {owed} fetches owed the filed answer, {earlier} of them of reads begun before the read that filed it, {of_counts} of counts,");
-        println!("  {of_ranges} of reads with a range;");
+        println!("  {of_ranges} of reads with a range, {past_unchanged} past a write that ended unchanged before the read began;");
         println!("  {before} writes abandoned before their table step, {changed} after one that changed the table, {unchanged} that did not,");
         println!("  {full} that found it full; no node with a mark after {rests} calls with every desk idle");
         println!("of the value 0, in histories (times):");

@@ -48,8 +48,8 @@ pub struct Tally {
     /// what the checker has met of the value 0
     pub zeros: Zeros,
     /// fetches that demand 2's last sentence owed the filed answer, those of them of reads begun before the filing read, those of counts,
-    /// those of reads with a range
-    pub owed: [u64; 4],
+    /// those of reads with a range, those that are owed since S-6 alone
+    pub owed: [u64; 5],
 }
 
 impl Tally {
@@ -69,7 +69,7 @@ impl Tally {
             checked: [0; 4],
             abandoned: [0; 4],
             zeros: [0; zeros::MET.len()],
-            owed: [0; 4],
+            owed: [0; 5],
         }
     }
 }

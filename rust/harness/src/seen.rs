@@ -1,4 +1,4 @@
-//! Which limits of document 01, and of S-1, S-3 and S-4 in document 02, a run has met, on which side. It looks at one hall before and after a
+//! Which limits of document 01, and of S-1, S-3, S-4 and S-6 in document 02, a run has met, on which side. It looks at one hall before and after a
 //! call; the other is the same. (What is met of the value 0, S-5, is told by zeros.) Leans on call, hall and the twin's layout, queries and ranges.
 
 use crate::call::{Asked, Call, Within};
@@ -9,7 +9,7 @@ use twin::query::{Label, Query};
 use twin::range::Range;
 use twin::PLAIN;
 
-pub const LIMITS: [&str; 52] = [
+pub const LIMITS: [&str; 55] = [
     "a list of 32 records is taken",
     "33 records: 12",
     "an insert at 2,047 records goes in",
@@ -62,6 +62,9 @@ pub const LIMITS: [&str; 52] = [
     "an abandoning raises a counter to its largest",
     "a node unmarked or missing among the raises left: 3",
     "a counter at its largest among the raises left: 3",
+    "a raise after no change leaves a counter at its largest",
+    "an abandoning after no change leaves one",
+    "a last raise of a write noted as changed and as full",
 ];
 
 /// What is known before a call.
@@ -108,8 +111,10 @@ pub enum Before {
     Insert {
         records: u32,
     },
+    /// lifts: the desk has noted a change
     Raise {
         revision: Option<u32>,
+        lifts: bool,
     },
     /// a write's: the limit in `LIMITS` that is met if it is accepted, and if it is 3
     Abandon {
@@ -180,7 +185,7 @@ fn before_step(client: u32, hall: &Hall) -> Before {
         INSERT if steps == announcements => Before::Insert { records: hall.table()[COUNT] },
         INSERT | DELETE if steps > announcements && steps <= 2 * announcements => {
             let node = node(query.write_label::<PLAIN>(steps - announcements - 1));
-            Before::Raise { revision: node.filter(|n| n[NODE_PENDING] > 0).map(|n| n[NODE_REVISION]) }
+            Before::Raise { revision: node.filter(|n| n[NODE_PENDING] > 0).map(|n| n[NODE_REVISION]), lifts: own[CLIENT_CHANGED] != 0 }
         }
         _ => Before::Nothing,
     }
@@ -202,9 +207,11 @@ fn before_abandoning(client: u32, hall: &Hall) -> Before {
     let left = || (raised..announcements).map(node);
     let is_at = |revision| left().flatten().any(|node| node[NODE_REVISION] == revision);
     let unmarked = left().any(|node| node.is_none_or(|node| node[NODE_PENDING] == 0));
-    let unsound = if unmarked { Some(50) } else { is_at(u32::MAX).then_some(51) };
+    let lifts = own[CLIENT_CHANGED] != 0;
+    let unsound = if unmarked { Some(50) } else { (lifts && is_at(u32::MAX)).then_some(51) };
     let accepted = match announcements - raised {
-        _ if is_at(u32::MAX - 1) => Some(49),
+        _ if lifts && is_at(u32::MAX - 1) => Some(49),
+        _ if !lifts && is_at(u32::MAX) => Some(53),
         _ if (0..raised).map(node).any(|node| node.is_none()) => Some(48),
         1 => Some(47),
         left => (left == announcements).then_some(46),
@@ -259,8 +266,9 @@ pub fn limit_met(call: &Call, before: Before, reply: Reply, hall: &Hall) -> Opti
         (Before::Announce { pending: Some(12), .. }, 3) => Some(11),
         (Before::WriteBegin { highest: WORN }, 0) => Some(12),
         (Before::WriteBegin { highest }, 10) if highest == WORN + 1 => Some(13),
-        (Before::Raise { revision: Some(revision) }, 0) if revision == u32::MAX - 1 => Some(14),
-        (Before::Raise { revision: Some(u32::MAX) }, 3) => Some(15),
+        (Before::Raise { revision, lifts }, number) => {
+            by_raise(revision, lifts, number).or_else(|| by_argument(call, number == 0, number, hall.columns()))
+        }
         (Before::CountTable { matches: 33 }, 0) => Some(23),
         (Before::CountTable { matches: RECORDS }, 0) => Some(24),
         (_, 0) if reply.ending == 1 && reply.count as usize > LIST => Some(25),
@@ -278,6 +286,17 @@ pub fn limit_met(call: &Call, before: Before, reply: Reply, hall: &Hall) -> Opti
         (Before::HoldsColumn, 3) => Some(44),
         (Before::Abandon { accepted: Some(limit), .. }, 0 | 13) | (Before::Abandon { unsound: Some(limit), .. }, 3) => Some(limit),
         _ => by_argument(call, reply.number == 0, reply.number, hall.columns()),
+    }
+}
+
+/// Of a raise at a marked node with this revision.
+fn by_raise(revision: Option<u32>, lifts: bool, number: u32) -> Option<usize> {
+    match (revision?, lifts, number) {
+        (revision, true, 0) if revision == u32::MAX - 1 => Some(14),
+        (u32::MAX, true, 3) => Some(15),
+        (u32::MAX, false, 0 | 13) => Some(52),
+        (_, true, 13) => Some(54),
+        _ => None,
     }
 }
 

@@ -77,9 +77,9 @@ impl<const FAULT: u8> Side for Twin<FAULT> {
     }
 }
 
-/// The faults by name; the first five are those of document 01, the last nine of counts (S-1), of ranges (S-3), of abandonings (S-4) and of the
-/// value 0 (S-5).
-pub const FAULTS: [(&str, Fault); 15] = [
+/// The faults by name; the first five are those of document 01, the last twelve of counts (S-1), of ranges (S-3), of abandonings (S-4), of the
+/// value 0 (S-5) and of writes that change nothing (S-6).
+pub const FAULTS: [(&str, Fault); 18] = [
     ("early-raise", Fault::EarlyRaise),
     ("back-at-one", Fault::BackAtOne),
     ("one-bit", Fault::OneBit),
@@ -95,6 +95,9 @@ pub const FAULTS: [(&str, Fault); 15] = [
     ("zero-as-star", Fault::ZeroAsStar),
     ("all-values", Fault::AllValues),
     ("zero-unseen", Fault::ZeroUnseen),
+    ("always-raised", Fault::AlwaysRaised),
+    ("never-raised", Fault::NeverRaised),
+    ("full-raised", Fault::FullRaised),
 ];
 
 pub fn fault_named(name: &str) -> Option<Fault> {
@@ -120,5 +123,8 @@ pub fn twin_with(fault: Fault) -> &'static dyn Side {
         Fault::ZeroAsStar => &Twin::<{ Fault::ZeroAsStar as u8 }>,
         Fault::AllValues => &Twin::<{ Fault::AllValues as u8 }>,
         Fault::ZeroUnseen => &Twin::<{ Fault::ZeroUnseen as u8 }>,
+        Fault::AlwaysRaised => &Twin::<{ Fault::AlwaysRaised as u8 }>,
+        Fault::NeverRaised => &Twin::<{ Fault::NeverRaised as u8 }>,
+        Fault::FullRaised => &Twin::<{ Fault::FullRaised as u8 }>,
     }
 }

@@ -142,9 +142,10 @@ fn seat(rng: &mut Rng, hall: &mut Hall, client: usize) {
     let own = &mut hall.memories[3][place..place + CLIENT_WIDTH];
     own[CLIENT_KIND] = kind;
     own[CLIENT_STEPS] = steps;
-    for flag in [CLIENT_SAW, CLIENT_CHANGED, CLIENT_FULL] {
+    for flag in [CLIENT_SAW, CLIENT_FULL] {
         own[flag] = rng.pick(&[0, 0, 0, 1, 2]);
     }
+    own[CLIENT_CHANGED] = rng.pick(&[0, 0, 1, 1, 2]);
     own[CLIENT_ENTRY..CLIENT_ENTRY + KEY_WIDTH].copy_from_slice(&query.key());
     own[CLIENT_ENTRY + ENTRY_LENGTH] = length_for(rng, own[CLIENT_ENTRY]);
     if rng.chance(1, 8) {

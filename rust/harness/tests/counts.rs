@@ -58,7 +58,7 @@ fn counts_of_0_32_33_2047_and_2048_are_true_from_the_table_and_from_file() {
         assert_eq!(h.make(STEP), Reply { number: 0, count: n, ending: 2 });
         h.up_to_the_end(count(None), 1);
         assert_eq!(h.make(STEP), Reply { number: 0, count: n, ending: 1 });
-        assert_eq!((h.checker.owed(), h.checker.answers), ([1, 0, 1, 0], 2));
+        assert_eq!((h.checker.owed(), h.checker.answers), ([1, 0, 1, 0, 0], 2));
     }
 }
 
@@ -118,9 +118,9 @@ fn a_filed_list_binds_no_count_and_a_filed_count_no_list() {
         h.up_to_the_end(filing, 4);
         h.make(STEP);
         h.up_to_the_end(fetching, 4);
-        assert_eq!((h.make(STEP).ending, h.checker.owed()), (2, [0; 4]));
+        assert_eq!((h.make(STEP).ending, h.checker.owed()), (2, [0; 5]));
         h.up_to_the_end(filing, 2);
-        assert_eq!((h.make(STEP).ending, h.checker.owed()), (1, [1, 0, counts, 0]));
+        assert_eq!((h.make(STEP).ending, h.checker.owed()), (1, [1, 0, counts, 0, 0]));
     }
 }
 

@@ -46,7 +46,7 @@ impl Played {
 
     /// How many fetches were owed, all in all and to ranges.
     fn owed(&self) -> [u64; 2] {
-        let [owed, _, _, ranges] = self.checker.owed();
+        let [owed, _, _, ranges, _] = self.checker.owed();
         [owed, ranges]
     }
 }

@@ -151,12 +151,29 @@ fn a_delete_that_names_0_takes_out_nothing_and_a_second_insert_puts_nothing_in()
     assert_eq!((h.write(delete(None)).ending, h.hall.table()[0]), (3, 0));
 }
 
-/// A filed answer to 0 and to a star, and one write after it.
+/// A filed answer to 0 and to a star, and one write after it, which is open when the next read begins; it has set its marks.
 #[test]
 fn a_write_that_shares_a_node_with_the_read_counts_whether_they_meet_or_not() {
     let of_zero = [(insert(0), 0), (insert(1), 1), (delete(Some(0)), 0), (delete(Some(1)), 1), (delete(None), 0)];
     let of_one = [(insert(0), 1), (insert(1), 0), (delete(Some(0)), 1), (delete(Some(1)), 0), (delete(None), 0)];
     let of_star = [(insert(0), 0), (insert(1), 0), (delete(Some(0)), 0), (delete(None), 0)];
+    let asked = [(ask(false, Some(0)), &of_zero[..]), (ask(true, Some(1)), &of_one), (ask(false, None), &of_star), (within(true, 1, 9), &of_star)];
+    for (read, (write, owed)) in asked.into_iter().flat_map(|(read, writes)| writes.iter().map(move |write| (read, *write))) {
+        let mut h = Played::plain();
+        h.read(read);
+        h.make(write);
+        h.steps(1, 2);
+        let again = h.read(read);
+        assert_eq!((again.ending, h.owed()), (if owed == 1 { 1 } else { 2 }, owed), "{read:?}, {write}");
+    }
+}
+
+/// The same with the write at its end: 0 and 1 are there, so only a delete that finds them has changed the table (S-6), and none by the name of 0.
+#[test]
+fn once_it_has_ended_it_counts_if_it_changed_the_table() {
+    let of_zero = [(insert(0), 1), (insert(9), 1), (delete(Some(0)), 1), (delete(Some(1)), 1), (delete(None), 0)];
+    let of_one = [(insert(1), 1), (delete(Some(1)), 0), (delete(None), 0)];
+    let of_star = [(insert(0), 1), (insert(9), 0), (delete(Some(0)), 1), (delete(Some(1)), 0), (delete(None), 0)];
     let asked = [(ask(false, Some(0)), &of_zero[..]), (ask(true, Some(1)), &of_one), (ask(false, None), &of_star), (within(true, 1, 9), &of_star)];
     for (read, (write, owed)) in asked.into_iter().flat_map(|(read, writes)| writes.iter().map(move |write| (read, *write))) {
         let mut h = Played::plain();

@@ -13,10 +13,11 @@ pub enum Abandoned {
     GivenUp,
     /// The write had made its table step, and this is its end: it changed the table.
     Changed,
-    /// The write had made its table step, and this is its end: the table is as it was.
+    /// The write had made its table step, and this is its end: the table is as it was, and answers
+    /// filed before hold.
     Unchanged,
     /// 13: the insert had made its table step, and this is its end: the table held 2,048 records
-    /// and not this one.
+    /// and not this one. It is as it was, and answers filed before hold.
     Full,
 }
 

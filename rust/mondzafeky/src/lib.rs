@@ -27,6 +27,11 @@
 //! chooses by their order. A bench can be pulled out at any time: [`Hall::abandon`] gives up a
 //! read, or a write that has not reached the table, and ends a write that has ([`Abandoned`]).
 //!
+//! A write that changes nothing costs no filed answer: an insert of a record that is there, a
+//! delete that finds none, an insert into a full table. While it is under way, reads that it would
+//! concern go to the table; one that begins after its end is answered from file, if its answer was
+//! filed before.
+//!
 //! **0 means not measured.** A record may carry it, and inserting such a record again changes
 //! nothing. Naming 0 finds nothing, in a read, a count or a delete, and a range skips it, also one
 //! that begins at 0; a star finds it ([`Query`] has an example).

@@ -27,9 +27,10 @@ pub enum Outcome<'a> {
     Long,
     /// The write's end: it changed the table.
     Changed,
-    /// The write's end: the table is as it was.
+    /// The write's end: the table is as it was, and answers filed before hold.
     Unchanged,
-    /// 13, the insert's end: the table held 2,048 records and not this one.
+    /// 13, the insert's end: the table held 2,048 records and not this one. It is as it was, and
+    /// answers filed before hold.
     Full,
 }
 

@@ -102,8 +102,8 @@ fn each_write_after_each_number_of_steps() {
     }
 }
 
-/// What was filed before still holds if the write was given up, and not if it has ended; the second
-/// read is answered from file either way.
+/// What was filed before still holds if the write was given up or has ended unchanged, and not if
+/// it has changed the table; the second read is answered from file either way.
 #[test]
 fn reads_afterwards_are_answered_from_file() {
     let mut before = hall_of(2, 3);
@@ -112,9 +112,10 @@ fn reads_afterwards_are_answered_from_file() {
     for write in [Write::Insert(vec![1, 8]), Write::Insert(vec![1, 7]), Write::Delete(query.clone()), Write::Delete([Some(1), Some(8)].into())] {
         for made in 0..=8 {
             let mut hall = write.under_way(&before, made);
-            let given_up = hall.abandon(DESK) == Ok(Abandoned::GivenUp);
-            assert_eq!(given_up, made <= 4);
-            assert_eq!((is_filed(&mut hall, &query), is_filed(&mut hall, &query)), (given_up, true), "{write:?}, {made} steps");
+            let abandoned = hall.abandon(DESK).unwrap();
+            assert_eq!(abandoned == Abandoned::GivenUp, made <= 4);
+            let holds = abandoned != Abandoned::Changed;
+            assert_eq!((is_filed(&mut hall, &query), is_filed(&mut hall, &query)), (holds, true), "{write:?}, {made} steps");
         }
     }
 }
@@ -232,8 +233,8 @@ fn nodes_that_no_history_leaves_are_3_and_nothing_is_altered() {
     }
 }
 
-/// Not 0 means set; found full goes before changed, of a delete too. Before the table step neither
-/// is looked at.
+/// Not 0 means set; found full goes before changed, of a delete too, and changed alone decides
+/// whether the counters go up. Before the table step neither is looked at.
 #[test]
 fn changed_and_full_as_no_history_leaves_them() {
     let cases = [
@@ -254,8 +255,11 @@ fn changed_and_full_as_no_history_leaves_them() {
                 let m: Memories<'_> = hall.memories();
                 m.clients[flags..flags + 2].copy_from_slice(&set);
                 let end = if made <= 2 { NOTHING } else { Reply { number, count: 0, ending } };
-                assert_eq!(hall.clone().memories().abandon(DESK), end, "{write:?}, {made} steps, {set:?}");
+                let mut abandoned = hall.clone();
+                assert_eq!(abandoned.memories().abandon(DESK), end, "{write:?}, {made} steps, {set:?}");
                 if made > 2 {
+                    let lifted = counters(&hall).into_iter().zip(counters(&abandoned)).filter(|(old, new)| new.1 == old.1 + 1).count();
+                    assert_eq!(lifted, if set[0] != 0 { 5 - made as usize } else { 0 }, "{write:?}, {made} steps, {set:?}");
                     assert_eq!(hall.memories().run(&mut [0; TRAY_LEAST], DESK), end, "the last step tells the same");
                 }
             }

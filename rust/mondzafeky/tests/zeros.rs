@@ -155,8 +155,8 @@ fn what_a_range_skips_is_not_counted_among_the_32() {
     assert_eq!(found(&mut hall, &[None].into(), 0, Some(0..=MAX)).0, values[1..]);
 }
 
-/// In nodes a 0 equals a 0: a write of it sends a read that names it to the table, though neither
-/// finds a record, and one of 1 does not.
+/// In nodes a 0 equals a 0: a write that changes a record with it sends a read that names it to the
+/// table, though that read finds no record; one of 1 does not, nor one that changes nothing.
 #[test]
 fn a_filed_answer_to_0_goes_by_the_writes_of_0() {
     for (k, column) in columns() {
@@ -171,6 +171,8 @@ fn a_filed_answer_to_0_goes_by_the_writes_of_0() {
         assert!(is_filed_after(&|hall| insert(hall, &record(k, column, 1))));
         assert!(!is_filed_after(&|hall| insert(hall, &record(k, column, 0))));
         assert!(is_filed_after(&|hall| delete(hall, &naming(k, column, 1)[1])));
-        assert!(!is_filed_after(&|hall| delete(hall, &naming(k, column, 0)[1])));
+        assert!(is_filed_after(&|hall| insert(hall, &record(k, column, 0))));
+        assert!(is_filed_after(&|hall| delete(hall, &naming(k, column, 0)[1])));
+        assert!(!is_filed_after(&|hall| delete(hall, &starred(k, column)[1])));
     }
 }

@@ -16,8 +16,8 @@ use layout::*;
 use query::Query;
 use range::Range;
 
-/// Document 01, "Faults a bench would show", and ten more: looks that pay no heed to marks, two each of counts, of ranges and of abandonings, three
-/// of the value 0.
+/// Document 01, "Faults a bench would show", and thirteen more: looks that pay no heed to marks, two each of counts, of ranges and of abandonings,
+/// three each of the value 0 and of writes that change nothing.
 #[derive(Clone, Copy, PartialEq, Eq, Debug)]
 #[repr(u8)]
 pub enum Fault {
@@ -52,6 +52,12 @@ pub enum Fault {
     AllValues,
     /// a write that names 0, an insert too, is taken to meet nothing: it neither marks nor raises
     ZeroUnseen,
+    /// a write that changed nothing lifts its counters too, as before S-6
+    AlwaysRaised,
+    /// a write that changed the table leaves its counters too
+    NeverRaised,
+    /// a full table is taken for a change: its insert lifts its counters
+    FullRaised,
 }
 
 /// The number for a plain twin, to be given as `Memories<'_, PLAIN>` where it is not the default.

@@ -75,9 +75,9 @@ pub fn announce<const FAULT: u8>(nodes: &mut [u32], label: &Label) -> Option<()>
     Some(())
 }
 
-/// One pending write fewer at each of these nodes of a write, and with a lift one revision more: all of them or none. With a lift it is the raise,
-/// of one node by a step and of all that are left by an abandoning (document 02, S-4); without, marks are taken back. The labels of one write
-/// differ, so each node is tested on its own.
+/// One pending write fewer at each of these nodes of a write, and with a lift one revision more: all of them or none. It is the raise, of one node
+/// by a step and of all that are left by an abandoning (document 02, S-4), with a lift if the write has changed the table (S-6); before the table
+/// step marks are taken back, without. The labels of one write differ, so each node is tested on its own.
 pub fn retire<const FAULT: u8>(nodes: &mut [u32], query: &Query, numbers: Range<u32>, lift: bool) -> Option<()> {
     if FAULT == Fault::EarlyRaise as u8 {
         return Some(());

@@ -1,5 +1,5 @@
-//! One step of a desk, and the abandoning of a write, after their refusals (document 01, "One desk, step by step"; document 02, S-4). Leans on
-//! nodes, answers and table.
+//! One step of a desk, and the abandoning of a write, after their refusals (document 01, "One desk, step by step"; document 02, S-4 and S-6). Leans
+//! on nodes, answers and table.
 
 use crate::answers::{entry_of, Entry};
 use crate::layout::*;
@@ -116,7 +116,7 @@ impl<const FAULT: u8> Memories<'_, FAULT> {
             Some(())
         } else {
             let raised = steps - announcements - 1;
-            nodes::retire::<FAULT>(self.nodes, query, raised..raised + 1, true)
+            nodes::retire::<FAULT>(self.nodes, query, raised..raised + 1, self.lifts(client))
         };
         if done.is_none() {
             return Reply::refused(3);
@@ -134,7 +134,7 @@ impl<const FAULT: u8> Memories<'_, FAULT> {
         let (steps, announcements) = (self.client(client)[CLIENT_STEPS], query.announcements());
         let past_table = steps > announcements;
         let marked = if past_table { steps - announcements - 1..announcements } else { 0..steps };
-        if self.retire_abandoned(query, marked, past_table).is_none() {
+        if self.retire_abandoned(client, query, marked, past_table).is_none() {
             return Reply::refused(3);
         }
         if past_table {
@@ -146,11 +146,20 @@ impl<const FAULT: u8> Memories<'_, FAULT> {
 
     /// A mark off each node that an abandoned write holds one at; the faults: past its table step it leaves them, or takes them back, and one that
     /// is not seen has none.
-    fn retire_abandoned(&mut self, query: &Query, marked: Range<u32>, past_table: bool) -> Option<()> {
+    fn retire_abandoned(&mut self, client: u32, query: &Query, marked: Range<u32>, past_table: bool) -> Option<()> {
         if past_table && FAULT == Fault::MarksLeft as u8 || is_unseen::<FAULT>(query) {
             return Some(());
         }
-        nodes::retire::<FAULT>(self.nodes, query, marked, past_table && FAULT != Fault::TakenBack as u8)
+        let lift = past_table && self.lifts(client) && FAULT != Fault::TakenBack as u8;
+        nodes::retire::<FAULT>(self.nodes, query, marked, lift)
+    }
+
+    /// Past its table step: whether the write's raises lift the counters. They do if the list of records changed, which its desk has noted, and a
+    /// full table is no change (document 02, S-6). The faults: they always do, they never do, they do in a full table too.
+    fn lifts(&self, client: u32) -> bool {
+        let own = self.client(client);
+        let full = FAULT == Fault::FullRaised as u8 && own[CLIENT_FULL] != 0;
+        (own[CLIENT_CHANGED] != 0 || full || FAULT == Fault::AlwaysRaised as u8) && FAULT != Fault::NeverRaised as u8
     }
 
     fn write_table(&mut self, client: u32, query: &Query) {

@@ -87,9 +87,11 @@ fn case_8_a_pending_write_seen() {
 
 #[test]
 fn case_9_a_node_leaves_and_comes_back() {
-    let mut hall = Hall::open(1);
-    for _ in 0..6 {
-        hall.insert(1, &[1, 5]);
+    let mut hall = filled(1, 5);
+    // each changes the table, so each raises the node
+    for _ in 0..3 {
+        assert_eq!(hall.delete(1, &[1, 5]).1.ending, 3);
+        assert_eq!(hall.insert(1, &[1, 5]).1.ending, 3);
     }
     assert_eq!(hall.node(0)[..7], [TAG_VALUE, 5, 0, 0, 0, 0, 7]);
     assert_eq!(hall.read(0, &[1, 5]), (5, from_table(1)));

@@ -102,13 +102,10 @@ fn a_delete_that_names_0_takes_out_nothing_and_a_star_takes_it_out() {
     for (k, others) in (1..=4).flat_map(|k| [(k, true), (k, false)]) {
         let mut hall = three(k);
         let table = hall.table.clone();
-        assert_eq!(hall.lend().begin_delete(1, &naming(k, 0, others)), ACCEPTED);
-        assert_eq!(hall.run(1), ((2 << k) + 1, UNCHANGED));
+        assert_eq!(hall.delete(1, &naming(k, 0, others)), ((2 << k) + 1, UNCHANGED));
         assert_eq!(hall.table, table);
-        assert_eq!(hall.lend().begin_delete(1, &naming(k, 1, others)), ACCEPTED);
-        assert_eq!((hall.run(1).1, held(&hall, k)), (CHANGED, vec![0, MOST]));
-        assert_eq!(hall.lend().begin_delete(1, &vec![0; 2 * k as usize]), ACCEPTED);
-        assert_eq!((hall.run(1).1, hall.table[COUNT]), (CHANGED, 0));
+        assert_eq!((hall.delete(1, &naming(k, 1, others)).1, held(&hall, k)), (CHANGED, vec![0, MOST]));
+        assert_eq!((hall.delete(1, &vec![0; 2 * k as usize]).1, hall.table[COUNT]), (CHANGED, 0));
     }
 }
 

@@ -8,11 +8,11 @@ use Rattle.cases_run.proofs.run_parts.Tie as tie
 
 abbrev Inv-loop : tie.InvT-loop
 Inv-loop table₀ nodes₀ answers₀ clients₀ tray₀ met₀ part₀ table nodes answers clients tray met part =
-    (part ≤ 65) × ((length table ≡ length table₀) × ((length nodes ≡ length nodes₀) × ((length answers ≡ length answers₀) × ((length clients ≡ length clients₀) × (length tray ≡ length tray₀)))))
+    (part ≤ 71) × ((length table ≡ length table₀) × ((length nodes ≡ length nodes₀) × ((length answers ≡ length answers₀) × ((length clients ≡ length clients₀) × (length tray ≡ length tray₀)))))
 
 abbrev μ-loop : tie.MeasureT-loop
 μ-loop table₀ nodes₀ answers₀ clients₀ tray₀ met₀ part₀ table nodes answers clients tray met part =
-    65 - part
+    71 - part
 
 loop-holds : tie.Need-loop-holds Inv-loop μ-loop
 loop-holds c = search needs

@@ -20,7 +20,7 @@ returns : tie.Need-returns
 returns c =
     let made = c .before .before .before in
     let r = marked (made .before .before .before .before) in
-    λ t a. off-refused t _ a _ _ _ _ _ _ _ (r .labels) (made .retire .ensures) _ (not-true _ (c .if1 .taken))
+    λ t a. off-refused t _ a _ _ _ _ _ refl _ _ _ (r .labels) (made .retire .ensures) _ (not-true _ (c .if1 .taken))
 
 set-idle-requires : tie.Need-set-idle-requires
 set-idle-requires c κs = search needs
@@ -38,7 +38,7 @@ returns-2 c =
     let r = marked (made .before .before .before .before) in
     let went = not-false _ (passed .if1 .left) in
     let left = c .before .before .set-idle .ensures in
-    λ t a. off-done t _ a _ _ _ _ _ _ _ (r .labels) (made .retire .ensures) _ went _ _ (refl, left)
+    λ t a. off-done t _ a _ _ _ _ _ refl _ _ _ (r .labels) (made .retire .ensures) _ went _ _ (refl, left)
 
 pub release-all-spec : {M : Type 1} → statement M
 release-all-spec =

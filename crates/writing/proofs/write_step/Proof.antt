@@ -50,7 +50,7 @@ same-length-4 : tie.Need-same-length-4
 same-length-4 c = search needs
 
 returns-2 : tie.Need-returns-2
-returns-2 c = λ a y. c .before .before .before .before .write-table-step .ensures _ a y
+returns-2 c = λ a y. c .before .before .before .before .write-table-step .ensures .0 _ a y
 
 raise-step-requires : tie.Need-raise-step-requires
 raise-step-requires c κs =

@@ -1,6 +1,6 @@
 -- `writing::write_table_step` meets its contract. Assumes nothing.
 use native.Mathlib.Omega.{arith}
-use Rattle.writing.proofs.WriteSteps.{step-small, held-change, table-done}
+use Rattle.writing.proofs.WriteSteps.{step-small, held-change, held-width, table-done, table-says}
 use borrow.Author.Needs.{needs}
 use Rattle.writing.proofs.write_table_step.Statement.{statement}
 use Rattle.writing.proofs.write_table_step.Tie as tie
@@ -26,7 +26,11 @@ returns c =
     let made = wrote .before .before .before .before in
     let p = made .before .before .before .before .pre in
     let w = p .0 in
-    λ n a y. table-done _ n a _ y _ _ _ _ _ _ _ _ (p .1 .1) (w .held .columns) (held-change w) (made .change .ensures) (wrote .set-wrote .ensures)
+    let said = made .change .ensures in
+    let left = wrote .set-wrote .ensures in (
+      (λ n a y. table-done _ n a _ y _ _ _ _ _ _ _ _ (p .1 .1) (w .held .columns) (held-change w) said left),
+      table-says _ _ _ _ _ _ _ _ (w .fit) (p .1 .0) (held-width w) said left,
+    )
 
 pub write-table-step-spec : {M : Type 1} → statement M
 write-table-step-spec =

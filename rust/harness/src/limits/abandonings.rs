@@ -1,5 +1,6 @@
 //! Rows of abandonings: of writes on each side of the table step, with each end (S-4); what is wrong with a node that has the write's mark, or with
-//! one that it has raised; twelve writers on the same nodes; reads afterwards; of reads. Leans on scene, nodes and steps.
+//! one that it has raised; twelve writers on the same nodes; reads afterwards; of reads. A write that changed nothing leaves its counters (S-6);
+//! more of such writes is in unchanged. Leans on scene, nodes and steps.
 
 use super::nodes::writing;
 use super::steps::{on_tray, reading};
@@ -45,8 +46,17 @@ fn writes(k: u32) -> Vec<(Scene, Reply, [u32; 2])> {
 }
 
 /// Marks and counter of these nodes.
-fn nodes_at(numbers: Range<u32>, pending: u32, revision: u32) -> impl Iterator<Item = (Place, u32)> {
+pub fn nodes_at(numbers: Range<u32>, pending: u32, revision: u32) -> impl Iterator<Item = (Place, u32)> {
     numbers.flat_map(move |i| [(node(i, NODE_PENDING), pending), (node(i, NODE_REVISION), revision)])
+}
+
+/// The counter that a write's nodes have after its end, from 1 on: "after no change, each raise step takes the mark off and leaves the counter".
+pub fn counter_after(end: Reply) -> u32 {
+    if end == CHANGED {
+        2
+    } else {
+        1
+    }
 }
 
 /// After each number of steps. Nodes are added with counter 1.
@@ -59,13 +69,13 @@ pub fn by_steps(rows: &mut Vec<Row>, k: u32) {
         }
         for raised in 0..n {
             let row = scene.clone().steps(0, n + 1 + raised).row(AFTER, raised, abandon(0), end);
-            rows.push(row.after(nodes_at(0..n, 0, 2)).after([(NODE_COUNT, n), (RECORD_COUNT, after)]).after(idle(0)));
+            rows.push(row.after(nodes_at(0..n, 0, counter_after(end))).after([(NODE_COUNT, n), (RECORD_COUNT, after)]).after(idle(0)));
         }
     }
 }
 
 /// How a write ends in a hall without records.
-fn end_in_empty(kind: u32) -> Reply {
+pub fn end_in_empty(kind: u32) -> Reply {
     if kind == INSERT {
         CHANGED
     } else {
@@ -74,7 +84,7 @@ fn end_in_empty(kind: u32) -> Reply {
 }
 
 /// The raises made before an abandoning: none, one, all but one.
-fn raises(k: u32) -> [u32; 3] {
+pub fn raises(k: u32) -> [u32; 3] {
     [0, 1, (1 << k) - 1]
 }
 
@@ -107,17 +117,19 @@ struct PulledOut {
 fn pulled_out(k: u32, kind: u32) -> impl Iterator<Item = PulledOut> {
     let n = 1 << k;
     let before = [1, n].map(|made| PulledOut { steps: made, there: made, held: 0..made, end: says(0), counter: 1 });
-    let after = raises(k).map(|raised| PulledOut { steps: n + 1 + raised, there: n, held: raised..n, end: end_in_empty(kind), counter: 2 });
+    let end = end_in_empty(kind);
+    let after = raises(k).map(|raised| PulledOut { steps: n + 1 + raised, there: n, held: raised..n, end, counter: counter_after(end) });
     before.into_iter().chain(after)
 }
 
 /// One number of one node is another than the write has left there. Where it has a mark the rows ask what becomes of the number, if that mark is
-/// taken back and if the node is raised, or for 3 where there is none; a node that it has raised is not looked for.
-fn damaged(rows: &mut Vec<Row>, (k, kind): (u32, u32), limit: Limit, (at, value): (usize, u32), [taken_back, raised]: [Option<u32>; 2]) {
+/// taken off alone, before the table step and after no change, and if the counter goes up too, or for 3 where there is none; a node that it has
+/// raised is not looked for.
+fn damaged(rows: &mut Vec<Row>, (k, kind): (u32, u32), limit: Limit, (at, value): (usize, u32), [taken_off, raised]: [Option<u32>; 2]) {
     for (write, number) in pulled_out(k, kind).flat_map(|write| (0..write.there).map(move |number| (write.clone(), number))) {
         let scene = writing(k, kind, write.steps).put(node(number, at), value);
         let becomes = match write.held.contains(&number) {
-            true if write.counter == 1 => taken_back,
+            true if write.counter == 1 => taken_off,
             true => raised,
             false => Some(value),
         };
@@ -164,19 +176,20 @@ pub fn desks(rows: &mut Vec<Row>, k: u32) {
         for desk in [0, 5, 11] {
             rows.push(marked.row(DESKS, desk, abandon(desk), says(0)).after(nodes_at(0..n, 11, 1)).after(idle(desk)));
             let row = marked.clone().steps(desk, 1).row(DESKS, desk, abandon(desk), end_in_empty(kind));
-            rows.push(row.after(nodes_at(0..n, 11, 2)).after(idle(desk)));
+            rows.push(row.after(nodes_at(0..n, 11, counter_after(end_in_empty(kind)))).after(idle(desk)));
         }
+        // only the first insert has changed the table
         let past_table = (0..12).fold(marked, |scene, desk| scene.steps(desk, 1 + desk % n));
         let but_last = (0..11).fold(past_table, |scene, desk| scene.made(abandon(desk)));
-        rows.push(but_last.row(DESKS, 11, abandon(11), UNCHANGED).after(nodes_at(0..n, 0, 13)).after(idle(11)));
+        rows.push(but_last.row(DESKS, 11, abandon(11), UNCHANGED).after(nodes_at(0..n, 0, counter_after(end_in_empty(kind)))).after(idle(11)));
     }
 }
 
-/// A read of all records, and what is filed for it, beside a write that lies in it and is pulled out at desk 1. With marks taken back the filed
-/// answer holds; after the table step it does not, whether the table changed or not: the next read files its own, and the one after gets that.
+/// A read of all records, and what is filed for it, beside a write that changes one of them and is pulled out at desk 1. With marks taken back the
+/// filed answer holds; after the table step it does not: the next read files its own, and the one after gets that.
 pub fn read_again(rows: &mut Vec<Row>, k: u32) {
     for reads in READS {
-        for (kind, last, left) in [(INSERT, 9, 10), (INSERT, 8, 9), (DELETE, 8, 8), (DELETE, 9, 9)] {
+        for (kind, last, left) in [(INSERT, 9, 10), (DELETE, 8, 8)] {
             let filed = reading(Scene::opened(k).records(9, 0), reads, 3).made(begin(kind, 1, one_record(k, last)));
             for made in [0, 1, 1 << k] {
                 let again = reading(filed.clone().steps(1, made).made(abandon(1)), reads, 0);

@@ -1,8 +1,8 @@
-//! Both sides of every limit of document 01, of S-1, S-3, S-4 and S-5 in document 02 and of every least length, as rows: a scene, a call, and what
-//! the documents have for it, with the words that give it. Library and twin are each held to that; neither is judged by the other, though their
-//! memories are compared too.
-//! scene: scenes and calls; memories, clients, arguments, steps, counts, nodes, abandonings, passes, ranges, reversed, held, zeros: the rows. Leans
-//! on call, hall and side.
+//! Both sides of every limit of document 01, of S-1, S-3, S-4, S-5 and S-6 in document 02 and of every least length, as rows: a scene, a call, and
+//! what the documents have for it, with the words that give it. Library and twin are each held to that; neither is judged by the other, though
+//! their memories are compared too.
+//! scene: scenes and calls; memories, clients, arguments, steps, counts, nodes, abandonings, passes, ranges, reversed, held, zeros, unchanged: the
+//! rows. Leans on call, hall and side.
 
 mod abandonings;
 mod arguments;
@@ -16,6 +16,7 @@ mod ranges;
 mod reversed;
 mod scene;
 mod steps;
+mod unchanged;
 mod zeros;
 
 use crate::call::Call;
@@ -180,6 +181,8 @@ const ABANDONINGS: [Part; 5] = [abandonings::flags, abandonings::nodes, abandoni
 /// Of the value 0 (S-5).
 const ZEROS: [Part; 9] =
     [zeros::named, zeros::ranges, zeros::beside_ranges, zeros::lengths, zeros::inserts, zeros::deletes, zeros::looks, zeros::shared, zeros::found];
+/// Of writes that change nothing (S-6).
+const UNCHANGING: [Part; 5] = [unchanged::raises, unchanged::read_beside, unchanged::seen, unchanged::counters, unchanged::unmarked];
 /// Of the passes over records (S-2).
 const PASSES: [Part; 2] = [passes::places, passes::zeros];
 
@@ -188,7 +191,7 @@ pub fn rows() -> Vec<Row> {
     let mut rows = Vec::new();
     memories::columns(&mut rows);
     reversed::columns(&mut rows);
-    let parts = || PLAIN.iter().flatten().chain(&RANGES).chain(&ABANDONINGS).chain(&ZEROS).chain(&PASSES);
+    let parts = || PLAIN.iter().flatten().chain(&RANGES).chain(&ABANDONINGS).chain(&ZEROS).chain(&UNCHANGING).chain(&PASSES);
     (1..=4).for_each(|k| parts().for_each(|part| part(&mut rows, k)));
     let exact: Vec<Row> = rows.iter().filter(|row| row.lent == MORE).map(|row| row.clone().lent(LEAST)).collect();
     rows.extend(exact);

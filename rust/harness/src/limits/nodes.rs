@@ -90,9 +90,12 @@ fn raises(rows: &mut Vec<Row>, k: u32, kind: u32) {
             rows.push(scene.put(NODE_COUNT, number).row(MISSING, number, call, says(3)));
         }
         if number == 0 {
-            for (counter, wanted) in [(u32::MAX - 1, 0), (u32::MAX, 3)] {
+            // in an empty hall an insert changes the table, and a delete, which does not, leaves the counter
+            let inserts = [(u32::MAX - 1, 0, u32::MAX), (u32::MAX, 3, u32::MAX)];
+            let deletes = [(u32::MAX - 1, 0, u32::MAX - 1), (u32::MAX, 0, u32::MAX)];
+            for (counter, wanted, after) in if kind == INSERT { inserts } else { deletes } {
                 let scene = raising().put(revision, counter);
-                rows.push(scene.row(COUNTER, counter, step(0), says(wanted)).after([(revision, u32::MAX)]));
+                rows.push(scene.row(COUNTER, counter, step(0), says(wanted)).after([(revision, after)]));
             }
         }
     }

@@ -181,17 +181,19 @@ pub fn looks(rows: &mut Vec<Row>, k: u32) {
     }
 }
 
-/// What writes do to a filed answer to 0, and to a read of 0 that looks while they are marked: those of 0, and of a star, share its nodes.
+/// What writes do to a filed answer to 0, and to a read of 0 that looks while they are marked: those of 0, and of a star, share its nodes. A record
+/// with 1 is there: the insert of 0 changes the table, and so do deletes that find that record; one that names 0 never does (S-6).
 pub fn shared(rows: &mut Vec<Row>, k: u32) {
     let (column, n) = (k - 1, 1 << k);
     let writes =
         [(INSERT, ALL, 0), (INSERT, ALL, 1), (DELETE, ALL, 0), (DELETE, ALL, 1), (DELETE, 0, 0), (DELETE, 1 << column, 0), (DELETE, 1 << column, 1)];
     for (reads, (kind, named, value)) in READS.into_iter().flat_map(|reads| writes.map(|write| (reads, write))) {
         let read = of_zero(k, reads);
-        let begun = read.up_to(Scene::opened(k), 3).made(begin(kind, 1, asked(k, named, column, value)));
+        let begun = read.up_to(Scene::opened(k).records_of(column, &[1]), 3).made(begin(kind, 1, asked(k, named, column, value)));
         let ended = begun.clone().steps(1, 2 * n + 1);
         let shares = value == 0;
-        let row = read.up_to(ended, 0).row(SHARED, value, step(0), if shares { says(0) } else { from_file(0) });
+        let changes = kind == INSERT || named == 0;
+        let row = read.up_to(ended, 0).row(SHARED, value, step(0), if shares && changes { says(0) } else { from_file(0) });
         rows.push(row.after([(ANSWER_COUNT, 1)]));
         // the answer filed before stays; a read that saw a mark files nothing
         let marked = begun.steps(1, n);

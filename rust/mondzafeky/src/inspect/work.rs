@@ -78,7 +78,8 @@ pub enum Stage {
         /// Of how many.
         of: u32,
     },
-    /// A write raises a node's counter and takes its mark away.
+    /// A write takes its mark away from a node and, if it has changed the table, raises the node's
+    /// counter.
     Raise {
         /// Which raise.
         number: u32,

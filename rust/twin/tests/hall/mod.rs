@@ -75,6 +75,11 @@ impl Hall {
         self.run(client)
     }
 
+    pub fn delete(&mut self, client: u32, query: &[u32]) -> (u32, Reply) {
+        assert_eq!(self.lend().begin_delete(client, query), ACCEPTED);
+        self.run(client)
+    }
+
     pub fn node(&self, place: usize) -> &[u32] {
         &self.nodes[HEAD + place * NODE_WIDTH..][..NODE_WIDTH]
     }
