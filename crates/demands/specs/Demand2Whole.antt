@@ -256,7 +256,8 @@ pub record Demand2 (h : History) : Type 0 where
   pub deletes : Deletes h
   pub only-writes : OnlyWrites h
   -- "The last raise ends the write and says whether the table changed."; 13: "at the table step the table held 2,048 records, not this one"; and
-  -- an abandoning after the table step "reports the write's end as its last raise would have" (S-4)
+  -- an abandoning after the table step "reports the write's end as its last raise would have" (S-4). That what it says is so of the lists of
+  -- records is `EndsTell` (S-6)
   pub write-ends : WritesTake h
   -- "revision nodes are those of source document 002, definitions .. 11"
   pub looks : Looks h

@@ -186,9 +186,9 @@ fn release_all(nodes: &mut [u32], clients: &mut [u32], d: usize, h: Held) -> Out
     Outcome::Accepted
 }
 
-// Makes all raises that are left of a write after its table step: the write ends as its last raise would have ended it. Their
-// revisions go up if the client keeps that the list of records changed, else they stay. Refused where one of their nodes is missing, has no
-// pending write or cannot be raised, as at a raise step.
+// Makes all raises that are left of a write after its table step: the write ends as its last raise would have ended it. The revisions go up if
+// the client keeps that the list of records changed, else they stay. Refused where one of the nodes is missing, has no pending write or cannot
+// be raised, as at a raise step.
 fn raise_all(nodes: &mut [u32], clients: &mut [u32], d: usize, h: Held) -> Outcome
     requires { ⌜ Writer h (now clients) d ⌝ }
     requires { ⌜ NodeContracts.Fit (now nodes) ⌝ }

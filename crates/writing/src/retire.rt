@@ -1,7 +1,7 @@
 // Marks taken off some of a write's nodes, with a lift of their revisions or without: at a raise step one, at an abandoning after the table
-// step those of the raises that are left, both with a lift if the table changed; and at one before it, without a lift, all that are set. All are tested before one is altered, so a
-// refusal alters nothing; the test keeps the nodes' places, so no label is searched for twice. h is what was read of the client. Leans on
-// nodes, and on columns for the labels.
+// step those of the raises that are left, both with a lift if the table changed; and at one before it, without a lift, all that are set. All
+// are tested before one is altered, so a refusal alters nothing; the test keeps the nodes' places, so no label is searched for twice. h is what
+// was read of the client. Leans on nodes, and on columns for the labels.
 use clients::Held;
 use hall::Hall;
 ghost use mathlib.Core.Path.{_≡_};
