@@ -228,8 +228,8 @@ unfolding callAt resultAt single allBelow
 both = (unchanged 9 14 (omega arith) (omega arith) refl refl (alone 14 (omega arith)), unchanged 22 31 (omega arith) (omega arith) refl refl (alone 31 (omega arith)))
 
 -- the desk of a begin
-desk-of : (a b d e : ℕ) (r s : Request) → a ≡ b → callAt example b ≡ begin e s → callAt example a ≡ begin d r → d ≡ e
-desk-of a b d e r s i g f = let z : begin d r ≡ begin e s = sym f ∙ ap (callAt example) i ∙ g in cc
+client-of : (a b d e : ℕ) (r s : Request) → a ≡ b → callAt example b ≡ begin e s → callAt example a ≡ begin d r → d ≡ e
+client-of a b d e r s i g f = let z : begin d r ≡ begin e s = sym f ∙ ap (callAt example) i ∙ g in cc
 
 -- a write that is open after call 6 and up to call 27 was begun by call 9 or by call 22: that of call 0 ended at call 5
 of-two : (P : ℕ → ℕ → Type 0) (i : ℕ) → 6 < i → i ≤ 27 → (w : Write) (d a : ℕ) → Open example w d a i → P 1 9 → (22 < i → P 1 22) → P d a
@@ -241,10 +241,10 @@ of-two P i l m w d a o p q =
     let z = at 3 a (omega arith) (omega arith) in
     let y : (eqb a 0 || (eqb a 9 || eqb a 22)) ≡ true = rw (u .begins, o .is) at z in
     byTest (eqb a 0)
-    (λ t. let e = eqb-true a 0 t in clash (alone 5 (omega arith)) (rw (desk-of a 0 d 2 r inserting e refl (u .begins)) at (u .still 5 (omega arith) (omega arith))))
+    (λ t. let e = eqb-true a 0 t in clash (alone 5 (omega arith)) (rw (client-of a 0 d 2 r inserting e refl (u .begins)) at (u .still 5 (omega arith) (omega arith))))
     (λ t. byTest (eqb a 9)
-    (λ s. let e = eqb-true a 9 s in rw (desk-of a 9 d 1 r inserting e refl (u .begins), e) p)
-    (λ s. let e = eqb-true a 22 (rw (t, s) at y) in rw (desk-of a 22 d 1 r inserting e refl (u .begins), e) (q (omega arith))))
+    (λ s. let e = eqb-true a 9 s in rw (client-of a 9 d 1 r inserting e refl (u .begins), e) p)
+    (λ s. let e = eqb-true a 22 (rw (t, s) at y) in rw (client-of a 22 d 1 r inserting e refl (u .begins), e) (q (omega arith))))
 
 -- ---- What the theorem gives
 was-quiescent : Quiescent example x 6 18 21

@@ -324,15 +324,15 @@ listed-here l = going 0 2 ++ (does (step 0 tray) (answers l false) ∷ [])
 abbrev fetched : ℕ → List ℕ → List Line
 fetched v l = (readOne v 0 ∷ going 0 2) ++ (noted-at 0 (1 ∷ 1 ∷ []) ∷ does (step 0 tray) (answers l true) ∷ filed-count 1 ∷ [])
 
-abbrev sees-mark : ℕ → List ℕ → List Line
-sees-mark v l = (readOne v 0 ∷ going 0 3) ++ (does (step 0 tray) (answers l false) ∷ filed-count 1 ∷ [])
+abbrev sees-pending : ℕ → List ℕ → List Line
+sees-pending v l = (readOne v 0 ∷ going 0 3) ++ (does (step 0 tray) (answers l false) ∷ filed-count 1 ∷ [])
 
 abbrev spared : Mem → Request → Expect → ℕ → List ℕ → List Row
 spared m r x v l =
     from m ((readOne v 0 ∷ going 0 2) ++ listed-here l ++ whole r x ++ fetched v l)
     ∷ from m ((readOne v 0 ∷ going 0 2) ++ whole r x ++ listed-here l ++ fetched v l)
-    ∷ from m ((readOne v 0 ∷ going 0 2) ++ listed-here l ++ (does (begin 1 r) goesOn ∷ going 1 1) ++ sees-mark v l ++ going 1 3 ++ (does (step 1 tray) x ∷ fetched v l))
-    ∷ from m ((readOne v 0 ∷ going 0 2) ++ (does (begin 1 r) goesOn ∷ going 1 1) ++ listed-here l ++ sees-mark v l ++ going 1 3 ++ (does (step 1 tray) x ∷ fetched v l))
+    ∷ from m ((readOne v 0 ∷ going 0 2) ++ listed-here l ++ (does (begin 1 r) goesOn ∷ going 1 1) ++ sees-pending v l ++ going 1 3 ++ (does (step 1 tray) x ∷ fetched v l))
+    ∷ from m ((readOne v 0 ∷ going 0 2) ++ (does (begin 1 r) goesOn ∷ going 1 1) ++ listed-here l ++ sees-pending v l ++ going 1 3 ++ (does (step 1 tray) x ∷ fetched v l))
     ∷ []
 
 abbrev unchanged : List Row
