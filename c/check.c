@@ -68,11 +68,11 @@ static void check_unknown(uint32_t number)
 static void check_words(void)
 {
     /* 7 is given no longer */
-    static const char *const words[15] = {
+    static const char *const words[16] = {
         "accepted", "short", "columns", "unsound", "no desk", "taken", "idle", NULL,
-        "no entry", "marked", "worn", "occupied", "long", "full", "reversed"};
+        "no entry", "marked", "worn", "occupied", "long", "full", "reversed", "tally full"};
     uint32_t number, other, ending;
-    for (number = 0; number <= 14; number++) {
+    for (number = 0; number <= 15; number++) {
         const char *sentence = mondzafeky_sentence(number);
         const size_t length = strlen(sentence);
         if (words[number] == NULL) {
@@ -82,7 +82,7 @@ static void check_words(void)
         CHECK(strcmp(mondzafeky_name(number), words[number]) == 0);
         /* one sentence: one full stop, at its end */
         CHECK(length > 20 && strchr(sentence, '.') == sentence + length - 1);
-        CHECK(strcmp(sentence, mondzafeky_sentence(15)) != 0);
+        CHECK(strcmp(sentence, mondzafeky_sentence(16)) != 0);
         for (other = 0; other < number; other++) {
             CHECK(strcmp(sentence, mondzafeky_sentence(other)) != 0);
         }
@@ -96,7 +96,7 @@ static void check_words(void)
     }
     CHECK(strstr(mondzafeky_sentence(MONDZAFEKY_WORN), "floor") != NULL);
     CHECK(strstr(mondzafeky_sentence(MONDZAFEKY_WORN), "4,294,967,103") != NULL);
-    check_unknown(15);
+    check_unknown(16);
     check_unknown(UINT32_MAX);
     CHECK(strcmp(MONDZAFEKY_VERSION, "0.1.0") == 0);
 }
@@ -748,11 +748,239 @@ static void check_saved(mondzafeky_hall *hall)
     CHECK(mondzafeky_record(&loaded, 1)[1] == 3);
 }
 
+/* ---- tallies */
+
+static mondzafeky_tally day, low_day;
+
+static int same_tally(const mondzafeky_tally *one, const mondzafeky_tally *other)
+{
+    return memcmp(one, other, sizeof *one) == 0;
+}
+
+/* Fails unless the day's nine counts are these, in their order. */
+#define DAY_IS(begun, file, table, is_long, left, writes, changed, unchanged, given_up) \
+    do { \
+        const mondzafeky_tally wanted = { \
+            begun, file, table, is_long, left, writes, changed, unchanged, given_up}; \
+        CHECK(same_tally(&day, &wanted)); \
+    } while (0)
+
+/* Nine numbers in the document's order, and no gap; cleared in both ways; the share from file. */
+static void check_tally(void)
+{
+    const mondzafeky_tally cleared = MONDZAFEKY_TALLY_CLEARED;
+    CHECK(sizeof(mondzafeky_tally) == 9 * sizeof(uint32_t));
+    CHECK(offsetof(mondzafeky_tally, reads_begun) == 0);
+    CHECK(offsetof(mondzafeky_tally, from_file) == 4);
+    CHECK(offsetof(mondzafeky_tally, from_table) == 8);
+    CHECK(offsetof(mondzafeky_tally, ended_long) == 12);
+    CHECK(offsetof(mondzafeky_tally, reads_abandoned) == 16);
+    CHECK(offsetof(mondzafeky_tally, writes_begun) == 20);
+    CHECK(offsetof(mondzafeky_tally, ended_changed) == 24);
+    CHECK(offsetof(mondzafeky_tally, ended_unchanged) == 28);
+    CHECK(offsetof(mondzafeky_tally, writes_abandoned) == 32);
+    day = mondzafeky_tally_cleared();
+    DAY_IS(0, 0, 0, 0, 0, 0, 0, 0, 0);
+    CHECK(same_tally(&day, &cleared));
+    CHECK(mondzafeky_tally_answered(&day) == 0 && mondzafeky_tally_share(&day) == 0);
+    day.from_table = 3;
+    CHECK(mondzafeky_tally_answered(&day) == 3 && mondzafeky_tally_share(&day) == 0);
+    day.from_file = 6;
+    CHECK(mondzafeky_tally_answered(&day) == 9 && mondzafeky_tally_share(&day) == 666);
+    day.from_file = UINT32_MAX;
+    day.from_table = UINT32_MAX;
+    CHECK(mondzafeky_tally_answered(&day) == 8589934590u && mondzafeky_tally_share(&day) == 500);
+    day.from_table = 0;
+    CHECK(mondzafeky_tally_share(&day) == 1000);
+}
+
+/* A call over the hall and the low call beside it, each with a tally of its own. */
+#define AGREE_TALLIED(call, low_call) \
+    do { \
+        AGREE(call, low_call); \
+        CHECK(same_tally(&day, &low_day)); \
+    } while (0)
+#define AGREE_STEP_TALLIED(client) \
+    AGREE_TALLIED(mondzafeky_hall_step_tallied(hall, &day, client), \
+                  mondzafeky_step_tallied(MEMORIES(&low), low.tray, MONDZAFEKY_TRAY_LEAST, \
+                                          &low_day, client))
+
+/* Each call with a tally does what the low call does, and counts what it counts. */
+static void check_tallied_handed_on(mondzafeky_hall *hall)
+{
+    const mondzafeky_column query[2] = {mondzafeky_is(3), mondzafeky_star()};
+    const mondzafeky_column record[2] = {mondzafeky_is(3), mondzafeky_is(4)};
+    const uint32_t numbers[4] = {1, 3, 0, 0}, record_numbers[4] = {1, 3, 1, 4};
+    int i;
+    AGREE(mondzafeky_hall_open(hall, 2), mondzafeky_open(MEMORIES(&low), 2));
+    low_day = day = mondzafeky_tally_cleared();
+    AGREE_TALLIED(mondzafeky_hall_begin_insert_tallied(hall, &day, 11, record, 2),
+                  mondzafeky_begin_insert_tallied(MEMORIES(&low), &low_day, 11, record_numbers, 4));
+    AGREE_TALLIED(mondzafeky_hall_begin_delete_tallied(hall, &day, 0, query, 2),
+                  mondzafeky_begin_delete_tallied(MEMORIES(&low), &low_day, 0, numbers, 4));
+    AGREE_TALLIED(mondzafeky_hall_begin_read_tallied(hall, &day, 1, query, 2),
+                  mondzafeky_begin_read_tallied(MEMORIES(&low), &low_day, 1, numbers, 4));
+    AGREE_TALLIED(mondzafeky_hall_begin_count_tallied(hall, &day, 2, query, 2),
+                  mondzafeky_begin_count_tallied(MEMORIES(&low), &low_day, 2, numbers, 4));
+    AGREE_TALLIED(
+        mondzafeky_hall_begin_read_within_tallied(hall, &day, 3, query, 2, 1, 4, 9),
+        mondzafeky_begin_read_within_tallied(MEMORIES(&low), &low_day, 3, numbers, 4, 1, 4, 9));
+    AGREE_TALLIED(
+        mondzafeky_hall_begin_count_within_tallied(hall, &day, 4, query, 2, 1, 4, 9),
+        mondzafeky_begin_count_within_tallied(MEMORIES(&low), &low_day, 4, numbers, 4, 1, 4, 9));
+    CHECK(hall->clients[8 + 4 * 157 + 10] == 4 && hall->clients[8 + 4 * 157 + 11] == 9);
+    DAY_IS(4, 0, 0, 0, 0, 2, 0, 0, 0);
+    for (i = 0; i < 9; i++) {
+        AGREE_STEP_TALLIED(11);
+        AGREE_STEP_TALLIED(1);
+        AGREE_STEP_TALLIED(3);
+    }
+    AGREE_TALLIED(mondzafeky_hall_abandon_tallied(hall, &day, 0),
+                  mondzafeky_abandon_tallied(MEMORIES(&low), &low_day, 0));
+    AGREE_TALLIED(mondzafeky_hall_abandon_tallied(hall, &day, 2),
+                  mondzafeky_abandon_tallied(MEMORIES(&low), &low_day, 2));
+    DAY_IS(4, 0, 2, 0, 1, 2, 1, 0, 1);
+}
+
+/* A read of (first, *) or a write of (first, second), lent the day's tally from begin to end. */
+static mondzafeky_reply read_tallied(mondzafeky_hall *hall, uint32_t first)
+{
+    const mondzafeky_column query[2] = {mondzafeky_is(first), mondzafeky_star()};
+    REPLIES(mondzafeky_hall_begin_read_tallied(hall, &day, 1, query, 2), ACCEPTED, 0, NOTHING);
+    return mondzafeky_run_tallied(hall, &day, 1);
+}
+
+static mondzafeky_reply write_tallied(
+    mondzafeky_hall *hall, int inserts, uint32_t first, uint32_t second)
+{
+    const mondzafeky_column record[2] = {mondzafeky_is(first), mondzafeky_is(second)};
+    REPLIES(inserts ? mondzafeky_hall_begin_insert_tallied(hall, &day, 2, record, 2)
+                    : mondzafeky_hall_begin_delete_tallied(hall, &day, 2, record, 2),
+            ACCEPTED, 0, NOTHING);
+    return mondzafeky_run_tallied(hall, &day, 2);
+}
+
+/*
+ * A small history with its tally, in the hall that check_ends leaves: the records are (3, 41),
+ * (7, 0 to 31) and (8, 33 to 2,047). Reads begun equal the four counts after them plus the reads
+ * under way; writes likewise.
+ */
+static void check_tallied_history(mondzafeky_hall *hall)
+{
+    const mondzafeky_column seven[2] = {mondzafeky_is(7), mondzafeky_star()};
+    static mondzafeky_hall before;
+    before = *hall;
+    day = mondzafeky_tally_cleared();
+    REPLIES(read_tallied(hall, 3), ACCEPTED, 1, MONDZAFEKY_FROM_TABLE);
+    REPLIES(read_tallied(hall, 3), ACCEPTED, 1, MONDZAFEKY_FROM_FILE);
+    REPLIES(read_tallied(hall, 3), ACCEPTED, 1, MONDZAFEKY_FROM_FILE);
+    REPLIES(read_tallied(hall, 8), MONDZAFEKY_LONG, 0, NOTHING);
+    DAY_IS(4, 2, 1, 1, 0, 0, 0, 0, 0);
+    REPLIES(write_tallied(hall, 1, 9, 1), MONDZAFEKY_FULL, 0, NOTHING);
+    REPLIES(write_tallied(hall, 1, 3, 41), ACCEPTED, 0, MONDZAFEKY_UNCHANGED);
+    REPLIES(write_tallied(hall, 0, 3, 41), ACCEPTED, 0, MONDZAFEKY_CHANGED);
+    DAY_IS(4, 2, 1, 1, 0, 3, 1, 2, 0);
+    /* under way: a count, and a delete that is given up before its table step, then one after it */
+    REPLIES(mondzafeky_hall_begin_count_tallied(hall, &day, 1, seven, 2), ACCEPTED, 0, NOTHING);
+    REPLIES(mondzafeky_hall_begin_delete_tallied(hall, &day, 2, seven, 2), ACCEPTED, 0, NOTHING);
+    steps(hall, 2, 4);
+    REPLIES(mondzafeky_hall_abandon_tallied(hall, &day, 2), ACCEPTED, 0, NOTHING);
+    REPLIES(mondzafeky_hall_begin_delete_tallied(hall, &day, 2, seven, 2), ACCEPTED, 0, NOTHING);
+    REPLIES(mondzafeky_hall_begin_delete_tallied(hall, &day, 2, seven, 2), MONDZAFEKY_TAKEN, 0,
+            NOTHING);
+    DAY_IS(5, 2, 1, 1, 0, 5, 1, 2, 1);
+    steps(hall, 2, 5);
+    REPLIES(mondzafeky_hall_abandon_tallied(hall, &day, 2), ACCEPTED, 0, MONDZAFEKY_CHANGED);
+    REPLIES(mondzafeky_hall_abandon_tallied(hall, &day, 1), ACCEPTED, 0, NOTHING);
+    REPLIES(mondzafeky_hall_abandon_tallied(hall, &day, 1), MONDZAFEKY_IDLE, 0, NOTHING);
+    DAY_IS(5, 2, 1, 1, 1, 5, 2, 2, 1);
+    *hall = before;
+}
+
+/*
+ * With this count full the call is 15, and hall and tally stay; with a new tally it goes on, and
+ * with room for one more in the count it fills it.
+ */
+#define FULL_AT(count, call, number, records, ending) \
+    do { \
+        static mondzafeky_hall before; \
+        mondzafeky_tally full = MONDZAFEKY_TALLY_CLEARED; \
+        full.count = UINT32_MAX; \
+        before = *hall; \
+        day = full; \
+        REPLIES(call, MONDZAFEKY_TALLY_FULL, 0, NOTHING); \
+        CHECK(same(hall, &before) && same_tally(&day, &full)); \
+        day = mondzafeky_tally_cleared(); \
+        REPLIES(call, number, records, ending); \
+        full.count = 1; \
+        CHECK(!same(hall, &before) && same_tally(&day, &full)); \
+        *hall = before; \
+        full.count = UINT32_MAX; \
+        day = full; \
+        day.count--; \
+        REPLIES(call, number, records, ending); \
+        CHECK(same_tally(&day, &full)); \
+    } while (0)
+
+/* 15 of the counts of reads, in the same hall; the hall's plain steps lead up to each. */
+static void check_full_of_reads(mondzafeky_hall *hall)
+{
+    const mondzafeky_column query[2] = {mondzafeky_is(3), mondzafeky_star()};
+    FULL_AT(reads_begun, mondzafeky_hall_begin_read_tallied(hall, &day, 1, query, 2), ACCEPTED, 0,
+            NOTHING);
+    steps(hall, 1, 4);
+    FULL_AT(from_table, mondzafeky_hall_step_tallied(hall, &day, 1), ACCEPTED, 1,
+            MONDZAFEKY_FROM_TABLE);
+    FULL_AT(reads_begun, mondzafeky_hall_begin_read_tallied(hall, &day, 1, query, 2), ACCEPTED, 0,
+            NOTHING);
+    steps(hall, 1, 2);
+    FULL_AT(from_file, mondzafeky_hall_step_tallied(hall, &day, 1), ACCEPTED, 1,
+            MONDZAFEKY_FROM_FILE);
+    FULL_AT(reads_begun, mondzafeky_hall_begin_count_within_tallied(hall, &day, 1, query, 2, 1, 4,
+                                                                    9), ACCEPTED, 0, NOTHING);
+    FULL_AT(reads_abandoned, mondzafeky_hall_abandon_tallied(hall, &day, 1), ACCEPTED, 0, NOTHING);
+    REPLIES(begin_read(hall, 1, 8), ACCEPTED, 0, NOTHING);
+    steps(hall, 1, 3);
+    FULL_AT(ended_long, mondzafeky_hall_step_tallied(hall, &day, 1), MONDZAFEKY_LONG, 0, NOTHING);
+}
+
+/* 15 of the counts of writes, and a run that stops at it and goes on with the next tally. */
+static void check_full_of_writes(mondzafeky_hall *hall)
+{
+    const mondzafeky_column record[2] = {mondzafeky_is(9), mondzafeky_is(1)};
+    const mondzafeky_column there[2] = {mondzafeky_is(3), mondzafeky_is(41)};
+    FULL_AT(writes_begun, mondzafeky_hall_begin_insert_tallied(hall, &day, 2, record, 2), ACCEPTED,
+            0, NOTHING);
+    FULL_AT(writes_abandoned, mondzafeky_hall_abandon_tallied(hall, &day, 2), ACCEPTED, 0, NOTHING);
+    FULL_AT(writes_begun, mondzafeky_hall_begin_insert_tallied(hall, &day, 2, record, 2), ACCEPTED,
+            0, NOTHING);
+    steps(hall, 2, 8);
+    FULL_AT(ended_unchanged, mondzafeky_hall_step_tallied(hall, &day, 2), MONDZAFEKY_FULL, 0,
+            NOTHING);
+    FULL_AT(writes_begun, mondzafeky_hall_begin_delete_tallied(hall, &day, 2, there, 2), ACCEPTED,
+            0, NOTHING);
+    steps(hall, 2, 5);
+    FULL_AT(ended_changed, mondzafeky_hall_abandon_tallied(hall, &day, 2), ACCEPTED, 0,
+            MONDZAFEKY_CHANGED);
+    REPLIES(mondzafeky_hall_begin_insert(hall, 2, there, 2), ACCEPTED, 0, NOTHING);
+    day = mondzafeky_tally_cleared();
+    day.ended_changed = UINT32_MAX;
+    REPLIES(mondzafeky_run_tallied(hall, &day, 2), MONDZAFEKY_TALLY_FULL, 0, NOTHING);
+    CHECK(mondzafeky_steps(hall, 2) == 8 && mondzafeky_work(hall, 2) == 2);
+    day = mondzafeky_tally_cleared();
+    REPLIES(mondzafeky_run_tallied(hall, &day, 2), ACCEPTED, 0, MONDZAFEKY_CHANGED);
+    DAY_IS(0, 0, 0, 0, 0, 0, 1, 0, 0);
+}
+
 static void check_hall(mondzafeky_hall *hall)
 {
     check_unopened(hall);
     check_handed_on(hall);
+    check_tallied_handed_on(hall);
     check_ends(hall);
+    check_tallied_history(hall);
+    check_full_of_reads(hall);
+    check_full_of_writes(hall);
     check_abandonings(hall);
     check_ranges(hall);
     check_ranges_beside_plain(hall);
@@ -773,6 +1001,7 @@ int main(void)
     CHECK(sizeof(mondzafeky_hall) == 28528 * sizeof(uint32_t));
     check_words();
     check_columns();
+    check_tally();
     check_hall(&static_hall);
     check_hall(&stack_hall);
     check_hall(heap_hall);

@@ -3,7 +3,8 @@
  * record is corrected, by a delete and an insert, step by step while other desks read; a bench is
  * pulled out in the middle of a write; a read of too many records and an insert into a full table
  * come to their ends; a range asks for some of them, and one is refused and named; a count tells
- * how many there are.
+ * how many there are. Each begin, step and abandoning is lent the day's tally, which is printed at
+ * the end, for the foreman: what filing has saved.
  * Leans on mondzafeky.h alone. The Rust example three_desks tells the same and prints the same.
  */
 #include "mondzafeky.h"
@@ -15,6 +16,9 @@
 #define K 2u
 
 static mondzafeky_hall hall;
+
+/* What was begun at the desks and how it ended, since the opening. */
+static mondzafeky_tally day = MONDZAFEKY_TALLY_CLEARED;
 
 static const char *place_of(mondzafeky_reply reply)
 {
@@ -64,14 +68,14 @@ static void begin_insert(uint32_t desk, uint32_t bench, uint32_t setting)
 {
     const mondzafeky_column record[K] = {mondzafeky_is(bench), mondzafeky_is(setting)};
     printf("desk %u begins to insert (%u, %u)\n", desk, bench, setting);
-    must(mondzafeky_hall_begin_insert(&hall, desk, record, K));
+    must(mondzafeky_hall_begin_insert_tallied(&hall, &day, desk, record, K));
 }
 
 static void begin_delete(uint32_t desk, uint32_t bench, uint32_t setting)
 {
     const mondzafeky_column record[K] = {mondzafeky_is(bench), mondzafeky_is(setting)};
     printf("desk %u begins to delete (%u, %u)\n", desk, bench, setting);
-    must(mondzafeky_hall_begin_delete(&hall, desk, record, K));
+    must(mondzafeky_hall_begin_delete_tallied(&hall, &day, desk, record, K));
 }
 
 /* Any setting of a bench. */
@@ -79,7 +83,7 @@ static void begin_read(uint32_t desk, uint32_t bench)
 {
     const mondzafeky_column query[K] = {mondzafeky_is(bench), mondzafeky_star()};
     printf("desk %u begins to read (%u, *)\n", desk, bench);
-    must(mondzafeky_hall_begin_read(&hall, desk, query, K));
+    must(mondzafeky_hall_begin_read_tallied(&hall, &day, desk, query, K));
 }
 
 /* The settings of a bench from a lowest to a highest, both included; they are in column 1. */
@@ -88,7 +92,8 @@ static mondzafeky_reply begin_read_within(
 {
     const mondzafeky_column query[K] = {mondzafeky_is(bench), mondzafeky_star()};
     printf("desk %u begins to read (%u, %u to %u)\n", desk, bench, lowest, highest);
-    return mondzafeky_hall_begin_read_within(&hall, desk, query, K, 1, lowest, highest);
+    return mondzafeky_hall_begin_read_within_tallied(
+        &hall, &day, desk, query, K, 1, lowest, highest);
 }
 
 /* How many records there are, of any bench and setting. */
@@ -96,7 +101,7 @@ static void begin_count_all(uint32_t desk)
 {
     const mondzafeky_column all[K] = {mondzafeky_star(), mondzafeky_star()};
     printf("desk %u begins to count (*, *)\n", desk);
-    must(mondzafeky_hall_begin_count(&hall, desk, all, K));
+    must(mondzafeky_hall_begin_count_tallied(&hall, &day, desk, all, K));
 }
 
 /* All steps up to the end, which is told. */
@@ -104,7 +109,7 @@ static void run(uint32_t desk)
 {
     const int counts = mondzafeky_counts(&hall, desk);
     printf("  desk %u: ", desk);
-    tell(mondzafeky_run(&hall, desk), counts);
+    tell(mondzafeky_run_tallied(&hall, &day, desk), counts);
 }
 
 /* One step for each place in a row of desks, each told. */
@@ -117,7 +122,7 @@ static void steps(const char *row)
         const int counts = mondzafeky_counts(&hall, desk);
         const char *work = counts ? "count" : works[mondzafeky_work(&hall, desk)];
         printf("  desk %u, %s, step %u: ", desk, work, made + 1);
-        tell(mondzafeky_hall_step(&hall, desk), counts);
+        tell(mondzafeky_hall_step_tallied(&hall, &day, desk), counts);
     }
 }
 
@@ -127,7 +132,7 @@ static void steps(const char *row)
  */
 static void pull_out(uint32_t desk)
 {
-    const mondzafeky_reply reply = mondzafeky_hall_abandon(&hall, desk);
+    const mondzafeky_reply reply = mondzafeky_hall_abandon_tallied(&hall, &day, desk);
     must(reply);
     printf("the bench of desk %u is pulled out: ", desk);
     if (mondzafeky_ended(reply)) {
@@ -143,8 +148,8 @@ static void fill(uint32_t bench, uint32_t count)
     uint32_t setting;
     for (setting = 1; setting <= count; setting++) {
         const mondzafeky_column record[K] = {mondzafeky_is(bench), mondzafeky_is(setting)};
-        must(mondzafeky_hall_begin_insert(&hall, 0, record, K));
-        must(mondzafeky_run(&hall, 0));
+        must(mondzafeky_hall_begin_insert_tallied(&hall, &day, 0, record, K));
+        must(mondzafeky_run_tallied(&hall, &day, 0));
     }
     printf("the table holds %u records\n", mondzafeky_records(&hall));
 }
@@ -181,7 +186,7 @@ static void ends(void)
     printf("-- a read of more than 32 records ends with 12: read in parts\n");
     fill(7, MONDZAFEKY_LIST);
     printf("desk 1 begins to read (*, *)\n");
-    must(mondzafeky_hall_begin_read(&hall, 1, all, K));
+    must(mondzafeky_hall_begin_read_tallied(&hall, &day, 1, all, K));
     run(1);
     begin_read(1, 7);
     run(1);
@@ -200,6 +205,44 @@ static void ends(void)
     fill(8, MONDZAFEKY_RECORDS - mondzafeky_records(&hall));
     begin_insert(2, 9, 1);
     run(2);
+}
+
+/*
+ * The tally as a small table: what was begun, how it ended, and how many of the reads that were
+ * answered were saved the way to the table.
+ */
+static void tell_day(void)
+{
+    static const char *const names[9] = {
+        "reads begun", "  answered from file", "  answered from the table", "  ended long",
+        "  abandoned", "writes begun", "  ended, changed", "  ended, unchanged",
+        "  abandoned before the table"};
+    const uint32_t counts[9] = {
+        day.reads_begun, day.from_file, day.from_table, day.ended_long, day.reads_abandoned,
+        day.writes_begun, day.ended_changed, day.ended_unchanged, day.writes_abandoned};
+    const uint64_t answered = mondzafeky_tally_answered(&day);
+    const uint32_t share = mondzafeky_tally_share(&day);
+    int i;
+    for (i = 0; i < 9; i++) {
+        printf("%-28s %10u\n", names[i], counts[i]);
+    }
+    if (answered == 0) {
+        printf("from file: none answered yet\n");
+    } else {
+        printf("from file: %u of %llu answered, %u.%u %%\n", day.from_file,
+               (unsigned long long)answered, share / 10, share % 10);
+    }
+}
+
+/* A read and a write that the day ends with are given up: the tally has none under way then. */
+static void close_up(void)
+{
+    printf("-- the day ends: what is under way is given up, and the foreman gets the tally\n");
+    begin_read(1, 3);
+    begin_insert(0, 3, 43);
+    pull_out(1);
+    pull_out(0);
+    tell_day();
 }
 
 int main(void)
@@ -226,5 +269,6 @@ int main(void)
     read_twice();
     cut_short();
     ends();
+    close_up();
     return 0;
 }

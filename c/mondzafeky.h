@@ -25,21 +25,25 @@
  *     reply = mondzafeky_hall_begin_read(&hall, 0, query, 2);
  *     if (!mondzafeky_refused(reply)) reply = mondzafeky_run(&hall, 0);
  * A bench can be pulled out at any time: mondzafeky_hall_abandon ends what its desk was at.
- * The inline functions over a hall hand their arguments on to the twelve calls of the archive,
- * whose work is proved; they themselves are not proved. The twelve calls stand before them, and
+ * What filing saves is counted in a mondzafeky_tally, which the calls whose names end in _tallied
+ * are lent along.
+ * The inline functions over a hall hand their arguments on to the twenty calls of the archive,
+ * whose work is proved; they themselves are not proved. The twenty calls stand before them, and
  * take each memory for itself.
  *
  * WHAT YOU OWE at a call over a hall, and this is all:
  *   - the pointer is to a hall, and all of its numbers have been set before (to anything: a static
  *     one is 0, a heap one is set by calloc, one on the stack by "= {0}", in C++ by "= {}");
  *   - a query is not NULL, has as many columns as you say, and does not lie in the hall;
- *   - no other thread uses the hall during the call: one lock around each call.
- * Desks, places, queries, ranges and the hall's contents may be anything: what does not fit is
- * refused by a number. Every call returns, allocates nothing and keeps no pointer. A call that is
- * refused (1 to 11 but 7, and 14) leaves every number of the hall as it was. A hall that was never opened
- * (all 0) gives 2 at a begin (3 if its query has no column, and no range is given) and 3 at every
- * other call but opening. The answers are promised for a hall that has been opened and that nothing
- * but these calls has written into since.
+ *   - a tally is not NULL, its nine numbers have been set before (to anything), and it does not lie
+ *     in the hall or in the query;
+ *   - no other thread uses the hall or the tally during the call: one lock around each call.
+ * Desks, places, queries, ranges, counts of a tally and the hall's contents may be anything: what
+ * does not fit is refused by a number. Every call returns, allocates nothing and keeps no pointer.
+ * A call that is refused (1 to 11 but 7, 14 and 15) leaves every number of the hall and of the
+ * tally as it was. A hall that was never opened (all 0) gives 2 at a begin (3 if its query has no
+ * column, and no range is given) and 3 at every other call but opening. The answers are promised
+ * for a hall that has been opened and that nothing but these calls has written into since.
  */
 #ifndef MONDZAFEKY_H
 #define MONDZAFEKY_H
@@ -71,9 +75,10 @@ typedef struct {
 } mondzafeky_reply;
 
 /*
- * Numbers. 1 to 11 but 7, and 14, are refusals: no memory is altered. 12 and 13 are ends: the read or the
- * insert is over and its desk idle. The first that applies is given, in the order 1, 2, 14, 3, 4
- * and so on. mondzafeky_sentence says what each means and what to do.
+ * Numbers. 1 to 11 but 7, 14 and 15 are refusals: no memory is altered. 12 and 13 are ends: the
+ * read or the insert is over and its desk idle. The first that applies is given, in the order 1, 2,
+ * 14, 3, 4 and so on to 11, then 15, then 12 and 13. mondzafeky_sentence says what each means and
+ * what to do.
  */
 #define MONDZAFEKY_ACCEPTED 0u
 #define MONDZAFEKY_SHORT 1u     /* a lent memory is below its least length */
@@ -96,6 +101,9 @@ typedef struct {
 #define MONDZAFEKY_FULL 13u     /* the insert has ended, with its last step or an abandoning: the
                                    table held 2,048 records and not this one */
 #define MONDZAFEKY_REVERSED 14u /* a range's lowest value is above its highest */
+#define MONDZAFEKY_TALLY_FULL 15u /* the call would raise a count of its tally that stands at
+                                   4,294,967,295: start a new tally; the read or write stays as it
+                                   is and goes on with the next tally */
 
 /* Endings: what has ended with this call. */
 #define MONDZAFEKY_NOTHING 0u    /* nothing, or the number says what (12 and 13) */
@@ -105,14 +113,69 @@ typedef struct {
 #define MONDZAFEKY_UNCHANGED 4u  /* a write, and the table is as it was: filed answers still hold */
 
 /*
- * The twelve calls of the archive, each memory for itself. A program with one mondzafeky_hall needs
+ * The day's tally: how many reads and writes were begun and how they ended, so that it can be seen
+ * what filing saves. Lend it along with each begin, step and abandoning, by the calls whose names
+ * end in _tallied. Each such call that is accepted raises the one count that it concerns; a step
+ * that ends nothing raises none, nor does a refused call. A call that is lent no tally is counted
+ * nowhere.
+ *     mondzafeky_tally day = MONDZAFEKY_TALLY_CLEARED;
+ * From an opening with a cleared tally that is lent along with every such call, reads_begun equals
+ * the four counts after it plus the reads under way, and writes_begun the three after it plus the
+ * writes under way. 15 is given, and nothing altered, where a call would raise a count that stands
+ * at 4,294,967,295: keep what that tally counts, clear it or take another, and make the call again.
+ */
+typedef struct {
+    uint32_t reads_begun;      /* reads begun: lists and counts, with a range or without */
+    uint32_t from_file;        /* reads answered from file: they were saved the way to the table */
+    uint32_t from_table;       /* reads answered from the table */
+    uint32_t ended_long;       /* reads that ended long: 12 */
+    uint32_t reads_abandoned;  /* reads abandoned */
+    uint32_t writes_begun;     /* writes begun: inserts and deletes */
+    uint32_t ended_changed;    /* writes that ended and changed the table, by their last step or
+                                  abandoned after their table step */
+    uint32_t ended_unchanged;  /* writes that ended so and left the table as it was; 13, a full
+                                  table, too */
+    uint32_t writes_abandoned; /* writes abandoned before their table step */
+} mondzafeky_tally;
+
+/* A tally in which nothing is counted yet, where it is defined. */
+#define MONDZAFEKY_TALLY_CLEARED {0u, 0u, 0u, 0u, 0u, 0u, 0u, 0u, 0u}
+
+/* The same anywhere: day = mondzafeky_tally_cleared() starts a new day. */
+static inline mondzafeky_tally mondzafeky_tally_cleared(void)
+{
+    const mondzafeky_tally cleared = MONDZAFEKY_TALLY_CLEARED;
+    return cleared;
+}
+
+/* The archive's tally is nine numbers: there must be no gap between these. */
+typedef char mondzafeky_tally_has_no_gap[sizeof(mondzafeky_tally) == 36u ? 1 : -1];
+
+/* How many reads were answered, from file or from the table. */
+static inline uint64_t mondzafeky_tally_answered(const mondzafeky_tally *tally)
+{
+    return (uint64_t)tally->from_file + tally->from_table;
+}
+
+/*
+ * The share answered from file of the reads that were answered, in tenths of a per cent and rounded
+ * down: 0 to 1,000. 0 if none was answered, which mondzafeky_tally_answered tells.
+ */
+static inline uint32_t mondzafeky_tally_share(const mondzafeky_tally *tally)
+{
+    const uint64_t answered = mondzafeky_tally_answered(tally);
+    return answered == 0u ? 0u : (uint32_t)(1000u * (uint64_t)tally->from_file / answered);
+}
+
+/*
+ * The twenty calls of the archive, each memory for itself. A program with one mondzafeky_hall needs
  * none of them: the functions over a hall stand after them.
  *
  * What a caller owes here, and this is all:
  *   - a pointer and the length after it are a memory of that many 32-bit numbers, all of them set
  *     (to anything) before the call; the pointer is aligned as a uint32_t, and is not NULL, even
  *     where the length is 0;
- *   - a memory that is not const overlaps no other memory of the same call;
+ *   - a memory that is not const, the tally among them, overlaps no other of the same call;
  *   - no other thread uses these memories during the call.
  * Lengths too may be anything. Of each memory a call uses only numbers before its least length; of
  * a query, its query_len numbers. Lend each call the same four memories, as the call before left
@@ -244,6 +307,66 @@ mondzafeky_reply mondzafeky_renew(
     uint32_t *table, size_t table_len, uint32_t *nodes, size_t nodes_len,
     uint32_t *answers, size_t answers_len, uint32_t *clients, size_t clients_len);
 
+/*
+ * The eight calls that are lent a tally. Each replies, and leaves the memories, as the call of the
+ * same name without _tallied, and raises one count or none; or it is refused with 15 and leaves all
+ * as it was, memories, tray and tally. 15 is tested after every other refusal of the call, and
+ * before 12, 13 and every end: a step that would have ended the read or write then leaves it as it
+ * is. Lend each call the same tally, as the call before left it, until a new one is started.
+ *
+ * The begins raise reads_begun or writes_begun. Refusals: those without a tally, and 15.
+ */
+mondzafeky_reply mondzafeky_begin_read_tallied(
+    uint32_t *table, size_t table_len, uint32_t *nodes, size_t nodes_len,
+    uint32_t *answers, size_t answers_len, uint32_t *clients, size_t clients_len,
+    mondzafeky_tally *tally, uint32_t client, const uint32_t *query, size_t query_len);
+
+mondzafeky_reply mondzafeky_begin_count_tallied(
+    uint32_t *table, size_t table_len, uint32_t *nodes, size_t nodes_len,
+    uint32_t *answers, size_t answers_len, uint32_t *clients, size_t clients_len,
+    mondzafeky_tally *tally, uint32_t client, const uint32_t *query, size_t query_len);
+
+mondzafeky_reply mondzafeky_begin_read_within_tallied(
+    uint32_t *table, size_t table_len, uint32_t *nodes, size_t nodes_len,
+    uint32_t *answers, size_t answers_len, uint32_t *clients, size_t clients_len,
+    mondzafeky_tally *tally, uint32_t client, const uint32_t *query, size_t query_len,
+    uint32_t column, uint32_t lowest, uint32_t highest);
+
+mondzafeky_reply mondzafeky_begin_count_within_tallied(
+    uint32_t *table, size_t table_len, uint32_t *nodes, size_t nodes_len,
+    uint32_t *answers, size_t answers_len, uint32_t *clients, size_t clients_len,
+    mondzafeky_tally *tally, uint32_t client, const uint32_t *query, size_t query_len,
+    uint32_t column, uint32_t lowest, uint32_t highest);
+
+mondzafeky_reply mondzafeky_begin_insert_tallied(
+    uint32_t *table, size_t table_len, uint32_t *nodes, size_t nodes_len,
+    uint32_t *answers, size_t answers_len, uint32_t *clients, size_t clients_len,
+    mondzafeky_tally *tally, uint32_t client, const uint32_t *query, size_t query_len);
+
+mondzafeky_reply mondzafeky_begin_delete_tallied(
+    uint32_t *table, size_t table_len, uint32_t *nodes, size_t nodes_len,
+    uint32_t *answers, size_t answers_len, uint32_t *clients, size_t clients_len,
+    mondzafeky_tally *tally, uint32_t client, const uint32_t *query, size_t query_len);
+
+/*
+ * A step raises from_file or from_table with an answer, ended_long with 12, ended_changed or
+ * ended_unchanged with a write's end, of which 13 is an unchanged one, and otherwise none.
+ * Refusals: 1 (of the tray too), 3, 4, 6, 15.
+ */
+mondzafeky_reply mondzafeky_step_tallied(
+    uint32_t *table, size_t table_len, uint32_t *nodes, size_t nodes_len,
+    uint32_t *answers, size_t answers_len, uint32_t *clients, size_t clients_len,
+    uint32_t *tray, size_t tray_len, mondzafeky_tally *tally, uint32_t client);
+
+/*
+ * An abandoning raises ended_changed or ended_unchanged if it tells a write's end, and otherwise
+ * reads_abandoned or writes_abandoned. Refusals: 1, 3, 4, 6, 15.
+ */
+mondzafeky_reply mondzafeky_abandon_tallied(
+    uint32_t *table, size_t table_len, uint32_t *nodes, size_t nodes_len,
+    uint32_t *answers, size_t answers_len, uint32_t *clients, size_t clients_len,
+    mondzafeky_tally *tally, uint32_t client);
+
 #ifdef __cplusplus
 }
 #endif
@@ -299,7 +422,7 @@ static inline mondzafeky_column mondzafeky_star(void)
     return column;
 }
 
-/* A hall's four memories, in the order in which each of the twelve calls takes them. */
+/* A hall's four memories, in the order in which each of the twenty calls takes them. */
 #define MONDZAFEKY_MEMORIES_(hall) \
     (hall)->table, MONDZAFEKY_TABLE_LEAST, (hall)->nodes, MONDZAFEKY_NODES_LEAST, \
     (hall)->answers, MONDZAFEKY_ANSWERS_LEAST, (hall)->clients, MONDZAFEKY_CLIENTS_LEAST
@@ -420,6 +543,76 @@ static inline mondzafeky_reply mondzafeky_hall_renew(mondzafeky_hall *hall)
     return mondzafeky_renew(MONDZAFEKY_MEMORIES_(hall));
 }
 
+/*
+ * The same, lent a tally: each is the function of the same name without _tallied, and the count
+ * that it concerns goes up by one. Refusals: those without a tally, and 15 if that count is full;
+ * then make the call again with a new tally.
+ */
+static inline mondzafeky_reply mondzafeky_hall_begin_read_tallied(
+    mondzafeky_hall *hall, mondzafeky_tally *tally, uint32_t client, const mondzafeky_column *query,
+    size_t columns)
+{
+    return mondzafeky_begin_read_tallied(MONDZAFEKY_MEMORIES_(hall), tally, client,
+                                         (const uint32_t *)query, 2u * columns);
+}
+
+static inline mondzafeky_reply mondzafeky_hall_begin_count_tallied(
+    mondzafeky_hall *hall, mondzafeky_tally *tally, uint32_t client, const mondzafeky_column *query,
+    size_t columns)
+{
+    return mondzafeky_begin_count_tallied(MONDZAFEKY_MEMORIES_(hall), tally, client,
+                                          (const uint32_t *)query, 2u * columns);
+}
+
+static inline mondzafeky_reply mondzafeky_hall_begin_read_within_tallied(
+    mondzafeky_hall *hall, mondzafeky_tally *tally, uint32_t client, const mondzafeky_column *query,
+    size_t columns, uint32_t column, uint32_t lowest, uint32_t highest)
+{
+    return mondzafeky_begin_read_within_tallied(MONDZAFEKY_MEMORIES_(hall), tally, client,
+                                                (const uint32_t *)query, 2u * columns,
+                                                column, lowest, highest);
+}
+
+static inline mondzafeky_reply mondzafeky_hall_begin_count_within_tallied(
+    mondzafeky_hall *hall, mondzafeky_tally *tally, uint32_t client, const mondzafeky_column *query,
+    size_t columns, uint32_t column, uint32_t lowest, uint32_t highest)
+{
+    return mondzafeky_begin_count_within_tallied(MONDZAFEKY_MEMORIES_(hall), tally, client,
+                                                 (const uint32_t *)query, 2u * columns,
+                                                 column, lowest, highest);
+}
+
+static inline mondzafeky_reply mondzafeky_hall_begin_insert_tallied(
+    mondzafeky_hall *hall, mondzafeky_tally *tally, uint32_t client, const mondzafeky_column *query,
+    size_t columns)
+{
+    return mondzafeky_begin_insert_tallied(MONDZAFEKY_MEMORIES_(hall), tally, client,
+                                           (const uint32_t *)query, 2u * columns);
+}
+
+static inline mondzafeky_reply mondzafeky_hall_begin_delete_tallied(
+    mondzafeky_hall *hall, mondzafeky_tally *tally, uint32_t client, const mondzafeky_column *query,
+    size_t columns)
+{
+    return mondzafeky_begin_delete_tallied(MONDZAFEKY_MEMORIES_(hall), tally, client,
+                                           (const uint32_t *)query, 2u * columns);
+}
+
+/* At 15 the read or write stays as it is, also one that would have ended with 12 or 13. */
+static inline mondzafeky_reply mondzafeky_hall_step_tallied(
+    mondzafeky_hall *hall, mondzafeky_tally *tally, uint32_t client)
+{
+    return mondzafeky_step_tallied(
+        MONDZAFEKY_MEMORIES_(hall), hall->tray, MONDZAFEKY_TRAY_LEAST, tally, client);
+}
+
+/* At 15 what is under way stays as it is, a write's marks too. */
+static inline mondzafeky_reply mondzafeky_hall_abandon_tallied(
+    mondzafeky_hall *hall, mondzafeky_tally *tally, uint32_t client)
+{
+    return mondzafeky_abandon_tallied(MONDZAFEKY_MEMORIES_(hall), tally, client);
+}
+
 #undef MONDZAFEKY_MEMORIES_
 
 /*
@@ -434,12 +627,12 @@ static inline int mondzafeky_ended(mondzafeky_reply reply)
         || reply.number == MONDZAFEKY_FULL;
 }
 
-/* Whether the call was refused, by 1 to 6, 8 to 11 or 14: then nothing was altered. */
+/* Whether the call was refused, by 1 to 6, 8 to 11, 14 or 15: then nothing was altered. */
 static inline int mondzafeky_refused(mondzafeky_reply reply)
 {
     return (reply.number >= MONDZAFEKY_SHORT && reply.number <= MONDZAFEKY_IDLE)
         || (reply.number >= MONDZAFEKY_NO_ENTRY && reply.number <= MONDZAFEKY_OCCUPIED)
-        || reply.number == MONDZAFEKY_REVERSED;
+        || reply.number == MONDZAFEKY_REVERSED || reply.number == MONDZAFEKY_TALLY_FULL;
 }
 
 /*
@@ -452,6 +645,20 @@ static inline mondzafeky_reply mondzafeky_run(mondzafeky_hall *hall, uint32_t cl
     mondzafeky_reply reply;
     do {
         reply = mondzafeky_hall_step(hall, client);
+    } while (!mondzafeky_ended(reply) && !mondzafeky_refused(reply));
+    return reply;
+}
+
+/*
+ * The same, each step lent the tally. After a 15 the read or write has stayed as it is: run it on
+ * with a new tally.
+ */
+static inline mondzafeky_reply mondzafeky_run_tallied(
+    mondzafeky_hall *hall, mondzafeky_tally *tally, uint32_t client)
+{
+    mondzafeky_reply reply;
+    do {
+        reply = mondzafeky_hall_step_tallied(hall, tally, client);
     } while (!mondzafeky_ended(reply) && !mondzafeky_refused(reply));
     return reply;
 }
@@ -474,6 +681,7 @@ static inline const char *mondzafeky_name(uint32_t number)
     case MONDZAFEKY_LONG: return "long";
     case MONDZAFEKY_FULL: return "full";
     case MONDZAFEKY_REVERSED: return "reversed";
+    case MONDZAFEKY_TALLY_FULL: return "tally full";
     default: return "unknown";
     }
 }
@@ -522,6 +730,10 @@ static inline const char *mondzafeky_sentence(uint32_t number)
     case MONDZAFEKY_REVERSED:
         return "The lowest value of the range is above its highest; give the lower one first, and "
                "begin again.";
+    case MONDZAFEKY_TALLY_FULL:
+        return "The call would raise a count of its tally that stands at 4,294,967,295; start a "
+               "new tally and make the call again with it, for the read or write stays as it is "
+               "and goes on with the next tally.";
     default:
         return "No call returns this number.";
     }

@@ -14,7 +14,7 @@ ghost use Rattle.rules.specs.Calls.{beginResult};
 ghost use Rattle.checks.specs.CheckContracts.{requestOf};
 
 // Kinds: 1 read, 2 insert, 3 delete. A read says whether it wants a count, and its range.
-fn begin(
+pub fn begin(
     table: &mut [u32],
     nodes: &mut [u32],
     answers: &mut [u32],

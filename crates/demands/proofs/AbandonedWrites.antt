@@ -46,7 +46,7 @@ use Rattle.demands.specs.WholeHistory.{History, shapeAt, memAt, callAt, 
 use Rattle.demands.specs.Corollaries.{Begins, inserting, deleting, isWriteEnd, AbandonTells, IdleUnmarked}
 use Rattle.demands.specs.Demand2Whole.{nodesAt, TakesBack, MarksBack, Raises, RaisesLeft, AbandonedNodes}
 use Rattle.demands.specs.OpenWrites.{MarksOpen}
-use Rattle.demands.proofs.HistoryRuns.{sound}
+use Rattle.demands.proofs.HistoryRuns.{sound, call-result, room-accepted}
 use Rattle.demands.proofs.WorksBegun.{busy-begun, since-under}
 use Rattle.demands.proofs.WriteEffects.{of, write-begins}
 use Rattle.demands.proofs.StepsMade.{under-abandon, keeps-since, step-made, not-refused, nodes-after, no-twice}
@@ -60,14 +60,14 @@ accepted-result m d = byTest (eqb (abandonCode m d) 0)
     (λ t. rw t (λ e. refl))
     (λ t. rw t (λ e. clash e (turned-down (abandonCode m d) (inl (abandon-low m d)) (eqb-false (abandonCode m d) 0 t))))
 
-abandon-result : (h : History) (n d : ℕ) → callAt h n ≡ abandon d → resultAt h n ≡ untrayed (abandonResult (memAt h n) d)
-unfolding resultAt callResult
-abandon-result h n d e = ap (callResult (memAt h n)) e
+abandon-result : (h : History) (n d : ℕ) → acceptedAt h n ≡ true → callAt h n ≡ abandon d → resultAt h n ≡ untrayed (abandonResult (memAt h n) d)
+unfolding callResult
+abandon-result h n d a e = call-result h n (abandon d) (room-accepted h n a) e
 
 module _ (h : History) (r : Request) (d b n i : ℕ) (s : AbandonOf h r d b n i) where
   accepted-here : isAccepted (number (abandonResult (memAt h n) d .out)) ≡ true
   unfolding acceptedAt untrayed
-  accepted-here = ap (λ (x : StepResult). isAccepted (number (x .out))) (sym (abandon-result h n d (s .calls))) ∙ s .accepted
+  accepted-here = ap (λ (x : StepResult). isAccepted (number (x .out))) (sym (abandon-result h n d (s .accepted) (s .calls))) ∙ s .accepted
 
   -- it is of what the desk works at, and that has made i steps
   pub abandon-at : (resultAt h n ≡ untrayed (abandonedOf (memAt h n) d (workOf (shapeAt h) r))) × (steps (client (memAt h n) d) ≡ i)
@@ -76,7 +76,7 @@ module _ (h : History) (r : Request) (d b n i : ℕ) (s : AbandonOf h r d b n i)
       let m = memAt h n in
       let u = under-abandon s in
       let k = keeps-since h (workOf (shapeAt h) r) d b n i (since-under h r d b n (u .0) (u .1)) (s .made) in
-      (abandon-result h n d (s .calls) ∙ ap untrayed (accepted-result m d accepted-here ∙ ap (abandonedOf m d) (k .busy .work)), k .made)
+      (abandon-result h n d (s .accepted) (s .calls) ∙ ap untrayed (accepted-result m d accepted-here ∙ ap (abandonedOf m d) (k .busy .work)), k .made)
 
   write-abandoned : (w : Write) → workOf (shapeAt h) r ≡ writing w → resultAt h n ≡ untrayed (abandonedWrite (memAt h n) d w i)
   unfolding abandonedOf

@@ -15,7 +15,7 @@ use Rattle.laws.proofs.ListLaws.{length-without, and-right}
 use Rattle.laws.proofs.RowLaws.{wide-nil, wide-without, wide-at}
 use Rattle.query.specs.Query.{Record}
 use Rattle.query.specs.Shape.{narrow, Shape, shapeOf}
-use Rattle.rules.specs.Layout.{maxClients, listRoom, trayLeast, entryWidth, clientWidth, maxList, refusedShort, refusedOccupied, refusedReversed}
+use Rattle.rules.specs.Layout.{maxClients, listRoom, trayLeast, entryWidth, clientWidth, maxList, refusedShort, refusedOccupied, refusedReversed, refusedTallyFull}
 use Rattle.rules.specs.declared.Outcome.{Outcome}
 use Rattle.rules.specs.declared.Outcome.the-variants.{Refused, Accepted, Answered, Long, Ended, Full}
 use Rattle.rules.specs.Work.{Ask, Value, ofRecords, valueOf, mayAnswer, readLabels, Write, writeLabels, Work, asking, writing, Request, workOf, ofNumber, valueFor, listWithin}
@@ -27,10 +27,14 @@ use Rattle.rules.specs.Outcome.{Result, resultWith, number}
 use Rattle.rules.specs.Refusals.{form, shape, columns, client, badColumns, isShort, openCode, beginCode, stepCode, abandonCode, evictAnswerCode, evictNodeCode, renewCode}
 use Rattle.rules.specs.Steps.{nowAt, answered, lookResult, fetchResult, tableResult, fileResult, readResult, announceResult, writeTableResult, endOf, raiseResult, writeResult, progressOf, progress}
 use Rattle.rules.specs.Calls.{unless, openResult, beginResult, stepResult, pastTable, retireResult, abandonedWrite, abandonedOf, abandoned, abandonResult, evictAnswerResult, evictNodeResult, renewResult}
-use Rattle.rules.specs.History.{Call, begin, step, abandon, evictAnswer, evictNode, renew, untrayed, callResult, isAccepted}
+use Rattle.rules.specs.History.{Call, begin, step, abandon, evictAnswer, evictNode, renew, trayOf, untrayed, callResult, isAccepted}
+use Rattle.rules.specs.declared.Tally.{Tally}
+use Rattle.rules.specs.declared.Count.{Count}
+use Rattle.rules.specs.Tally.{raised, countOf, acceptedCount, wouldRaise, isFull, Made, made, isFullFor, isTallyFull, madeResult, tallyAfter}
 use Rattle.rules.specs.Sound.{Sound, Busy}
 use Rattle.rules.proofs.PassedChecks.{open-passed, begin-passed, step-passed, abandon-passed, evict-answer-passed, evict-node-passed, renew-passed}
 use Rattle.rules.proofs.WorkLaws.{read-label-wide, write-label-wide}
+use Rattle.rules.proofs.TallyLaws.{raised-none}
 use Rattle.rules.proofs.ClientLaws.{list-room, wrote-wide}
 use Rattle.records.proofs.RecordLists.{list-numbers}
 use Rattle.records.proofs.RecordWrites.{of-width, effect-wide, effect-few}
@@ -40,16 +44,16 @@ use Rattle.refinement.proofs.ClientParts.{length-entry}
 use Rattle.refinement.proofs.MemoryReads.{length-nodes, length-answers}
 use Rattle.refinement.proofs.AnswersRefined.{wide-filed, length-filed}
 use Rattle.refinement.proofs.RefusedCalls.{IsCode, begin-coded, step-low, abandon-low, evict-answer-low, evict-node-low, renew-low}
-use Rattle.demands.specs.Demand1.{Unaltered, Leaves, trayOf, Demand1}
+use Rattle.demands.specs.Demand1.{Unaltered, Leaves, Demand1}
 use Rattle.demands.proofs.UnalteredMemories.{unaltered-same, unaltered-then, unaltered-written, unaltered-set, unaltered-cleared, unaltered-store, unaltered-answers}
 use Rattle.demands.proofs.UnalteredMemories.{AllUnaltered, all-same, all-now, all-store, all-filed, all-table, sized-in, wide-held, wide-filed-in}
 use Rattle.demands.proofs.UnalteredMemories.{AllSized, sized-evict, sized-ensured, sized-announced, sized-retired, stepped-wide, noted-wide, holding-wide, idle-wide}
 use Rattle.lists.specs.Lists.{flat}
-use Rattle.demands.proofs.CountTray.{count-tray}
+use Rattle.demands.proofs.CountTray.{made-tray}
 
 -- ---- A refused call
--- what is not 0 of the codes is 1 to 11, or 14
-refusal : (n : ℕ) → IsCode n → (n ≡ 0 → ⊥) → ((refusedShort ≤ n) × (n ≤ refusedOccupied)) ⊎ (n ≡ refusedReversed)
+-- what is not 0 of the codes is 1 to 11, 14 or 15
+refusal : (n : ℕ) → IsCode n → (n ≡ 0 → ⊥) → ((refusedShort ≤ n) × (n ≤ refusedOccupied)) ⊎ ((n ≡ refusedReversed) ⊎ (n ≡ refusedTallyFull))
 refusal n (inl l) ne = inl (omega arith, l)
 refusal n (inr e) ne = inr e
 
@@ -314,7 +318,7 @@ renew-leaves m = unless-leaves (shape m) m (renewCode m) _ (inl (renew-low m)) (
     }))
 
 -- ---- All calls
-pub call-leaves : (m : Mem) (c : Call) → Leaves (form m) (shape m) m (trayOf c) (callResult m c)
+call-leaves : (m : Mem) (c : Call) → Leaves (form m) (shape m) m (trayOf c) (callResult m c)
 unfolding callResult trayOf
 call-leaves m (begin d r) = begin-leaves m d r
 call-leaves m (step d tray) = step-leaves m tray d
@@ -323,6 +327,29 @@ call-leaves m (evictAnswer i) = evict-answer-leaves m i
 call-leaves m (evictNode i) = evict-node-leaves m i
 call-leaves m renew = renew-leaves m
 
+-- with a tally a call is the call, or refused by 15
+made-leaves : (m : Mem) (x : Made) → Leaves (form m) (shape m) m (trayOf (x .call)) (madeResult m x)
+unfolding madeResult
+made-leaves m x = byTest (isTallyFull m x)
+    (λ t. rw t (refused-leaves (shape m) m (trayOf (x .call)) refusedTallyFull (inr (inr refl)) (λ e. omega arith)))
+    (λ t. rw t (call-leaves m (x .call)))
+
+-- a refused call raises no count
+outcome-kept : (t : Tally) (c : Count) (o : Outcome) → isAccepted (number o) ≡ false → raised t (countOf c o) ≡ t
+unfolding isAccepted number countOf
+outcome-kept t c (Refused n) e = raised-none t
+outcome-kept t c Accepted e = clash refl e
+outcome-kept t c (Answered n b) e = clash refl e
+outcome-kept t c Long e = clash refl e
+outcome-kept t c (Ended b) e = clash refl e
+outcome-kept t c Full e = clash refl e
+
+refused-keeps : (m : Mem) (c : Call) (t : Tally) → isAccepted (number (madeResult m (made c (some t)) .out)) ≡ false → tallyAfter m c t ≡ t
+unfolding madeResult isTallyFull isFullFor tallyAfter wouldRaise
+refused-keeps m c t e = byTest (isFull t (countOf (acceptedCount m c) (callResult m c .out)))
+    (λ k. rw k refl)
+    (λ k. rw k (outcome-kept t (acceptedCount m c) (callResult m c .out) (rw k at e)))
+
 pub demand-1 : Demand1
-unfolding callResult
-demand-1 = record { opening = open-leaves; calls = call-leaves; counts = count-tray }
+unfolding trayOf
+demand-1 = record { opening = open-leaves; calls = made-leaves; tallies = refused-keeps; counts = λ m tray d t. made-tray m (made (step d tray) t) tray d refl }

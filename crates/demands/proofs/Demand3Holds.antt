@@ -25,13 +25,13 @@ use Rattle.refinement.proofs.Abstraction.{stateOf, callOf, said, responseIn, re
 use Rattle.refinement.proofs.StepFrame.{busy-at}
 use Rattle.machine.proofs.Asks.{limit}
 use Rattle.demands.specs.Corollaries.{StepsByNodes}
-use Rattle.demands.specs.WholeHistory.{History, shapeAt, memAt, plainAt, callAt, resultAt, UnderWay, stepsIn}
+use Rattle.demands.specs.WholeHistory.{History, shapeAt, memAt, plainAt, callAt, resultAt, UnderWay, stepsIn, madeAt}
 use Rattle.demands.specs.Demand3.{IsAnswer, WasTrue, Demand3}
-use Rattle.demands.specs.Demand1.{trayOf}
+use Rattle.rules.specs.History.{trayOf}
 use Rattle.demands.proofs.HistoryRuns.{responseAt, entryAt, logTo, sound, transition-at, few-columns, plain-at}
 use Rattle.demands.proofs.LogPlaces.{length-log, take-log, under-log, read-places, steps-log}
 use Rattle.demands.proofs.WorksBegun.{begun-busy, works-client}
-use Rattle.demands.proofs.CountTray.{count-tray}
+use Rattle.demands.proofs.CountTray.{made-tray}
 use Rattle.query.specs.Shape.{Shape, narrow}
 use Rattle.machine.specs.Machine as machine
 use Rattle.machine.proofs.Histories as histories
@@ -95,8 +95,8 @@ told-answer sh false range a t count lent tray e k =
 -- the tray that a count's step is lent stays
 pub tray-stays : (h : History) (n d : ℕ) (tray : List ℕ) → callAt h n ≡ step d tray → isCount (entryOf (client (memAt h n) d)) ≡ true
     → resultAt h n .tray ≡ trayOf (callAt h n)
-unfolding resultAt callResult trayOf
-tray-stays h n d tray c i = ap (λ (z : Call). callResult (memAt h n) z .tray) c ∙ count-tray (memAt h n) tray d i ∙ ap trayOf (sym c)
+unfolding resultAt callAt
+tray-stays h n d tray c i = made-tray (memAt h n) (madeAt h n) tray d c i
 
 pub answers : (h : History) (n d : ℕ) (tray : List ℕ) (count : ℕ) (cached : Bool) → n < length (h .calls) → callAt h n ≡ step d tray
     → resultAt h n .out ≡ Answered count cached → WasTrue h d n count

@@ -1,15 +1,15 @@
 -- The premises of demand 2's last sentence can be met, and what it then gives: case 6 of document 01, k 1 and an empty table. A read of 5
 -- answers at its fifth step and files that; read again, it gets it from file at its third. The premises are computed, in one pass over the
--- calls; the answer is the theorem's. Leans on HistoryRuns and Demand2Holds. Assumes nothing.
+-- calls; the answer is the theorem's. Leans on HistoryRuns, Unlent and Demand2Holds. Assumes nothing.
 use mathlib.Core.Path.{_≡_, refl, sym, ap, _∙_}
 use mathlib.Core.Logic.{inr}
 use mathlib.Core.Bool.{Bool, true, false, not, _&&_, _||_, true≢false}
 use mathlib.Core.List.{List, [], _∷_}
-use Prim.Native.Nat.{ℕ, zero, suc, _+_, _≤_, _<_}
+use Prim.Native.Nat.{ℕ, _+_, _≤_, _<_}
 use native.Mathlib.Omega.{arith}
 use lib.Dec.{eqb, leb}
 use borrow.Author.Tests.{eqb-true, eq-eqb, ne-eqb, lt-leb, not-true}
-use lib.ListN.{length, getD, take, replicate}
+use lib.ListN.{length, getD, replicate}
 use Rattle.lists.specs.Lists.{same, keep, place, without, allBelow, listed, padded, written, rows, flat, entriesIn, withEntries}
 use Rattle.laws.proofs.ListLaws.{and-left, and-right, same-eq}
 use Rattle.query.specs.declared.Column.the-variants.{Is}
@@ -32,13 +32,15 @@ use Rattle.rules.specs.Refusals.{client, isShort, badColumns, isUnsound, noClie
 use Rattle.rules.specs.Steps.{nowAt, storeBack, answered, lookResult, fetchResult, tableResult, fileResult, readResult, progressOf, progress}
 use Rattle.rules.specs.Calls.{unless, beginResult, stepResult}
 use Rattle.rules.specs.History.{Call, begin, step, abandon, evictAnswer, evictNode as dropNode, renew, untrayed}
-use Rattle.rules.specs.History.{callResult, isAccepted, memAfter}
+use Rattle.rules.specs.History.{callResult, isAccepted}
+use Rattle.rules.specs.Tally.{unlent}
 use Rattle.machine.specs.Machine.{sameAsk, sameShape, sameQuery, sameColumn, sameWanted, sameRange}
 use Rattle.machine.proofs.Asks.{sameAsk-eq}
 use Rattle.refinement.proofs.ClientPhases.{asking-at}
-use Rattle.demands.specs.WholeHistory.{History, memAt, callAt, resultAt, acceptedAt, endsWork, endsAt, UnderWay}
+use Rattle.demands.specs.WholeHistory.{History, memAt, madeAt, callAt, resultAt, acceptedAt, endsWork, endsAt, UnderWay}
 use Rattle.demands.specs.Demand2.{isOpen, noneOpen, isQuiet, stillThere, keepsNodes, AllQuiet, Reads, Filed, Fetches, LastFiled}
 use Rattle.demands.proofs.HistoryRuns.{next-mem}
+use Rattle.demands.proofs.Unlent.{room-unlent, result-unlent, allPass, passes-at}
 use Rattle.demands.proofs.Demand2Holds.{demand-2-gets}
 use Rattle.demands.proofs.EndsUnchanged.{quiet-suffices}
 use Rattle.rules.specs.Work.{Ask, askFault, listWithin, readOf, ofRecords, valueOf, mayAnswer, readLabels, askKey, askIn, kindOf, keyOf, workIn, workFault, stepsInAll, isWrite, askOf, workOf, faultOf}
@@ -64,7 +66,7 @@ unfolding openCode isShort badColumns
 may-open = refl
 
 abbrev pub example : History
-example = record { lent = lent; k = 1; accepted = may-open; calls = played }
+example = record { lent = lent; k = 1; accepted = may-open; calls = unlent played }
 
 abbrev q : Ask
 q = record { shape = shapeOf 1; query = Is 5 ∷ []; counts = false; range = None }
@@ -108,27 +110,11 @@ tests i m c =
     && ((not (eqb i 5) || ready m (length (readLabels q) + 2))
     && (not (eqb i 9) || (ready m (length (readLabels q)) && onFile m)))))))
 
-passes : ℕ → Mem → List Call → Bool
-passes i m [] = true
-passes i m (c ∷ cs) = tests i m c && passes (suc i) (callResult m c .mem) cs
-
-computed : passes 0 (opened narrow (shapeOf 1) lent) played ≡ true
-unfolding same keep place without allBelow listed padded written rows flat entriesIn withEntries pick readNode named readCount columnOf queryOf wellMarked isQuery namesAll termValue columnValue tag tags labelWords marks keyWords columnsIn queryIn countsIn countKey rangeOf rangeIn rangeKey wantedKey unranged bareKey within isRange isReversed listOf labelIn pending revision withPending withRevision hasLabel nodePlace isPresent nodeOf withNode evictNode added isFree oldestFree makeRoom addedIn ensured isHigh isWorn keyIn lengthIn revisionIn isCount mostIn listIn valueIn hasKeyOf atLeast serves fetchPlace keyPlace filed isLong someLong kind steps sawPending entryOf idle isIdle begun workAt askAt isBad stepped noted holding recordsIn storeIn withStore answersIn withAnswers clientIn withClient cleared opened client isShort badColumns isUnsound noClient openCode beginCode atClient stepCode nowAt storeBack answered lookResult fetchResult tableResult fileResult readResult progressOf progress unless beginResult stepResult untrayed callResult isAccepted endsWork endsAt isOpen noneOpen isQuiet stillThere keepsNodes number lies admits sameAsk sameWanted sameRange sameQuery sameColumn readNodes ofRecords ofNumber askFault listWithin valueOf mayAnswer readLabels askKey askIn kindOf keyOf workIn workFault stepsInAll isWrite askOf workOf faultOf sameShape ready onFile quiescentAt mayFile goes tests passes
+computed : allPass tests 0 (opened narrow (shapeOf 1) lent) played ≡ true
+unfolding same keep place without allBelow listed padded written rows flat entriesIn withEntries pick readNode named readCount columnOf queryOf wellMarked isQuery namesAll termValue columnValue tag tags labelWords marks keyWords columnsIn queryIn countsIn countKey rangeOf rangeIn rangeKey wantedKey unranged bareKey within isRange isReversed listOf labelIn pending revision withPending withRevision hasLabel nodePlace isPresent nodeOf withNode evictNode added isFree oldestFree makeRoom addedIn ensured isHigh isWorn keyIn lengthIn revisionIn isCount mostIn listIn valueIn hasKeyOf atLeast serves fetchPlace keyPlace filed isLong someLong kind steps sawPending entryOf idle isIdle begun workAt askAt isBad stepped noted holding recordsIn storeIn withStore answersIn withAnswers clientIn withClient cleared opened client isShort badColumns isUnsound noClient openCode beginCode atClient stepCode nowAt storeBack answered lookResult fetchResult tableResult fileResult readResult progressOf progress unless beginResult stepResult untrayed callResult isAccepted endsWork endsAt isOpen noneOpen isQuiet stillThere keepsNodes number lies admits sameAsk sameWanted sameRange sameQuery sameColumn readNodes ofRecords ofNumber askFault listWithin valueOf mayAnswer readLabels askKey askIn kindOf keyOf workIn workFault stepsInAll isWrite askOf workOf faultOf sameShape ready onFile quiescentAt mayFile goes tests allPass
 computed = refl
 
 -- ---- What they say of each call
-passed : (cs : List Call) (n : ℕ) (m : Mem) → passes n m cs ≡ true → (i : ℕ) → i < length cs → tests (n + i) (memAfter m (take i cs)) (getD cs i renew) ≡ true
-unfolding passes memAfter
-passed [] n m e i l = absurd (omega arith)
-passed (c ∷ cs) n m e zero l = let z : n + 0 ≡ n = omega arith in rw z (and-left (tests n m c) _ e)
-passed (c ∷ cs) n m e (suc i) l =
-    let z : n + suc i ≡ suc n + i = omega arith in
-    rw z (passed cs (suc n) (callResult m c .mem) (and-right (tests n m c) _ e) i (omega arith))
-
-at-call : (i : ℕ) → i < 10 → tests i (memAt example i) (callAt example i) ≡ true
-unfolding memAt callAt
-at-call i l = let z : 0 + i ≡ i = omega arith in rw z at (passed played 0 (opened narrow (shapeOf 1) lent) computed i l)
-
 record Passed (i : ℕ) (m : Mem) (c : Call) : Type 0 where
   quiescent : quiescentAt m c ≡ true
   last : (leb i 5 || not (mayFile c m)) ≡ true
@@ -157,7 +143,11 @@ given i m c t =
     }
 
 at : (i : ℕ) → i < 10 → Passed i (memAt example i) (callAt example i)
-at i l = given i (memAt example i) (callAt example i) (at-call i l)
+at i l = given i (memAt example i) (callAt example i) (passes-at tests example played refl computed i l)
+
+-- no call is lent a tally: each returns and leaves what the tests go by
+does : (i : ℕ) → resultAt example i ≡ callResult (memAt example i) (callAt example i)
+does i = result-unlent example played refl i
 
 -- ---- The premises
 is-ready : (m : Mem) (n : ℕ) → ready m n ≡ true → (stepCode m tray 0 ≡ 0) × Reads m 0 q n
@@ -180,38 +170,38 @@ is-ready m n e =
 -- a read that call b began at desk 0 is under way up to call n, where no call between is 5 or 9
 runs : (b n : ℕ) → b < n → n ≤ 9 → ((i : ℕ) → b < i → i < n → i ≡ 5 → ⊥) → callAt example b ≡ begin 0 (readOf false None asked) → acceptedAt example b ≡ true
     → UnderWay example (readOf false None asked) 0 b n
-unfolding goes resultAt
+unfolding goes
 runs b n l m f c a = record {
   begins = c;
   accepted = a;
   earlier = l;
   still = λ i o p.
       let z = at i (omega arith) .on in
-      not-true _ (rw (ne-eqb i 5 (f i o p), ne-eqb i 9 (λ y. omega arith)) at z);
+      rw (does i) (not-true _ (rw (ne-eqb i 5 (f i o p), ne-eqb i 9 (λ y. omega arith)) at z));
 }
 
 first-begun : acceptedAt example 0 ≡ true
-unfolding acceptedAt resultAt
-first-begun = at 0 (omega arith) .begun
+unfolding acceptedAt
+first-begun = rw (does 0) (at 0 (omega arith) .begun)
 
 second-begun : acceptedAt example 6 ≡ true
-unfolding acceptedAt resultAt
-second-begun = at 6 (omega arith) .begun-again
+unfolding acceptedAt
+second-begun = rw (does 6) (at 6 (omega arith) .begun-again)
 
 first-call : callAt example 0 ≡ begin 0 (readOf false None asked)
-unfolding callAt
+unfolding callAt madeAt
 first-call = refl
 
 second-call : callAt example 6 ≡ begin 0 (readOf false None asked)
-unfolding callAt
+unfolding callAt madeAt
 second-call = refl
 
 file-call : callAt example 5 ≡ step 0 tray
-unfolding callAt
+unfolding callAt madeAt
 file-call = refl
 
 fetch-call : callAt example 9 ≡ step 0 tray
-unfolding callAt
+unfolding callAt madeAt
 fetch-call = refl
 
 was-filed : Filed example q 0 5
@@ -223,6 +213,7 @@ was-filed =
       tray = tray;
       calls = file-call;
       takes = r .0;
+      room = room-unlent example played refl 5;
       files = r .1;
       runs = runs 0 5 (omega arith) (omega arith) (λ i a b c. omega arith) first-call first-begun;
     }
@@ -259,6 +250,7 @@ fetched =
       within = omega arith;
       calls = fetch-call;
       takes = r .0;
+      room = room-unlent example played refl 9;
       fetches = r .1;
       runs = runs 6 9 (omega arith) (omega arith) (λ i a b c. omega arith) second-call second-begun;
       place = 0;
@@ -281,10 +273,10 @@ last-filed = (
 )
 
 was-quiet : AllQuiet example q 0 9
-unfolding quiescentAt resultAt
+unfolding quiescentAt
 was-quiet = record {
   quiet = λ i l m. and-left (isQuiet q (memAt example i)) _ (at i (omega arith) .quiescent);
-  kept = λ i l m. rw (next-mem example i (omega arith)) (and-right (isQuiet q (memAt example i)) _ (at i (omega arith) .quiescent));
+  kept = λ i l m. rw (next-mem example i (omega arith), does i) (and-right (isQuiet q (memAt example i)) _ (at i (omega arith) .quiescent));
 }
 
 -- ---- What the theorem gives

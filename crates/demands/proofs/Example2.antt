@@ -1,15 +1,15 @@
 -- A second history that meets the premises of demand 2's last sentence, and what it then gets: k 2, the table has (5,7). The read that
 -- fetches begins before the read that files, both of (5,*), their looks mix, and a node of another query is put out between them. As in
 -- Example the premises are computed in one pass over the calls, and the answer is the theorem's: the read gets (5,7) from file.
--- Leans on HistoryRuns and Demand2WholeHolds. Assumes nothing.
+-- Leans on HistoryRuns, Unlent and Demand2WholeHolds. Assumes nothing.
 use mathlib.Core.Path.{_≡_, refl, sym, ap, _∙_, subst}
 use mathlib.Core.Bool.{Bool, true, false, not, _&&_, _||_, true≢false}
 use mathlib.Core.List.{List, [], _∷_}
-use Prim.Native.Nat.{ℕ, zero, suc, _+_, min, _<_}
+use Prim.Native.Nat.{ℕ, _+_, min, _<_}
 use native.Mathlib.Omega.{arith}
 use lib.Dec.{eqb, leb, ltb}
 use borrow.Author.Tests.{eqb-true, eq-eqb, ne-eqb, lt-leb, le-ltb, not-true}
-use lib.ListN.{length, getD, take, replicate}
+use lib.ListN.{length, getD, replicate}
 use Rattle.lists.specs.Lists.{same, before, keep, place, without, allBelow, listed, padded, written, rows, flat, entriesIn, withEntries}
 use Rattle.laws.proofs.ListLaws.{and-left, and-right, same-eq}
 use Rattle.query.specs.declared.Column.the-variants.{Is, Wildcard}
@@ -33,13 +33,15 @@ use Rattle.rules.specs.Steps.{nowAt, storeBack, answered, lookResult, fetchResu
 use Rattle.rules.specs.Steps.{endOf, raiseResult, writeResult, progressOf, progress}
 use Rattle.rules.specs.Calls.{unless, beginResult, stepResult, evictNodeResult}
 use Rattle.rules.specs.History.{Call, begin, step, abandon, evictAnswer, evictNode as dropNode, renew, untrayed}
-use Rattle.rules.specs.History.{callResult, isAccepted, memAfter}
+use Rattle.rules.specs.History.{callResult, isAccepted}
+use Rattle.rules.specs.Tally.{unlent}
 use Rattle.machine.specs.Machine.{sameAsk, sameShape, sameQuery, sameColumn, sameWanted, sameRange}
 use Rattle.machine.proofs.Asks.{sameAsk-eq}
 use Rattle.refinement.proofs.ClientPhases.{asking-at}
-use Rattle.demands.specs.WholeHistory.{History, memAt, callAt, resultAt, acceptedAt, endsWork, endsAt, UnderWay}
+use Rattle.demands.specs.WholeHistory.{History, memAt, madeAt, callAt, resultAt, acceptedAt, endsWork, endsAt, UnderWay}
 use Rattle.demands.specs.Demand2.{isOpen, noneOpen, isQuiet, stillThere, keepsNodes, Quiescent, AllQuiet, Reads, Filed, Fetches, LastFiled}
 use Rattle.demands.proofs.HistoryRuns.{next-mem}
+use Rattle.demands.proofs.Unlent.{room-unlent, result-unlent, allPass, passes-at}
 use Rattle.demands.proofs.Demand2WholeHolds.{demand-2}
 use Rattle.demands.proofs.EndsUnchanged.{quiet-suffices}
 use Rattle.rules.specs.Work.{Ask, askFault, listWithin, readOf, insertOf, ofRecords, valueOf, mayAnswer, readLabels, writeLabels, askKey, askIn, changeKind, kindOf, keyOf, changeIn, writeIn}
@@ -68,7 +70,7 @@ unfolding openCode isShort badColumns
 may-open = refl
 
 abbrev pub example : History
-example = record { lent = lent; k = 2; accepted = may-open; calls = played }
+example = record { lent = lent; k = 2; accepted = may-open; calls = unlent played }
 
 abbrev q : Ask
 q = record { shape = shapeOf 2; query = Is 5 ∷ Wildcard ∷ []; counts = false; range = None }
@@ -114,27 +116,11 @@ tests i m c =
     && ((not (eqb i 11) || accepts m c)
     && ((not (eqb i 18) || ready m 0 (length (readLabels q) + 2)) && (not (eqb i 20) || (ready m 1 (length (readLabels q)) && onFile m)))))
 
-passes : ℕ → Mem → List Call → Bool
-passes i m [] = true
-passes i m (c ∷ cs) = tests i m c && passes (suc i) (callResult m c .mem) cs
-
-computed : passes 0 (opened narrow (shapeOf 2) lent) played ≡ true
-unfolding same before keep place without allBelow listed padded written rows flat entriesIn withEntries admits lies naming pick readNode writeNode named readNodes writeNodes readCount writeCount columnOf queryOf wellMarked isQuery namesAll recordOf termValue columnValue tag tags labelWords marks keyWords columnsIn queryIn countsIn countKey rangeOf rangeIn rangeKey wantedKey unranged bareKey within isRange isReversed listOf has putIn target isFull effect noRoom changes labelIn pending revision withPending withRevision hasLabel nodePlace isPresent nodeOf withNode evictNode added isFree oldestFree makeRoom addedIn ensured announcedIn announced isPending released lifted mayRetire retired isHigh isWorn keyIn lengthIn revisionIn isCount mostIn listIn valueIn hasKeyOf atLeast serves fetchPlace keyPlace filed isLong someLong kind steps sawPending didChange foundFull entryOf idle isIdle begun askAt writeAt workAt isBad stepped flag noted holding wrote recordsIn withRecords storeIn withStore answersIn withAnswers clientIn withClient cleared opened client isShort badColumns isUnsound noClient openCode beginCode atClient stepCode evictNodeCode nowAt storeBack answered lookResult fetchResult tableResult fileResult readResult announceResult writeTableResult endOf raiseResult writeResult progressOf progress unless beginResult stepResult evictNodeResult untrayed callResult isAccepted endsWork endsAt isOpen noneOpen isQuiet stillThere keepsNodes number sameAsk sameWanted sameRange sameQuery sameColumn sameShape ofRecords ofNumber askFault listWithin valueOf mayAnswer readLabels writeLabels askKey askIn changeKind kindOf keyOf changeIn writeIn workIn workFault stepsInAll isWrite askOf workOf faultOf ready onFile quiescentAt mayFile goes accepts tests passes
+computed : allPass tests 0 (opened narrow (shapeOf 2) lent) played ≡ true
+unfolding same before keep place without allBelow listed padded written rows flat entriesIn withEntries admits lies naming pick readNode writeNode named readNodes writeNodes readCount writeCount columnOf queryOf wellMarked isQuery namesAll recordOf termValue columnValue tag tags labelWords marks keyWords columnsIn queryIn countsIn countKey rangeOf rangeIn rangeKey wantedKey unranged bareKey within isRange isReversed listOf has putIn target isFull effect noRoom changes labelIn pending revision withPending withRevision hasLabel nodePlace isPresent nodeOf withNode evictNode added isFree oldestFree makeRoom addedIn ensured announcedIn announced isPending released lifted mayRetire retired isHigh isWorn keyIn lengthIn revisionIn isCount mostIn listIn valueIn hasKeyOf atLeast serves fetchPlace keyPlace filed isLong someLong kind steps sawPending didChange foundFull entryOf idle isIdle begun askAt writeAt workAt isBad stepped flag noted holding wrote recordsIn withRecords storeIn withStore answersIn withAnswers clientIn withClient cleared opened client isShort badColumns isUnsound noClient openCode beginCode atClient stepCode evictNodeCode nowAt storeBack answered lookResult fetchResult tableResult fileResult readResult announceResult writeTableResult endOf raiseResult writeResult progressOf progress unless beginResult stepResult evictNodeResult untrayed callResult isAccepted endsWork endsAt isOpen noneOpen isQuiet stillThere keepsNodes number sameAsk sameWanted sameRange sameQuery sameColumn sameShape ofRecords ofNumber askFault listWithin valueOf mayAnswer readLabels writeLabels askKey askIn changeKind kindOf keyOf changeIn writeIn workIn workFault stepsInAll isWrite askOf workOf faultOf ready onFile quiescentAt mayFile goes accepts tests allPass
 computed = refl
 
 -- ---- What they say of each call
-passed : (cs : List Call) (n : ℕ) (m : Mem) → passes n m cs ≡ true → (i : ℕ) → i < length cs → tests (n + i) (memAfter m (take i cs)) (getD cs i renew) ≡ true
-unfolding passes memAfter
-passed [] n m e i l = absurd (omega arith)
-passed (c ∷ cs) n m e zero l = let z : n + 0 ≡ n = omega arith in rw z (and-left (tests n m c) _ e)
-passed (c ∷ cs) n m e (suc i) l =
-    let z : n + suc i ≡ suc n + i = omega arith in
-    rw z (passed cs (suc n) (callResult m c .mem) (and-right (tests n m c) _ e) i (omega arith))
-
-at-call : (i : ℕ) → i < 21 → tests i (memAt example i) (callAt example i) ≡ true
-unfolding memAt callAt
-at-call i l = let z : 0 + i ≡ i = omega arith in rw z at (passed played 0 (opened narrow (shapeOf 2) lent) computed i l)
-
 record Passed (i : ℕ) (m : Mem) (c : Call) : Type 0 where
   quiescent : (leb i 10 || quiescentAt m c) ≡ true
   last : (leb i 18 || not (mayFile c m)) ≡ true
@@ -169,7 +155,11 @@ given i m c t =
     }
 
 at : (i : ℕ) → i < 21 → Passed i (memAt example i) (callAt example i)
-at i l = given i (memAt example i) (callAt example i) (at-call i l)
+at i l = given i (memAt example i) (callAt example i) (passes-at tests example played refl computed i l)
+
+-- no call is lent a tally: each returns and leaves what the tests go by
+does : (i : ℕ) → resultAt example i ≡ callResult (memAt example i) (callAt example i)
+does i = result-unlent example played refl i
 
 -- ---- The premises
 is-ready : (m : Mem) (d n : ℕ) → d < 12 → ready m d n ≡ true → (stepCode m tray d ≡ 0) × Reads m d q n
@@ -190,55 +180,55 @@ is-ready m d n l e =
     )
 
 first-begun : acceptedAt example 10 ≡ true
-unfolding acceptedAt resultAt accepts
-first-begun = unfold accepts in at 10 (omega arith) .begun-first
+unfolding acceptedAt accepts
+first-begun = rw (does 10) (at 10 (omega arith) .begun-first)
 
 second-begun : acceptedAt example 11 ≡ true
-unfolding acceptedAt resultAt accepts
-second-begun = unfold accepts in at 11 (omega arith) .begun-second
+unfolding acceptedAt accepts
+second-begun = rw (does 11) (at 11 (omega arith) .begun-second)
 
 first-call : callAt example 10 ≡ begin 1 (readOf false None asked)
-unfolding callAt
+unfolding callAt madeAt
 first-call = refl
 
 second-call : callAt example 11 ≡ begin 0 (readOf false None asked)
-unfolding callAt
+unfolding callAt madeAt
 second-call = refl
 
 file-call : callAt example 18 ≡ step 0 tray
-unfolding callAt
+unfolding callAt madeAt
 file-call = refl
 
 fetch-call : callAt example 20 ≡ step 1 tray
-unfolding callAt
+unfolding callAt madeAt
 fetch-call = refl
 
 fetching-runs : UnderWay example (readOf false None asked) 1 10 20
-unfolding goes resultAt
+unfolding goes
 fetching-runs = record {
   begins = first-call;
   accepted = first-begun;
   earlier = omega arith;
   still = λ i o p.
       let z = at i (omega arith) .on-one in
-      not-true _ (rw (le-ltb i 11 (omega arith), ne-eqb i 20 (λ y. omega arith)) at z);
+      rw (does i) (not-true _ (rw (le-ltb i 11 (omega arith), ne-eqb i 20 (λ y. omega arith)) at z));
 }
 
 filing-runs : UnderWay example (readOf false None asked) 0 11 18
-unfolding goes resultAt
+unfolding goes
 filing-runs = record {
   begins = second-call;
   accepted = second-begun;
   earlier = omega arith;
   still = λ i o p.
       let z = at i (omega arith) .on-nought in
-      not-true _ (rw (le-ltb i 12 (omega arith), lt-leb 18 i p) at z);
+      rw (does i) (not-true _ (rw (le-ltb i 12 (omega arith), lt-leb 18 i p) at z));
 }
 
 was-filed : Filed example q 11 18
 was-filed =
     let r = is-ready (memAt example 18) 0 (length (readLabels q) + 2) (omega arith) (at 18 (omega arith) .files) in
-    record { client = 0; request = readOf false None asked; tray = tray; calls = file-call; takes = r .0; files = r .1; runs = filing-runs }
+    record { client = 0; request = readOf false None asked; tray = tray; calls = file-call; takes = r .0; room = room-unlent example played refl 18; files = r .1; runs = filing-runs }
 
 abbrev e : Entry
 e = getD (answersIn narrow (memAt example 20 .answers)) 0 []
@@ -277,6 +267,7 @@ fetched =
       within = omega arith;
       calls = fetch-call;
       takes = r .0;
+      room = room-unlent example played refl 20;
       fetches = r .1;
       runs = fetching-runs;
       place = 0;
@@ -299,11 +290,11 @@ last-filed = (
 )
 
 was-quiet : AllQuiet example q 10 20
-unfolding quiescentAt resultAt
+unfolding quiescentAt
 was-quiet = record {
   quiet = λ i l m. let z = at i (omega arith) .quiescent in and-left (isQuiet q (memAt example i)) _ (rw (lt-leb i 10 l) at z);
   kept = λ i l m. let z = at i (omega arith) .quiescent in
-      rw (next-mem example i (omega arith)) (and-right (isQuiet q (memAt example i)) _ (rw (lt-leb i 10 l) at z));
+      rw (next-mem example i (omega arith), does i) (and-right (isQuiet q (memAt example i)) _ (rw (lt-leb i 10 l) at z));
 }
 
 -- ---- What the theorem gives

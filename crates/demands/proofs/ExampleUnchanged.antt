@@ -2,16 +2,16 @@
 -- and ends before the next read begins is excused: by demand 2's last sentence that read gets the answer from file (`spared`), where the
 -- sentence as it stood before S-6 says nothing (`not-all-quiet`). One that is open while a read looks is not: were it excused too, for ending
 -- unchanged later, the sentence would be false (`never-would-fail`). What the calls return is computed, in one pass over them; the rest follows
--- from the theorems. Leans on Demand2Holds, StepsMade and on Example, whose memories it opens. Assumes nothing.
+-- from the theorems. Leans on Unlent, Demand2Holds, StepsMade and on Example, whose memories it opens. Assumes nothing.
 use mathlib.Core.Path.{_≡_, refl, sym, ap, _∙_}
 use mathlib.Core.Logic.{_⊎_, inr}
 use mathlib.Core.Bool.{Bool, true, false, cond, not, _&&_, _||_}
 use mathlib.Core.List.{List, [], _∷_}
-use Prim.Native.Nat.{ℕ, zero, suc, _+_, _≤_, _<_}
+use Prim.Native.Nat.{ℕ, _+_, _≤_, _<_}
 use native.Mathlib.Omega.{arith}
 use lib.Dec.{eqb, leb}
 use borrow.Author.Tests.{eqb-true, eq-eqb, lt-leb, not-true}
-use lib.ListN.{length, getD, take}
+use lib.ListN.{length, getD}
 use Rattle.lists.specs.Lists.{same, keep, place, allBelow, listed, padded, written, rows, flat, entriesIn, withEntries, isIn, someIn}
 use Rattle.laws.proofs.ListLaws.{and-left, and-right, same-eq, below-at}
 use Rattle.laws.proofs.TestLaws.{byTest, clash}
@@ -34,14 +34,16 @@ use Rattle.rules.specs.Refusals.{client, isShort, badColumns, isUnsound, noClie
 use Rattle.rules.specs.Steps.{nowAt, storeBack, answered, lookResult, fetchResult, tableResult, fileResult, readResult, announceResult, writeTableResult}
 use Rattle.rules.specs.Steps.{endOf, raiseResult, writeResult, progressOf, progress}
 use Rattle.rules.specs.Calls.{unless, beginResult, stepResult}
-use Rattle.rules.specs.History.{Call, begin, step, abandon, evictAnswer, evictNode, renew, untrayed, callResult, isAccepted, memAfter}
+use Rattle.rules.specs.History.{Call, begin, step, abandon, evictAnswer, evictNode, renew, untrayed, callResult, isAccepted}
+use Rattle.rules.specs.Tally.{unlent}
 use Rattle.rules.specs.Work.{Ask, askFault, listWithin, ofRecords, valueOf, mayAnswer, readLabels, askKey, askIn, Write, writeLabels, Shares, shares, changeKind, kindOf, keyOf, changeIn, writeIn}
 use Rattle.rules.specs.Work.{workIn, workFault, stepsInAll, Work, asking, writing, Request, readOf, insertOf, isWrite, askOf, workOf, faultOf}
 use Rattle.refinement.proofs.SoundCodes.{step-taken}
-use Rattle.demands.specs.WholeHistory.{History, memAt, callAt, resultAt, acceptedAt, endsWork, endsAt, UnderWay, isStepAt, stepsIn}
+use Rattle.demands.specs.WholeHistory.{History, memAt, madeAt, callAt, resultAt, acceptedAt, endsWork, endsAt, UnderWay, isStepAt, stepsIn}
 use Rattle.demands.specs.OneWork.{Ending}
 use Rattle.demands.specs.Demand2.{isOpen, Open, noneOpen, isQuiet, stillThere, keepsNodes, KeptNodes, isUnchanged, EndedUnchanged, Quiescent, AllQuiet, Reads, Filed, Fetches, LastFiled, valueAt}
 use Rattle.demands.proofs.HistoryRuns.{next-mem, sound}
+use Rattle.demands.proofs.Unlent.{room-unlent, result-unlent, allPass, passes-at}
 use Rattle.demands.proofs.Demand2Holds.{demand-2-gets}
 use Rattle.demands.proofs.StepsMade.{reads-tell}
 use Rattle.demands.proofs.Example.{asked, tray, lent, may-open}
@@ -68,7 +70,7 @@ played =
     ∷ step 1 tray ∷ step 1 tray ∷ step 1 tray ∷ step 1 tray ∷ []
 
 abbrev pub example : History
-example = record { lent = lent; k = 1; accepted = may-open; calls = played }
+example = record { lent = lent; k = 1; accepted = may-open; calls = unlent played }
 
 abbrev pub x : Ask
 x = askOf (shapeOf 1) false None asked
@@ -113,36 +115,30 @@ tests i m c j =
     ∷ (not (writes c) || (eqb i 0 || (eqb i 9 || eqb i 22)))
     ∷ (leb i 17 || (leb 27 i || allBelow maxClients (λ d. not (eqb (steps (client m d)) 4)))) ∷ single i m c ∷ []) j true
 
-passes : ℕ → Mem → List Call → Bool
-passes i m [] = true
-passes i m (c ∷ cs) = allBelow 6 (tests i m c) && passes (suc i) (callResult m c .mem) cs
+-- all of them
+six : ℕ → Mem → Call → Bool
+six i m c = allBelow 6 (tests i m c)
 
-computed : passes 0 (opened narrow (shapeOf 1) lent) played ≡ true
-unfolding same keep place allBelow listed padded written rows flat entriesIn withEntries admits lies naming pick readNode writeNode named readNodes writeNodes readCount writeCount columnOf queryOf wellMarked isQuery namesAll recordOf termValue columnValue tag tags labelWords marks keyWords columnsIn queryIn countsIn countKey rangeOf rangeIn rangeKey wantedKey unranged bareKey within isRange isReversed listOf has putIn target isFull effect noRoom changes labelIn pending revision withPending withRevision hasLabel nodePlace isPresent nodeOf withNode added makeRoom addedIn ensured announcedIn announced isPending released lifted mayRetire retired isHigh isWorn keyIn lengthIn revisionIn isCount mostIn hasKeyOf atLeast serves fetchPlace keyPlace filed isLong someLong kind steps sawPending didChange foundFull entryOf idle isIdle begun writeAt workAt isBad stepped flag noted holding wrote recordsIn withRecords storeIn withStore answersIn withAnswers clientIn withClient cleared opened client isShort badColumns isUnsound noClient beginCode atClient stepCode nowAt storeBack answered lookResult fetchResult tableResult fileResult readResult announceResult writeTableResult endOf raiseResult writeResult progressOf progress unless beginResult stepResult untrayed callResult isAccepted number endsWork endsAt stillThere keepsNodes isOpen noneOpen isQuiet shares someIn isIn isUnchanged ofRecords askFault listWithin valueOf mayAnswer readLabels writeLabels askKey askIn changeKind kindOf keyOf changeIn writeIn workIn workFault stepsInAll isWrite askOf workOf faultOf writes single tests passes
+computed : allPass six 0 (opened narrow (shapeOf 1) lent) played ≡ true
+unfolding same keep place allBelow listed padded written rows flat entriesIn withEntries admits lies naming pick readNode writeNode named readNodes writeNodes readCount writeCount columnOf queryOf wellMarked isQuery namesAll recordOf termValue columnValue tag tags labelWords marks keyWords columnsIn queryIn countsIn countKey rangeOf rangeIn rangeKey wantedKey unranged bareKey within isRange isReversed listOf has putIn target isFull effect noRoom changes labelIn pending revision withPending withRevision hasLabel nodePlace isPresent nodeOf withNode added makeRoom addedIn ensured announcedIn announced isPending released lifted mayRetire retired isHigh isWorn keyIn lengthIn revisionIn isCount mostIn hasKeyOf atLeast serves fetchPlace keyPlace filed isLong someLong kind steps sawPending didChange foundFull entryOf idle isIdle begun writeAt workAt isBad stepped flag noted holding wrote recordsIn withRecords storeIn withStore answersIn withAnswers clientIn withClient cleared opened client isShort badColumns isUnsound noClient beginCode atClient stepCode nowAt storeBack answered lookResult fetchResult tableResult fileResult readResult announceResult writeTableResult endOf raiseResult writeResult progressOf progress unless beginResult stepResult untrayed callResult isAccepted number endsWork endsAt stillThere keepsNodes isOpen noneOpen isQuiet shares someIn isIn isUnchanged ofRecords askFault listWithin valueOf mayAnswer readLabels writeLabels askKey askIn changeKind kindOf keyOf changeIn writeIn workIn workFault stepsInAll isWrite askOf workOf faultOf writes single tests six allPass
 computed = refl
 
 -- ---- What they say of each call
-passed : (cs : List Call) (n : ℕ) (m : Mem) → passes n m cs ≡ true → (i : ℕ) → i < length cs → allBelow 6 (tests (n + i) (memAfter m (take i cs)) (getD cs i renew)) ≡ true
-unfolding passes memAfter
-passed [] n m e i l = absurd (omega arith)
-passed (c ∷ cs) n m e zero l = let z : n + 0 ≡ n = omega arith in rw z (and-left (allBelow 6 (tests n m c)) _ e)
-passed (c ∷ cs) n m e (suc i) l =
-    let z : n + suc i ≡ suc n + i = omega arith in
-    rw z (passed cs (suc n) (callResult m c .mem) (and-right (allBelow 6 (tests n m c)) _ e) i (omega arith))
-
 at : (j i : ℕ) → j < 6 → i < 32 → tests i (memAt example i) (callAt example i) j ≡ true
-unfolding memAt callAt
-at j i k l =
-    let z : 0 + i ≡ i = omega arith in
-    below-at 6 (tests i (memAt example i) (callAt example i)) j (rw z at (passed played 0 (opened narrow (shapeOf 1) lent) computed i l)) k
+unfolding six
+at j i k l = below-at 6 (tests i (memAt example i) (callAt example i)) j (passes-at six example played refl computed i l) k
+
+-- no call is lent a tally: each returns and leaves what the tests go by
+does : (i : ℕ) → resultAt example i ≡ callResult (memAt example i) (callAt example i)
+does i = result-unlent example played refl i
 
 taken : (i : ℕ) → i < 32 → acceptedAt example i ≡ true
-unfolding acceptedAt resultAt tests
-taken i l = at 0 i (omega arith) l
+unfolding acceptedAt tests
+taken i l = rw (does i) (at 0 i (omega arith) l)
 
 kept : (n : ℕ) → n ≤ 27 → KeptNodes example x 6 n
-unfolding resultAt tests
-kept n m i l o = rw (next-mem example i (omega arith)) (at 1 i (omega arith) (omega arith))
+unfolding tests
+kept n m i l o = rw (next-mem example i (omega arith), does i) (at 1 i (omega arith) (omega arith))
 
 alone : (i : ℕ) → i < 32 → single i (memAt example i) (callAt example i) ≡ true
 unfolding tests
@@ -153,7 +149,7 @@ abbrev stays : ℕ → ℕ → ℕ → Bool
 stays d b n = allBelow n (λ i. leb i b || not (mayEnd d i))
 
 runs : (r : Request) (d b n : ℕ) → d < 2 → n < 32 → b < n → stays d b n ≡ true → callAt example b ≡ begin d r → UnderWay example r d b n
-unfolding resultAt tests
+unfolding tests
 runs r d b n l m o f e = record {
   begins = e;
   accepted = taken b (omega arith);
@@ -161,7 +157,7 @@ runs r d b n l m o f e = record {
   still = λ i p q.
       let y = below-at n (λ i. leb i b || not (mayEnd d i)) i f q in
       let z = below-at 2 (λ d. mayEnd d i || not (endsAt d (callAt example i) (callResult (memAt example i) (callAt example i) .out))) d (at 2 i (omega arith) (omega arith)) l in
-      not-true _ (rw (not-true (mayEnd d i) (rw (lt-leb i b p) at y)) at z);
+      rw (does i) (not-true _ (rw (not-true (mayEnd d i) (rw (lt-leb i b p) at y)) at z));
 }
 
 -- ---- The reads
@@ -177,11 +173,11 @@ stands b n k m u e =
     (z, step-taken (memAt example n) (sound example n (omega arith) .fits) tray 0 (omega arith) (z .below) (z .busy))
 
 was-filed : Filed example x 6 17
-unfolding callAt stepsIn isStepAt allBelow
+unfolding callAt madeAt stepsIn isStepAt allBelow
 was-filed =
     let u = runs reading 0 6 17 (omega arith) (omega arith) (omega arith) refl refl in
     let z = stands 6 17 4 (omega arith) u (rw (taken 7 (omega arith), taken 8 (omega arith), taken 15 (omega arith), taken 16 (omega arith)) refl) in
-    record { client = 0; request = reading; tray = tray; calls = refl; takes = z .1; files = rw looks (z .0); runs = u }
+    record { client = 0; request = reading; tray = tray; calls = refl; takes = z .1; room = room-unlent example played refl 17; files = rw looks (z .0); runs = u }
 
 last-filed : (n : ℕ) → 17 < n → n ≤ 27 → LastFiled example x 17 n
 unfolding tests
@@ -202,14 +198,14 @@ fetched b n m l f c s e t =
     let z = stands b n 2 m u s in
     let o = same-eq (onFile (memAt example n)) (1 ∷ 1 ∷ askKey x) t in
     let k : length (answersIn narrow (memAt example n .answers)) ≡ 1 = cc in
-    record { client = 0; request = reading; tray = tray; within = omega arith; calls = e; takes = z .1; fetches = rw looks (z .0); runs = u; place = 0; there = omega arith; is = refl; key = cc }
+    record { client = 0; request = reading; tray = tray; within = omega arith; calls = e; takes = z .1; room = room-unlent example played refl n; fetches = rw looks (z .0); runs = u; place = 0; there = omega arith; is = refl; key = cc }
 
 fetch-21 : Fetches example x 18 21 (answerIn (memAt example 21))
-unfolding callAt stepsIn isStepAt single allBelow
+unfolding callAt madeAt stepsIn isStepAt single allBelow
 fetch-21 = fetched 18 21 (omega arith) (omega arith) refl refl (rw (taken 19 (omega arith), taken 20 (omega arith)) refl) refl (alone 21 (omega arith))
 
 fetch-27 : Fetches example x 24 27 (answerIn (memAt example 27))
-unfolding callAt stepsIn isStepAt single allBelow
+unfolding callAt madeAt stepsIn isStepAt single allBelow
 fetch-27 = fetched 24 27 (omega arith) (omega arith) refl refl (rw (taken 25 (omega arith), taken 26 (omega arith)) refl) refl (alone 27 (omega arith))
 
 -- ---- The writes
@@ -224,8 +220,8 @@ unchanged a n m l f c e =
     (record { within = m; runs = runs inserting 1 a n (omega arith) m l f c; ends = and-left ends _ e }, and-right ends _ e)
 
 both : Unchanged 9 14 × Unchanged 22 31
-unfolding callAt resultAt single allBelow
-both = (unchanged 9 14 (omega arith) (omega arith) refl refl (alone 14 (omega arith)), unchanged 22 31 (omega arith) (omega arith) refl refl (alone 31 (omega arith)))
+unfolding callAt madeAt single allBelow
+both = (unchanged 9 14 (omega arith) (omega arith) refl refl (rw (does 14) (alone 14 (omega arith))), unchanged 22 31 (omega arith) (omega arith) refl refl (rw (does 31) (alone 31 (omega arith))))
 
 -- the desk of a begin
 client-of : (a b d e : ℕ) (r s : Request) → a ≡ b → callAt example b ≡ begin e s → callAt example a ≡ begin d r → d ≡ e
@@ -233,7 +229,7 @@ client-of a b d e r s i g f = let z : begin d r ≡ begin e s = sym f ∙ ap (ca
 
 -- a write that is open after call 6 and up to call 27 was begun by call 9 or by call 22: that of call 0 ended at call 5
 of-two : (P : ℕ → ℕ → Type 0) (i : ℕ) → 6 < i → i ≤ 27 → (w : Write) (d a : ℕ) → Open example w d a i → P 1 9 → (22 < i → P 1 22) → P d a
-unfolding writes single callAt resultAt tests
+unfolding writes single callAt madeAt tests
 of-two P i l m w d a o p q =
     let u = o .runs in
     let r = o .request in
@@ -241,7 +237,7 @@ of-two P i l m w d a o p q =
     let z = at 3 a (omega arith) (omega arith) in
     let y : (eqb a 0 || (eqb a 9 || eqb a 22)) ≡ true = rw (u .begins, o .is) at z in
     byTest (eqb a 0)
-    (λ t. let e = eqb-true a 0 t in clash (alone 5 (omega arith)) (rw (client-of a 0 d 2 r inserting e refl (u .begins)) at (u .still 5 (omega arith) (omega arith))))
+    (λ t. let e = eqb-true a 0 t in clash (alone 5 (omega arith)) (rw (client-of a 0 d 2 r inserting e refl (u .begins), does 5) at (u .still 5 (omega arith) (omega arith))))
     (λ t. byTest (eqb a 9)
     (λ s. let e = eqb-true a 9 s in rw (client-of a 9 d 1 r inserting e refl (u .begins), e) p)
     (λ s. let e = eqb-true a 22 (rw (t, s) at y) in rw (client-of a 22 d 1 r inserting e refl (u .begins), e) (q (omega arith))))
@@ -287,7 +283,7 @@ NeverCountsGets h = (x : Ask) (b n : ℕ) (e : Entry) (y : Fetches h x b n e) (b
 
 -- both inserts end unchanged, and the read of calls 24 to 27 finds the answer on file; but its fetch does not answer
 pub never-would-fail : NeverCountsGets example → ⊥
-unfolding callAt endsAt endsWork allBelow
+unfolding callAt madeAt endsAt endsWork allBelow
 never-would-fail f =
     let e = f x 24 27 _ fetch-27 6 17 was-filed (last-filed 27 (omega arith) (omega arith)) 6 (omega arith) (omega arith) (inr refl) (record {
       quiet = λ i l m w d a o s. of-two (λ d a. EverUnchanged example d a) i l m w d a o

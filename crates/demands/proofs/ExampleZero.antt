@@ -1,11 +1,11 @@
 -- Why S-5 has sharing in demand 2's last sentence and not meeting: with "meeting" left in it would be false. k 1 and an empty table: a read of
 -- 0 files its empty list; an insert of 0, which does not meet that read ("A named 0 is never equal to anything") and shares its node, runs to
 -- its end; the next read of 0 finds the answer on file and does not get it. All of it is computed, in one pass over the calls. Leans on the
--- definitions of demands and on Example, whose memories it opens. Assumes nothing.
+-- definitions of demands, on Unlent and on Example, whose memories it opens. Assumes nothing.
 use mathlib.Core.Path.{_≡_, refl}
 use mathlib.Core.Bool.{Bool, true, false, cond, not, _&&_}
 use mathlib.Core.List.{List, [], _∷_}
-use Prim.Native.Nat.{ℕ, suc, _+_}
+use Prim.Native.Nat.{ℕ, _+_}
 use lib.Dec.{eqb, leb}
 use lib.ListN.{length, getD}
 use Rattle.lists.specs.Lists.{same, before, keep, place, without, allBelow, listed, padded, written, rows, flat, entriesIn, withEntries, isIn, someIn}
@@ -35,6 +35,7 @@ use Rattle.rules.specs.Work.{Ask, askFault, listWithin, readOf, insertOf, ofRec
 use Rattle.rules.specs.Work.{workIn, workFault, stepsInAll, isWrite, askOf, workOf, faultOf, ofNumber}
 use Rattle.machine.specs.Machine.{sameAsk, sameShape, sameQuery, sameColumn, sameWanted, sameRange}
 use Rattle.rules.specs.Layout.{reads}
+use Rattle.demands.proofs.Unlent.{allPass}
 use Rattle.demands.proofs.Example.{tray, lent}
 
 abbrev pub asked : List ℕ
@@ -82,9 +83,8 @@ holds i m c =
     && (keepsNodes x m (callResult m c .mem) && (cond (leb 7 i && leb i 11) (not (isQuiet x m)) (isQuiet x m) && misses i m c))
 
 abbrev pub all : ℕ → Mem → List Call → Bool
-all i m [] = true
-all i m (c ∷ cs) = holds i m c && all (suc i) (callResult m c .mem) cs
+all i m cs = allPass holds i m cs
 
 pub meeting-would-fail : all 0 (opened narrow (shapeOf 1) lent) played ≡ true
-unfolding same before keep place without allBelow listed padded written rows flat entriesIn withEntries admits lies naming pick readNode writeNode named readNodes writeNodes readCount writeCount columnOf queryOf wellMarked isQuery namesAll recordOf termValue columnValue tag tags labelWords marks keyWords columnsIn queryIn countsIn countKey rangeOf rangeIn rangeKey wantedKey unranged bareKey within isRange isReversed listOf has putIn target isFull effect noRoom changes labelIn pending revision withPending withRevision hasLabel nodePlace isPresent nodeOf withNode added isFree oldestFree makeRoom addedIn ensured announcedIn announced isPending released lifted mayRetire retired isHigh isWorn keyIn lengthIn revisionIn isCount mostIn listIn valueIn hasKeyOf atLeast serves fetchPlace keyPlace filed isLong someLong kind steps sawPending didChange foundFull entryOf idle isIdle begun askAt writeAt workAt isBad stepped flag noted holding wrote recordsIn withRecords storeIn withStore answersIn withAnswers clientIn withClient cleared opened client isShort badColumns isUnsound noClient openCode beginCode atClient stepCode nowAt storeBack answered lookResult fetchResult tableResult fileResult readResult announceResult writeTableResult endOf raiseResult writeResult progressOf progress unless beginResult stepResult untrayed callResult isOpen noneOpen isQuiet stillThere keepsNodes ofRecords ofNumber askFault listWithin valueOf mayAnswer readLabels writeLabels askKey askIn changeKind kindOf keyOf changeIn writeIn workIn workFault stepsInAll isWrite askOf workOf faultOf agreeIn agree meets isZero namesZero meetsWrite someIn isIn shares isUnmet evictNode sameAsk sameShape sameQuery sameColumn sameWanted sameRange
+unfolding same before keep place without allBelow listed padded written rows flat entriesIn withEntries admits lies naming pick readNode writeNode named readNodes writeNodes readCount writeCount columnOf queryOf wellMarked isQuery namesAll recordOf termValue columnValue tag tags labelWords marks keyWords columnsIn queryIn countsIn countKey rangeOf rangeIn rangeKey wantedKey unranged bareKey within isRange isReversed listOf has putIn target isFull effect noRoom changes labelIn pending revision withPending withRevision hasLabel nodePlace isPresent nodeOf withNode added isFree oldestFree makeRoom addedIn ensured announcedIn announced isPending released lifted mayRetire retired isHigh isWorn keyIn lengthIn revisionIn isCount mostIn listIn valueIn hasKeyOf atLeast serves fetchPlace keyPlace filed isLong someLong kind steps sawPending didChange foundFull entryOf idle isIdle begun askAt writeAt workAt isBad stepped flag noted holding wrote recordsIn withRecords storeIn withStore answersIn withAnswers clientIn withClient cleared opened client isShort badColumns isUnsound noClient openCode beginCode atClient stepCode nowAt storeBack answered lookResult fetchResult tableResult fileResult readResult announceResult writeTableResult endOf raiseResult writeResult progressOf progress unless beginResult stepResult untrayed callResult isOpen noneOpen isQuiet stillThere keepsNodes ofRecords ofNumber askFault listWithin valueOf mayAnswer readLabels writeLabels askKey askIn changeKind kindOf keyOf changeIn writeIn workIn workFault stepsInAll isWrite askOf workOf faultOf agreeIn agree meets isZero namesZero meetsWrite someIn isIn shares isUnmet evictNode sameAsk sameShape sameQuery sameColumn sameWanted sameRange allPass
 meeting-would-fail = refl

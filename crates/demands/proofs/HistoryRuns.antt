@@ -1,7 +1,9 @@
 -- A history call by call: its memories are states of the machine, its calls are steps of it, and its plain table is the machine's.
 -- Leans on refinement and on machine's Claims and Histories. Assumes nothing.
 use mathlib.Core.Path.{_≡_, refl, sym, ap, _∙_, subst}
+use mathlib.Core.Bool.{true, false}
 use mathlib.Core.List.{List, [], _∷_, _++_}
+use mathlib.Core.Option.{none}
 use Prim.Native.Nat.{ℕ, zero, suc, _≤_, _<_}
 use native.Mathlib.Omega.{arith}
 use lib.ListN.{length, getD, take}
@@ -9,50 +11,80 @@ use Rattle.rules.specs.Memory.{Mem, storeIn, opened}
 use Rattle.rules.specs.Outcome.{number}
 use Rattle.rules.specs.Refusals.{shape}
 use Rattle.rules.specs.History.{Call, begin, step, abandon, evictAnswer, evictNode, renew, callResult, isAccepted, Note, nothing, doing, noteAt}
-use Rattle.rules.specs.History.{oneStep, plainAtOpening, fed, fedAccepted, memAfter, plainAfter}
-use Rattle.laws.proofs.TestLaws.{byTest}
+use Rattle.rules.specs.History.{oneStep, plainAtOpening, fed, fedAccepted}
+use Rattle.rules.specs.Tally.{Made, made, isTallyFull, madeResult, memAfter, plainAfter}
+use Rattle.rules.specs.declared.Outcome.the-variants.{Refused}
+use Rattle.rules.specs.Layout.{refusedTallyFull}
+use Rattle.laws.proofs.TestLaws.{byTest, clash}
 use Rattle.revisions.specs.EffectiveRevision.{NoDup}
-use Rattle.machine.specs.Machine.{State, Response}
+use Rattle.machine.specs.Machine.{State, Response, isRefused}
 use Rattle.machine.specs.Transition.{Transition}
 use Rattle.machine.proofs.StateInv.{StateInv}
 use Rattle.machine.proofs.Claims.{Hist, next, fresh, Good, good-next, opened-good}
 use Rattle.machine.proofs.Log.{Entry, entry, after}
 use Rattle.machine.proofs.Histories.{Run, after-append}
-use Rattle.refinement.proofs.Abstraction.{stateOf, callOf, responseOf, countsAt, Fits}
+use Rattle.refinement.proofs.Abstraction.{stateOf, callOf, responseIn, responseOf, countsAt, Fits}
 use Rattle.refinement.proofs.Refinement.{refines, shape-stays, number-is}
 use Rattle.refinement.proofs.Opening.{opened-fits}
-use Rattle.demands.specs.WholeHistory.{History, shapeAt, memAt, plainAt, callAt, resultAt}
+use Rattle.demands.specs.WholeHistory.{History, shapeAt, memAt, plainAt, madeAt, callAt, resultAt, acceptedAt, HasRoom}
 use Rattle.query.specs.Shape.{Shape, maxColumns, narrow}
 use Rattle.machine.specs.Machine as machine
 use Rattle.machine.proofs.Plain as plain
 use Rattle.rules.specs.History.{Plain}
 
 -- ---- One call more
-mem-more : (cs : List Call) (m : Mem) (n : ℕ) → n < length cs → memAfter m (take (suc n) cs) ≡ callResult (memAfter m (take n cs)) (getD cs n renew) .mem
+mem-more : (xs : List Made) (m : Mem) (n : ℕ) → n < length xs → memAfter m (take (suc n) xs) ≡ madeResult (memAfter m (take n xs)) (getD xs n (made renew none)) .mem
 unfolding memAfter
 mem-more [] m n l = absurd (omega arith)
-mem-more (c ∷ cs) m zero l = refl
-mem-more (c ∷ cs) m (suc n) l = mem-more cs (callResult m c .mem) n (omega arith)
+mem-more (x ∷ xs) m zero l = refl
+mem-more (x ∷ xs) m (suc n) l = mem-more xs (madeResult m x .mem) n (omega arith)
 
-plain-more : (cs : List Call) (m : Mem) (p : Plain) (n : ℕ) → n < length cs → plainAfter m p (take (suc n) cs)
-    ≡ fed (plainAfter m p (take n cs)) (getD cs n renew) (number (callResult (memAfter m (take n cs)) (getD cs n renew) .out))
+plain-more : (xs : List Made) (m : Mem) (p : Plain) (n : ℕ) → n < length xs → plainAfter m p (take (suc n) xs)
+    ≡ fed (plainAfter m p (take n xs)) (getD xs n (made renew none) .call) (number (madeResult (memAfter m (take n xs)) (getD xs n (made renew none)) .out))
 unfolding memAfter plainAfter
 plain-more [] m p n l = absurd (omega arith)
-plain-more (c ∷ cs) m p zero l = refl
-plain-more (c ∷ cs) m p (suc n) l = plain-more cs (callResult m c .mem) (fed p c (number (callResult m c .out))) n (omega arith)
+plain-more (x ∷ xs) m p zero l = refl
+plain-more (x ∷ xs) m p (suc n) l = plain-more xs (madeResult m x .mem) (fed p (x .call) (number (madeResult m x .out))) n (omega arith)
 
 pub next-mem : (h : History) (n : ℕ) → n < length (h .calls) → memAt h (suc n) ≡ resultAt h n .mem
-unfolding memAt resultAt callAt
+unfolding memAt resultAt madeAt
 next-mem h n l = mem-more (h .calls) (opened narrow (shapeAt h) (h .lent)) n l
 
 next-plain : (h : History) (n : ℕ) → n < length (h .calls) → plainAt h (suc n) ≡ fed (plainAt h n) (callAt h n) (number (resultAt h n .out))
-unfolding memAt plainAt resultAt callAt
+unfolding memAt plainAt resultAt callAt madeAt
 next-plain h n l = plain-more (h .calls) (opened narrow (shapeAt h) (h .lent)) (plainAtOpening (shapeAt h)) n l
+
+-- ---- With a tally and without
+-- where 15 does not apply a call does what it does without a tally
+pub plain-result : (h : History) (n : ℕ) → HasRoom h n → resultAt h n ≡ callResult (memAt h n) (callAt h n)
+unfolding resultAt callAt madeResult
+plain-result h n e = rw e refl
+
+-- the same of a call that is known
+pub call-result : (h : History) (n : ℕ) (c : Call) → HasRoom h n → callAt h n ≡ c → resultAt h n ≡ callResult (memAt h n) c
+call-result h n c k e = plain-result h n k ∙ ap (callResult (memAt h n)) e
+
+-- where it does the call is refused
+pub full-result : (h : History) (n : ℕ) → isTallyFull (memAt h n) (madeAt h n) ≡ true → resultAt h n .out ≡ Refused refusedTallyFull
+unfolding resultAt madeResult
+full-result h n e = rw e refl
+
+-- so an accepted call had room
+pub room-accepted : (h : History) (n : ℕ) → acceptedAt h n ≡ true → HasRoom h n
+unfolding acceptedAt isAccepted number
+room-accepted h n a = byTest (isTallyFull (memAt h n) (madeAt h n)) (λ t. clash a (ap (λ o. isAccepted (number o)) (full-result h n t))) (λ t. t)
 
 -- ---- The machine's log of a history
 -- what the machine answers to call n
 unfoldable pub responseAt : History → ℕ → Response
 responseAt h n = responseOf (shape (memAt h n)) (countsAt (memAt h n) (callOf (shapeAt h) (callAt h n))) (resultAt h n)
+
+-- and had room where that is no refusal
+pub room-taken : (h : History) (n : ℕ) → isRefused (responseAt h n) ≡ false → HasRoom h n
+unfolding responseAt responseOf responseIn isRefused
+room-taken h n a = byTest (isTallyFull (memAt h n) (madeAt h n))
+    (λ t. clash (ap (λ o. isRefused (responseIn (shape (memAt h n)) (countsAt (memAt h n) (callOf (shapeAt h) (callAt h n))) (resultAt h n .tray) o)) (full-result h n t)) a)
+    (λ t. t)
 
 unfoldable pub entryAt : History → ℕ → Entry
 entryAt h n = entry (callOf (shapeAt h) (callAt h n)) (responseAt h n)
@@ -115,8 +147,8 @@ run-more (e ∷ l) s m t c a r o = (r .0, r .1, run-more l (r .0) m t c a (r .2)
 -- a call of the history is a step of the machine
 transition-then : (h : History) (n : ℕ) → n < length (h .calls) → Sound h n
     → Transition (stateOf (memAt h n)) (callOf (shapeAt h) (callAt h n)) (responseAt h n) (stateOf (memAt h (suc n))) × Fits (memAt h (suc n))
-unfolding responseAt resultAt
-transition-then h n l s = rw (next-mem h n l, sym (s .shape)) (refines (memAt h n) (callAt h n) (s .fits) (once (memAt h n) (s .good .inv)))
+unfolding responseAt resultAt callAt
+transition-then h n l s = rw (next-mem h n l, sym (s .shape)) (refines (memAt h n) (madeAt h n) (s .fits) (once (memAt h n) (s .good .inv)))
 
 sound-next : (h : History) (n : ℕ) → n < length (h .calls) → Sound h n → Sound h (suc n)
 unfolding resultAt logTo entryAt
@@ -124,7 +156,7 @@ sound-next h n l s =
     let d = transition-then h n l s in
     record {
       fits = d .1;
-      shape = ap (λ (m : Mem). shape m) (next-mem h n l) ∙ shape-stays (memAt h n) (callAt h n) (s .fits) (once (memAt h n) (s .good .inv)) ∙ s .shape;
+      shape = ap (λ (m : Mem). shape m) (next-mem h n l) ∙ shape-stays (memAt h n) (madeAt h n) (s .fits) (once (memAt h n) (s .good .inv)) ∙ s .shape;
       good = rw (after-to h n) (good-next (stateOf (memAt h n)) (after (fresh (shapeAt h)) (logTo h n)) (s .good) (d .0));
       run = run-more (logTo h n) (machine.opened (shapeAt h)) (stateOf (memAt h n)) (stateOf (memAt h (suc n))) (callOf (shapeAt h) (callAt h n)) (responseAt h n) (s .run) (d .0);
     }

@@ -19,7 +19,8 @@ use Rattle.rules.specs.Work.{Work, asking, writing, Request, workOf, stepsInAll
 use Rattle.rules.specs.Memory.{opened}
 use Rattle.rules.specs.Outcome.{number}
 use Rattle.rules.specs.Refusals.{client}
-use Rattle.rules.specs.History.{step, abandon, renew, untrayed, callResult, memAfter, isAccepted}
+use Rattle.rules.specs.History.{step, abandon, renew, untrayed, callResult, isAccepted}
+use Rattle.rules.specs.Tally.{Made, made, isFullFor, isTallyFull, unlent, memAfter}
 use Rattle.machine.specs.Machine as machine
 use Rattle.machine.specs.Machine.{State, Phase, idle, looking, tabling, filing, announcing, raising, at-client, with-store, Response, isRefused, isEnd}
 use Rattle.machine.specs.Transition.{Transition}
@@ -32,11 +33,11 @@ use Rattle.machine.proofs.Headroom.{opened-headroom}
 use Rattle.machine.proofs.StepsToGo.{toGo, rests, Nearer, transition-nearer, transition-goes-on}
 use Rattle.refinement.proofs.Abstraction.{stateOf, callOf, responseOf}
 use Rattle.refinement.proofs.Opening.{opened-fits}
-use Rattle.refinement.proofs.NeverRefused.{Lasting, call-passes, lasting-next, step-accepted, abandon-accepted}
+use Rattle.refinement.proofs.NeverRefused.{Lasting, made-passes, lasting-next, step-accepted, abandon-accepted}
 use Rattle.refinement.proofs.StepsLeft.{to-go-at, rests-at, some-to-go}
-use Rattle.demands.specs.WholeHistory.{History, shapeAt, memAt, callAt, resultAt, acceptedAt, endsAt, UnderWay, stepsIn}
+use Rattle.demands.specs.WholeHistory.{History, shapeAt, memAt, callAt, resultAt, acceptedAt, endsAt, UnderWay, stepsIn, madeAt, HasRoom}
 use Rattle.demands.specs.NeverUnsound.{NeverThree, IsBusy, StepsGo, AbandonsGo, steppedOn, Roomy, EndsWithin, UnderWayBusy, stepsLeftAt, WorkEnds, BusyEnds, NeverUnsound}
-use Rattle.demands.proofs.HistoryRuns.{next-mem, responseAt, few-columns, transition-at, number-at}
+use Rattle.demands.proofs.HistoryRuns.{next-mem, responseAt, few-columns, transition-at, number-at, call-result}
 use Rattle.demands.proofs.LogPlaces.{accepted-at, work-ends, stepped-at}
 use Rattle.demands.proofs.Works.{Since, begin-taken, goes-on, work-since, not-begun}
 
@@ -53,7 +54,7 @@ lasting-opened h =
 
 lasting-more : (h : History) (n : ℕ) → n < length (h .calls) → Lasting (memAt h n) → Lasting (memAt h (suc n))
 unfolding resultAt
-lasting-more h n l g = rw (next-mem h n l) (lasting-next (memAt h n) (callAt h n) g)
+lasting-more h n l g = rw (next-mem h n l) (lasting-next (memAt h n) (madeAt h n) g)
 
 lasting-at : (h : History) (n : ℕ) → n ≤ length (h .calls) → Lasting (memAt h n)
 lasting-at h zero l = lasting-opened h
@@ -62,12 +63,13 @@ lasting-at h (suc n) l = lasting-more h n (omega arith) (lasting-at h n (omega a
 -- ---- Never 3
 never-three : (h : History) → NeverThree h
 unfolding resultAt
-never-three h n l = call-passes (memAt h n) (lasting-at h n (omega arith)) (callAt h n) .sound
+never-three h n l = made-passes (memAt h n) (lasting-at h n (omega arith)) (madeAt h n) .sound
 
 -- ---- Every step goes on
 steps-go : (h : History) → StepsGo h
-unfolding acceptedAt resultAt callResult
-steps-go h n d tray l e b t = rw e (step-accepted (memAt h n) (lasting-at h n (omega arith)) tray d t (b .below) (b .busy))
+unfolding acceptedAt callResult
+steps-go h n d tray l e b t k =
+    rw (call-result h n (step d tray) k e) (step-accepted (memAt h n) (lasting-at h n (omega arith)) tray d t (b .below) (b .busy))
 
 -- ---- Every busy desk can be abandoned
 abandon-rests : (s : State) (d : ℕ) {a : Response} {t : State} → Transition s (machine.abandon d) a t → isRefused a ≡ false → rests (t .clients d) ≡ true
@@ -78,11 +80,11 @@ abandon-rests s d (Transition.abandoned-write l e m) r = rw (upd-same (s .client
 abandon-rests s d (Transition.abandoned-raising l e m) r = rw (upd-same (s .clients) d idle) idle-rests
 
 abandons-go : (h : History) → AbandonsGo h
-unfolding callOf acceptedAt resultAt callResult untrayed
-abandons-go h n d l e b =
+unfolding callOf acceptedAt callResult untrayed
+abandons-go h n d l e b k =
     let s = stateOf (memAt h n) in
     let u = stateOf (memAt h (suc n)) in
-    let a : acceptedAt h n ≡ true = rw e (abandon-accepted (memAt h n) (lasting-at h n (omega arith)) d (b .below) (b .busy)) in
+    let a : acceptedAt h n ≡ true = rw (call-result h n (abandon d) k e) (abandon-accepted (memAt h n) (lasting-at h n (omega arith)) d (b .below) (b .busy)) in
     let o : Transition s (callOf (shapeAt h) (abandon d)) (responseAt h n) u = subst (λ c. Transition s (callOf (shapeAt h) c) (responseAt h n) u) e (transition-at h n l) in
     let g = lasting-at h (suc n) l in
     (a, sym (rests-at (memAt h (suc n)) (g .fits) d (b .below)) ∙ abandon-rests s d o (not-true (isRefused (responseAt h n)) (sym (accepted-at h n l) ∙ a)))
@@ -90,13 +92,13 @@ abandons-go h n d l e b =
 -- ---- Every read and write can go on to its end
 -- a step is accepted, so the desk has fewer steps to go
 nearer-at : (h : History) (n d : ℕ) (tray : List ℕ) → n < length (h .calls) → callAt h n ≡ step d tray → IsBusy (memAt h n) d → trayLeast ≤ length tray
-    → Nearer (stateOf (memAt h n)) d (responseAt h n) (stateOf (memAt h (suc n)))
+    → HasRoom h n → Nearer (stateOf (memAt h n)) d (responseAt h n) (stateOf (memAt h (suc n)))
 unfolding callOf acceptedAt
-nearer-at h n d tray l e b t =
+nearer-at h n d tray l e b t k =
     let s = stateOf (memAt h n) in
     let u = stateOf (memAt h (suc n)) in
     let o : Transition s (callOf (shapeAt h) (step d tray)) (responseAt h n) u = subst (λ c. Transition s (callOf (shapeAt h) c) (responseAt h n) u) e (transition-at h n l) in
-    let a : isAccepted (machine.number (responseAt h n)) ≡ true = ap isAccepted (number-at h n) ∙ steps-go h n d tray l e b t in
+    let a : isAccepted (machine.number (responseAt h n)) ≡ true = ap isAccepted (number-at h n) ∙ steps-go h n d tray l e b t k in
     transition-nearer s (lasting-at h n (omega arith) .inv) o (not-true (isRefused (responseAt h n)) (sym (transition-accepted s o) ∙ a))
 
 -- it ends what is under way there where the machine says so
@@ -104,9 +106,9 @@ step-ends : (h : History) (n d : ℕ) (tray : List ℕ) → callAt h n ≡ step 
 unfolding endsAt responseAt responseOf
 step-ends h n d tray e = rw (e, eq-eqb d d refl) (sym (work-ends _ _ (resultAt h n .tray) (resultAt h n .out)))
 
--- the next calls are steps of desk d, so many of them
+-- the next calls are steps of desk d, so many of them, to which 15 does not apply
 abbrev NextSteps : History → ℕ → ℕ → ℕ → Type 0
-NextSteps h n d most = (i : ℕ) → i < most → (tray : List ℕ) × (callAt h (n + i) ≡ step d tray) × (trayLeast ≤ length tray)
+NextSteps h n d most = (i : ℕ) → i < most → (tray : List ℕ) × (callAt h (n + i) ≡ step d tray) × (trayLeast ≤ length tray) × HasRoom h (n + i)
 
 module _ (h : History) (n d most : ℕ) (within : n + most ≤ length (h .calls)) (below : d < maxClients) (next : NextSteps h n d most) where
   idle-after : (i : ℕ) → i < most → rests (stateOf (memAt h (suc (n + i))) .clients d) ≡ isIdle narrow (client (memAt h (suc (n + i))) d)
@@ -117,7 +119,7 @@ module _ (h : History) (n d most : ℕ) (within : n + most ≤ length (h .calls)
       let a = some-to-go (memAt h (n + i)) (lasting-at h (n + i) (omega arith) .fits) d below b in absurd (omega arith)
   ends-from (suc fuel) i l b g =
       let t = next i (omega arith) in
-      let k = nearer-at h (n + i) d (t .0) (omega arith) (t .1) (record { below = below; busy = b }) (t .2) in
+      let k = nearer-at h (n + i) d (t .0) (omega arith) (t .1) (record { below = below; busy = b }) (t .2) (t .3) in
       let f = k .fewer in
       let z : n + suc i ≡ suc (n + i) = omega arith in
       let e : endsAt d (callAt h (n + i)) (resultAt h (n + i) .out) ≡ isIdle narrow (client (memAt h (suc (n + i))) d) =
@@ -133,18 +135,30 @@ module _ (h : History) (n d : ℕ) (trays : List (List ℕ)) (l : n ≤ length (
 
   on-length : length (steppedOn h n d trays .calls) ≡ n + length trays
   unfolding steppedOn
-  on-length = length-append (take n (h .calls)) (map (step d) trays) ∙ rw (first-calls, length-map trays (step d)) refl
+  on-length =
+      length-append (take n (h .calls)) (unlent (map (step d) trays))
+      ∙ rw (first-calls, length-map (map (step d) trays) (λ c. made c none), length-map trays (step d)) refl
 
   on-mem : memAt (steppedOn h n d trays) n ≡ memAt h n
   unfolding steppedOn memAt
-  on-mem = ap (memAfter (opened narrow (shapeAt h) (h .lent))) (take-at (take n (h .calls)) (map (step d) trays) n first-calls)
+  on-mem = ap (memAfter (opened narrow (shapeAt h) (h .lent))) (take-at (take n (h .calls)) (unlent (map (step d) trays)) n first-calls)
+
+  on-made : (i : ℕ) → i < length trays → madeAt (steppedOn h n d trays) (n + i) ≡ made (step d (getD trays i [])) none
+  unfolding steppedOn madeAt
+  on-made i k =
+      let cs = map (step d) trays in
+      let few = length-map trays (step d) in
+      let a : getD (take n (h .calls) ++ unlent cs) (n + i) (made renew none) ≡ getD (unlent cs) i (made renew none) =
+      rw first-calls at (getD-append-add (take n (h .calls)) (unlent cs) i (made renew none)) in
+      a ∙ getD-map (λ c. made c none) cs i (made renew none) renew (omega arith) ∙ ap (λ c. made c none) (getD-map (step d) trays i renew [] k)
 
   on-call : (i : ℕ) → i < length trays → callAt (steppedOn h n d trays) (n + i) ≡ step d (getD trays i [])
-  unfolding steppedOn callAt
-  on-call i k =
-      let a : getD (take n (h .calls) ++ map (step d) trays) (n + i) renew ≡ getD (map (step d) trays) i renew =
-      rw first-calls at (getD-append-add (take n (h .calls)) (map (step d) trays) i renew) in
-      a ∙ getD-map (step d) trays i renew [] k
+  unfolding callAt
+  on-call i k = ap (λ (x : Made). x .call) (on-made i k)
+
+  on-room : (i : ℕ) → i < length trays → HasRoom (steppedOn h n d trays) (n + i)
+  unfolding isTallyFull isFullFor
+  on-room i k = rw (on-made i k) refl
 
 -- a busy desk with so many steps to go at the most
 ends-in : (h : History) (n d most : ℕ) (trays : List (List ℕ)) → n ≤ length (h .calls) → IsBusy (memAt h n) d → Roomy trays
@@ -153,7 +167,7 @@ ends-in h n d most trays l b roomy go few =
     let t = steppedOn h n d trays in
     let c = on-length h n d trays l in
     let e : memAt t (n + 0) ≡ memAt h n = (let z : n + 0 ≡ n = omega arith in rw z (on-mem h n d trays l)) in
-    ends-from t n d most (omega arith) (b .below) (λ i k. (getD trays i [], on-call h n d trays l i (omega arith), roomy i (omega arith))) most 0 (omega arith)
+    ends-from t n d most (omega arith) (b .below) (λ i k. (getD trays i [], on-call h n d trays l i (omega arith), roomy i (omega arith), on-room h n d trays l i (omega arith))) most 0 (omega arith)
     (rw e (b .busy)) (rw e go)
 
 busy-ends : (h : History) → BusyEnds h

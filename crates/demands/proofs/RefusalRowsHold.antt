@@ -1,5 +1,5 @@
--- The number that a call returns is that of the first row of its refusals that applies, which is the smallest that applies, but for 14; where
--- none does it is 0, 12 or 13. 14 is given to a begin of a read with a reversed range, and to no other call; 7 to none. Leans on rules' definitions and
+-- The number that a call without a tally returns is that of the first row of its refusals that applies, which is the smallest that applies, but for
+-- 14; where none does it is 0, 12 or 13. 14 is given to a begin of a read with a reversed range, and to no other call; 7 and 15 to none. Leans on rules' definitions and
 -- laws, on refinement's RefusedCalls and on NodeFaults for 3 at a node. Assumes nothing.
 use mathlib.Core.Path.{_≡_, refl, sym, ap, _∙_}
 use mathlib.Core.Bool.{Bool, true, false, cond, not, _&&_, _||_, and-false}
@@ -17,7 +17,7 @@ use Rattle.laws.proofs.ListLaws.{and-left, and-right}
 use Rattle.query.specs.Encoding.{isQuery, namesAll, queryOf}
 use Rattle.query.specs.Range.{isRange, isReversed}
 use Rattle.query.specs.Shape.{Shape, narrow, maxColumns}
-use Rattle.rules.specs.Layout.{trayLeast, reads, notGiven, refusedColumns, refusedReversed}
+use Rattle.rules.specs.Layout.{trayLeast, reads, notGiven, refusedColumns, refusedReversed, refusedTallyFull}
 use Rattle.rules.specs.Work.{Ask, Value, readLabels, mayAnswer, Write, writeLabels, Work, asking, writing, Request, readOf, insertOf, deleteOf, isWrite, askFault, askOf, faultOf, writeIn, workIn}
 use Rattle.rules.specs.Table.{target}
 use Rattle.rules.specs.Nodes.{Words, Store, isWorn}
@@ -38,20 +38,20 @@ use Rattle.demands.specs.RefusalRows.{Row, firstOf, someApplies, isThere
 use Rattle.demands.specs.RefusalRows.{openRows, beginRows, stepRows, endRows, abandonRows, abandonEndRows, evictAnswerRows, evictNodeRows, renewRows, rowsOf, endsOf, Gives, RefusalRows, Smallest, SmallestGiven, hasReversed, IsReversedBegin, OnlyReversed, GivenNoLonger}
 
 -- ---- The first of two lists of rows
-first-refused : (a b : List Row) → someApplies a ≡ true → firstOf (a ++ b) ≡ firstOf a
+pub first-refused : (a b : List Row) → someApplies a ≡ true → firstOf (a ++ b) ≡ firstOf a
 unfolding firstOf someApplies
 first-refused [] b e = clash e refl
 first-refused (r ∷ a) b e =
     byTest (r .applies) (λ t. rw t) (λ t. rw t (first-refused a b (rw t at e)))
 
-first-accepted : (a b : List Row) → someApplies a ≡ false → firstOf (a ++ b) ≡ firstOf b
+pub first-accepted : (a b : List Row) → someApplies a ≡ false → firstOf (a ++ b) ≡ firstOf b
 unfolding firstOf someApplies
 first-accepted [] b e = refl
 first-accepted (r ∷ a) b e = let o = or-false (r .applies) (someApplies a) e in rw (o .0) (first-accepted a b (o .1))
 
 -- ---- The smallest
 -- a number k that may apply where n is given: none smaller, and above 2 where 14 is
-abbrev NoLess : ℕ → ℕ → Type 0
+abbrev pub NoLess : ℕ → ℕ → Type 0
 NoLess n k = (n ≤ k) ⊎ ((n ≡ refusedReversed) × (refusedColumns < k))
 
 abbrev noLess : ℕ → ℕ → Bool
@@ -64,12 +64,12 @@ no-less n k e = byTest (leb n k)
     inr (eqb-true n refusedReversed (and-left (eqb n refusedReversed) _ z), ltb-true refusedColumns k (and-right (eqb n refusedReversed) _ z)))
 
 -- so is the number of every row that applies
-data Above (n : ℕ) : List Row → Type 0 where
+pub data Above (n : ℕ) : List Row → Type 0 where
   end : Above n []
   more : {r : Row} {rs : List Row} → (r .applies ≡ true → NoLess n (r .number)) → Above n rs → Above n (r ∷ rs)
 
 -- of two rows that apply the later may where the earlier is given
-data Rising : List Row → Type 0 where
+pub data Rising : List Row → Type 0 where
   done : Rising []
   rise : {r : Row} {rs : List Row} → (r .applies ≡ true → Above (r .number) rs) → Rising rs → Rising (r ∷ rs)
 
@@ -122,8 +122,8 @@ gives a b n e g k = record {
       (λ t. rw (t, e, first-accepted a b t) k);
 }
 
-smallest : (rs : List Row) (n : ℕ) → n ≡ firstOf rs → Rising rs → Smallest rs n
-smallest rs n e h r i a = rw e (first-least h r i a)
+pub smallest : (rs : List Row) (n : ℕ) → n ≡ firstOf rs → Rising rs → Smallest rs n
+smallest rs n e h r i a = rw e (elim (first-least h r i a) [ inl l ↦ inl l | inr l ↦ inr (inl l) ])
 
 -- ---- Calls whose code is what they return
 unless-number : (code : ℕ) (m : Mem) (x : Result) → number (x .out) ≡ 0 → number (unless code m x .out) ≡ code
@@ -135,11 +135,11 @@ unfolding isAccepted firstOf
 none-zero = refl
 
 -- ---- Opening
-open-first : (m : Mem) (k : ℕ) → number (openResult m k .out) ≡ firstOf (openRows m k)
+pub open-first : (m : Mem) (k : ℕ) → number (openResult m k .out) ≡ firstOf (openRows m k)
 unfolding openResult openCode openRows firstOf number
 open-first m k = unless-number (openCode m k) m _ refl
 
-open-rising : (m : Mem) (k : ℕ) → Rising (openRows m k)
+pub open-rising : (m : Mem) (k : ℕ) → Rising (openRows m k)
 unfolding openRows numbersFrom
 open-rising m k = rise (λ e. from _ _ refl) (rise (λ e. from _ _ refl) done)
 
@@ -446,7 +446,7 @@ call-gives m (evictAnswer i) = evict-answer-gives m i
 call-gives m (evictNode i) = evict-node-gives m i
 call-gives m renew = renew-gives m
 
-call-first : (m : Mem) (c : Call) → number (callResult m c .out) ≡ firstOf (rowsOf m c ++ endsOf m c)
+pub call-first : (m : Mem) (c : Call) → number (callResult m c .out) ≡ firstOf (rowsOf m c ++ endsOf m c)
 call-first m c = call-gives m c .first
 
 call-rising : (m : Mem) (c : Call) → Rising (rowsOf m c ++ endsOf m c)
@@ -463,7 +463,7 @@ call-smallest m c = smallest _ _ (call-first m c) (call-rising m c)
 
 -- ---- 14 is a begin's, and 7 no call's
 -- no row of a list has the number n
-others : ℕ → List Row → Bool
+unfoldable pub others : ℕ → List Row → Bool
 others n [] = true
 others n (r ∷ rs) = not (eqb (r .number) n) && others n rs
 
@@ -477,10 +477,10 @@ first-other k (r ∷ rs) n z e h i =
 
 -- a number that no row of an opening has, and none of a call but a begin's
 module _ (k : ℕ) (z : k ≡ 0 → ⊥) where
-  open-other : (m : Mem) (c : ℕ) → others k (openRows m c) ≡ true → number (openResult m c .out) ≡ k → ⊥
+  pub open-other : (m : Mem) (c : ℕ) → others k (openRows m c) ≡ true → number (openResult m c .out) ≡ k → ⊥
   open-other m c = first-other k (openRows m c) _ z (open-first m c)
 
-  call-other : (m : Mem) (c : Call) → others k (rowsOf m c ++ endsOf m c) ≡ true → number (callResult m c .out) ≡ k → ⊥
+  pub call-other : (m : Mem) (c : Call) → others k (rowsOf m c ++ endsOf m c) ≡ true → number (callResult m c .out) ≡ k → ⊥
   call-other m c = first-other k (rowsOf m c ++ endsOf m c) _ z (call-first m c)
 
 -- what turns a request down with 14 for itself
@@ -503,7 +503,7 @@ begin-reversed m d r e =
     (begin-code (λ n. n ≡ refusedReversed → faultOf (shape m) r ≡ refusedReversed) (λ n l k. absurd (omega arith)) m d r (λ k. k)
     (sym (unless-number (beginCode m d r) m _ refl) ∙ e))
 
-call-reversed : (m : Mem) (c : Call) → number (callResult m c .out) ≡ refusedReversed → IsReversedBegin c
+pub call-reversed : (m : Mem) (c : Call) → number (callResult m c .out) ≡ refusedReversed → IsReversedBegin c
 unfolding rowsOf endsOf stepRows endRows abandonRows abandonEndRows evictAnswerRows evictNodeRows renewRows others
 call-reversed m (begin d r) = λ e. begin-reversed m d r (unfold callResult in unfold untrayed in e)
 call-reversed m (step d tray) = call-other refusedReversed (λ e. omega arith) m (step d tray) refl
@@ -512,11 +512,7 @@ call-reversed m (evictAnswer i) = call-other refusedReversed (λ e. omega arith)
 call-reversed m (evictNode i) = call-other refusedReversed (λ e. omega arith) m (evictNode i) refl
 call-reversed m renew = call-other refusedReversed (λ e. omega arith) m renew refl
 
-pub only-reversed : OnlyReversed
-unfolding openRows others
-only-reversed = record { opening = λ m k. open-other refusedReversed (λ e. omega arith) m k refl; calls = call-reversed }
-
-call-never : (m : Mem) (c : Call) → others notGiven (rowsOf m c ++ endsOf m c) ≡ true
+pub call-never : (m : Mem) (c : Call) → others notGiven (rowsOf m c ++ endsOf m c) ≡ true
 unfolding rowsOf endsOf beginRows stepRows endRows abandonRows abandonEndRows evictAnswerRows evictNodeRows renewRows others
 call-never m (begin d r) = refl
 call-never m (step d tray) = refl
@@ -525,15 +521,11 @@ call-never m (evictAnswer i) = refl
 call-never m (evictNode i) = refl
 call-never m renew = refl
 
-pub given-no-longer : GivenNoLonger
-unfolding openRows others
-given-no-longer = record {
-  opening = λ m k. open-other notGiven (λ e. omega arith) m k refl;
-  calls = λ m c. call-other notGiven (λ e. omega arith) m c (call-never m c);
-}
-
-pub refusal-rows : RefusalRows
-refusal-rows = record { opening = open-gives; calls = call-gives }
-
-pub smallest-given : SmallestGiven
-smallest-given = record { opening = λ m k. smallest _ _ (open-first m k) (open-rising m k); calls = call-smallest }
+pub call-unfull : (m : Mem) (c : Call) → others refusedTallyFull (rowsOf m c ++ endsOf m c) ≡ true
+unfolding rowsOf endsOf beginRows stepRows endRows abandonRows abandonEndRows evictAnswerRows evictNodeRows renewRows others
+call-unfull m (begin d r) = refl
+call-unfull m (step d tray) = refl
+call-unfull m (abandon d) = refl
+call-unfull m (evictAnswer i) = refl
+call-unfull m (evictNode i) = refl
+call-unfull m renew = refl

@@ -47,7 +47,7 @@ use Rattle.refinement.proofs.PhaseSteps.{noted-count}
 use Rattle.refinement.proofs.StepFrame.{busy-at, client-at}
 use Rattle.demands.specs.WholeHistory.{History, shapeAt, memAt, callAt, resultAt, acceptedAt, isStepAt, UnderWay, stepsIn, StepOf, AbandonOf}
 use Rattle.demands.specs.Demand2Whole.{ReadsTell}
-use Rattle.demands.proofs.HistoryRuns.{responseAt, logTo, sound, transition-at}
+use Rattle.demands.proofs.HistoryRuns.{responseAt, logTo, sound, transition-at, room-taken, call-result, room-accepted}
 use Rattle.demands.proofs.LogPlaces.{accepted-at, steps-log, under-places, stepped-at}
 use Rattle.demands.proofs.Works.{Since, work-since, one-work, goes-on, not-begun}
 use Rattle.demands.proofs.NodeChanges.{none-some}
@@ -210,7 +210,7 @@ standing h r d b n i s =
       low = k .low;
       busy = k .busy;
       made = k .made;
-      takes = step-taken (shape (memAt h n)) _ (memAt h n) (s .tray) d (ap isRefused (sym (step-reply h n d (s .tray) (s .calls))) ∙ taken);
+      takes = step-taken (shape (memAt h n)) _ (memAt h n) (s .tray) d (ap isRefused (sym (step-reply h n d (s .tray) (room-taken h n taken) (s .calls))) ∙ taken);
     }
 
 -- ---- What the step does, by the rules
@@ -218,16 +218,16 @@ pub progressed : (m : Mem) (tray : List ℕ) (d : ℕ) (x : Work) (i : ℕ) → 
 unfolding stepResult progress
 progressed m tray d x i s = rw (eq-eqb (stepCode m tray d) 0 (s .takes), s .busy .work) refl
 
-step-result : (h : History) (n d : ℕ) (tray : List ℕ) → callAt h n ≡ rules.step d tray → resultAt h n ≡ stepResult (memAt h n) tray d
-unfolding resultAt callResult
-step-result h n d tray e = ap (callResult (memAt h n)) e
+step-result : (h : History) (n d : ℕ) (tray : List ℕ) → acceptedAt h n ≡ true → callAt h n ≡ rules.step d tray → resultAt h n ≡ stepResult (memAt h n) tray d
+unfolding callResult
+step-result h n d tray a e = call-result h n (rules.step d tray) (room-accepted h n a) e
 
 pub read-at : (h : History) (counts : Bool) (range : Range) (a : List ℕ) (d b n i : ℕ) (s : StepOf h (readOf counts range a) d b n i)
     → resultAt h n ≡ readResult (memAt h n) (s .tray) d (askOf (shapeAt h) counts range a) i
 unfolding progressOf workOf
 read-at h counts range a d b n i s =
     let z = standing h (readOf counts range a) d b n i s in
-    step-result h n d (s .tray) (s .calls) ∙ progressed (memAt h n) (s .tray) d (asking (askOf (shapeAt h) counts range a)) i z
+    step-result h n d (s .tray) (s .accepted) (s .calls) ∙ progressed (memAt h n) (s .tray) d (asking (askOf (shapeAt h) counts range a)) i z
     ∙ ap (readResult (memAt h n) (s .tray) d (askOf (shapeAt h) counts range a)) (z .made)
 
 pub write-at : (h : History) (r : Request) (w : Write) (d b n i : ℕ) → workOf (shapeAt h) r ≡ writing w → (s : StepOf h r d b n i)
@@ -235,7 +235,7 @@ pub write-at : (h : History) (r : Request) (w : Write) (d b n i : ℕ) → workO
 unfolding progressOf
 write-at h r w d b n i e s =
     let z = standing h r d b n i s in
-    step-result h n d (s .tray) (s .calls) ∙ progressed (memAt h n) (s .tray) d (workOf (shapeAt h) r) i z
+    step-result h n d (s .tray) (s .accepted) (s .calls) ∙ progressed (memAt h n) (s .tray) d (workOf (shapeAt h) r) i z
     ∙ ap (progressOf (memAt h n) (s .tray) d) e
     ∙ ap (writeResult (memAt h n) (s .tray) d w) (z .made)
 

@@ -54,7 +54,7 @@ use Rattle.demands.proofs.TableOrdered.{demand-2-ascending, good-table}
 use Rattle.demands.proofs.NodeChanges.{looked}
 use Rattle.demands.proofs.NotesKept.{notesIn, Longer, notes-since}
 use Rattle.demands.proofs.StepsMade.{standing, read-at, step-before, since-step, next-step, keeps-since, phase-since, no-twice, not-refused, nodes-after, client-after, client-now, few-nodes}
-use Rattle.demands.specs.Demand1.{trayOf}
+use Rattle.rules.specs.History.{trayOf}
 use Rattle.rules.proofs.ClientLaws.{asked-counts}
 
 -- ---- The reader

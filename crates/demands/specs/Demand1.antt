@@ -1,21 +1,24 @@
--- Demand 1, about the definitions that the calls' contracts cite: what any call, the opening too, does to memories of any contents with any
--- arguments. Leans on rules' Calls and History. Definitions only. Assumes nothing.
+-- Demand 1, about the definitions that the calls' contracts cite: what any call, the opening too, lent a tally or none, does to memories of
+-- any contents with any arguments. Leans on rules' Calls, History and Tally. Definitions only. Assumes nothing.
 use mathlib.Core.Path.{_≡_}
 use mathlib.Core.Logic.{_⊎_}
 use mathlib.Core.Bool.{true, false}
 use mathlib.Core.List.{List, []}
+use mathlib.Core.Option.{Option, some}
 use Prim.Native.Nat.{ℕ, _≤_}
 use lib.ListN.{length, drop}
 use Rattle.query.specs.Shape.{Form, narrow, Shape, shapeOf}
 use Rattle.rules.specs.declared.Outcome.the-variants.{Refused}
-use Rattle.rules.specs.Layout.{tableLeast, nodesLeast, answersLeast, clientsLeast, trayLeast, refusedShort, refusedOccupied, refusedReversed}
+use Rattle.rules.specs.Layout.{tableLeast, nodesLeast, answersLeast, clientsLeast, trayLeast, refusedShort, refusedOccupied, refusedReversed, refusedTallyFull}
 use Rattle.rules.specs.Memory.{Mem}
 use Rattle.rules.specs.Outcome.{StepResult, number}
 use Rattle.rules.specs.Answers.{isCount}
 use Rattle.rules.specs.Client.{entryOf}
 use Rattle.rules.specs.Refusals.{form, shape, client}
 use Rattle.rules.specs.Calls.{openResult}
-use Rattle.rules.specs.History.{Call, begin, step, abandon, evictAnswer, evictNode, renew, untrayed, callResult, isAccepted}
+use Rattle.rules.specs.declared.Tally.{Tally}
+use Rattle.rules.specs.History.{Call, step, trayOf, untrayed, isAccepted}
+use Rattle.rules.specs.Tally.{Made, made, madeResult, tallyAfter}
 
 -- "past the stated length it is unaltered": after is what a call has left of a memory, or of the tray, whose least length this is
 pub record Unaltered (least : ℕ) (before after : List ℕ) : Type 0 where
@@ -31,25 +34,18 @@ pub record Leaves (f : Form) (sh : Shape) (m : Mem) (lent : List ℕ) (x : StepR
   pub answers : Unaltered (answersLeast f sh) (m .answers) (x .mem .answers)
   pub clients : Unaltered (clientsLeast f sh) (m .clients) (x .mem .clients)
   pub tray : Unaltered trayLeast lent (x .tray)
-  -- "Refusals 1 to 11 alter nothing", and "any number that a later request adds to a call" (14, S-3): a call that is not accepted ("A call is
+  -- "Refusals 1 to 11 alter nothing", and "any number that a later request adds to a call" (14, S-3; 15, S-7): a call that is not accepted ("A call is
   -- accepted if it returns 0, 12 or 13.") leaves all as it was
   pub refused : isAccepted (number (x .out)) ≡ false → (x .mem ≡ m) × (x .tray ≡ lent)
-  -- and what a call is refused with is 1 to 11, of which 7 "is given no longer" (S-4; RefusalRows, `GivenNoLonger`), or 14
-  pub numbers : (n : ℕ) → x .out ≡ Refused n → ((refusedShort ≤ n) × (n ≤ refusedOccupied)) ⊎ (n ≡ refusedReversed)
+  -- and what a call is refused with is 1 to 11, of which 7 "is given no longer" (S-4; RefusalRows, `GivenNoLonger`), 14 or 15
+  pub numbers : (n : ℕ) → x .out ≡ Refused n → ((refusedShort ≤ n) × (n ≤ refusedOccupied)) ⊎ ((n ≡ refusedReversed) ⊎ (n ≡ refusedTallyFull))
 
--- "tray | for a step only": the tray that a call is lent
-unfoldable pub trayOf : Call → List ℕ
-trayOf (begin d r) = []
-trayOf (step d tray) = tray
-trayOf (abandon d) = []
-trayOf (evictAnswer i) = []
-trayOf (evictNode i) = []
-trayOf renew = []
-
--- "with any contents and any arguments", "no call trusts its caller": any memories, any arguments, every call. The opening goes by the shape
--- that it is asked for, every other call by the form and shape that the desks memory tells.
+-- "with any contents and any arguments", "no call trusts its caller": any memories, any arguments, every call, with any tally or without. The
+-- opening goes by the shape that it is asked for, every other call by the form and shape that the desks memory tells.
 pub record Demand1 : Type 0 where
   pub opening : (m : Mem) (k : ℕ) → Leaves narrow (shapeOf k) m [] (untrayed (openResult m k))
-  pub calls : (m : Mem) (c : Call) → Leaves (form m) (shape m) m (trayOf c) (callResult m c)
+  pub calls : (m : Mem) (x : Made) → Leaves (form m) (shape m) m (trayOf (x .call)) (madeResult m x)
+  -- "15 .., altering nothing" (S-7), nor does any other refusal alter the tally
+  pub tallies : (m : Mem) (c : Call) (t : Tally) → isAccepted (number (madeResult m (made c (some t)) .out)) ≡ false → tallyAfter m c t ≡ t
   -- S-1: "The tray of a count is untouched": at every step of a desk whose key says "count", the one that answers too
-  pub counts : (m : Mem) (tray : List ℕ) (d : ℕ) → isCount (entryOf (client m d)) ≡ true → callResult m (step d tray) .tray ≡ tray
+  pub counts : (m : Mem) (tray : List ℕ) (d : ℕ) (t : Option Tally) → isCount (entryOf (client m d)) ≡ true → madeResult m (made (step d tray) t) .tray ≡ tray

@@ -1,5 +1,5 @@
 -- No call of a history finds the memories unsound, every read and write can go on to its end, and every busy desk can be abandoned. Leans on
--- WholeHistory. Definitions only. Assumes nothing.
+-- WholeHistory and rules' Tally. Definitions only. Assumes nothing.
 use mathlib.Core.Path.{_≡_}
 use mathlib.Core.Bool.{true, false}
 use mathlib.Core.List.{List, [], _++_, map}
@@ -12,7 +12,8 @@ use Rattle.rules.specs.Memory.{Mem}
 use Rattle.rules.specs.Outcome.{number}
 use Rattle.rules.specs.Refusals.{form, shape, client}
 use Rattle.rules.specs.History.{step, abandon}
-use Rattle.demands.specs.WholeHistory.{History, shapeAt, memAt, callAt, resultAt, acceptedAt, endsAt, UnderWay, stepsIn}
+use Rattle.rules.specs.Tally.{unlent}
+use Rattle.demands.specs.WholeHistory.{History, shapeAt, memAt, callAt, resultAt, acceptedAt, HasRoom, endsAt, UnderWay, stepsIn}
 
 -- ---- Never 3
 -- "3 | unsound | at any call but opening: k, an entry count or a filed list's length in memory out of range; the called desk is not idle
@@ -28,21 +29,22 @@ pub record IsBusy (m : Mem) (d : ℕ) : Type 0 where
   pub below : d < maxClients
   pub busy : isIdle (form m) (client m d) ≡ false
 
--- "tray | 128": a step of a busy desk is accepted if its tray has this length at least. "A call is accepted if it returns 0, 12 or 13."
+-- "tray | 128": a step of a busy desk is accepted if its tray has this length at least and 15 does not apply (S-7). Lent no tally, it never does;
+-- a full count can hold a read or a write until another tally is lent, or none. "A call is accepted if it returns 0, 12 or 13."
 abbrev pub StepsGo : History → Type 0
 StepsGo h = (n d : ℕ) (tray : List ℕ) → n < length (h .calls) → callAt h n ≡ step d tray → IsBusy (memAt h n) d → trayLeast ≤ length tray
-    → acceptedAt h n ≡ true
+    → HasRoom h n → acceptedAt h n ≡ true
 
 -- ---- Every busy desk can be abandoned
--- an abandoning of a busy desk is accepted, and leaves it idle: "7 is given no longer" (S-4)
+-- an abandoning of a busy desk to which 15 does not apply (S-7) is accepted, and leaves it idle: "7 is given no longer" (S-4)
 abbrev pub AbandonsGo : History → Type 0
-AbandonsGo h = (n d : ℕ) → n < length (h .calls) → callAt h n ≡ abandon d → IsBusy (memAt h n) d
+AbandonsGo h = (n d : ℕ) → n < length (h .calls) → callAt h n ≡ abandon d → IsBusy (memAt h n) d → HasRoom h n
     → (acceptedAt h n ≡ true) × (isIdle (form (memAt h (suc n))) (client (memAt h (suc n)) d) ≡ true)
 
 -- ---- Every read and write can go on to its end
--- the history of the first n calls of h and, as its next calls, one step at desk d with each of these trays
+-- the history of the first n calls of h and, as its next calls, one step at desk d with each of these trays, lent no tally
 unfoldable pub steppedOn : History → ℕ → ℕ → List (List ℕ) → History
-steppedOn h n d trays = record { lent = h .lent; k = h .k; accepted = h .accepted; calls = take n (h .calls) ++ map (step d) trays }
+steppedOn h n d trays = record { lent = h .lent; k = h .k; accepted = h .accepted; calls = take n (h .calls) ++ unlent (map (step d) trays) }
 
 -- each is as long as a tray must be at least
 abbrev pub Roomy : List (List ℕ) → Type 0
@@ -63,7 +65,7 @@ UnderWayBusy h = (r : Request) (d b n : ℕ) → n ≤ length (h .calls) → Und
 abbrev pub stepsLeft : History → Request → ℕ → ℕ → ℕ → ℕ
 stepsLeft h r d b n = stepsInAll (workOf (shapeAt h) r) - stepsIn h d b n
 
--- a read or write that is under way after n calls comes to its end by steps of its desk alone, whatever roomy trays these are lent, and by
+-- a read or write that is under way after n calls comes to its end by steps of its desk alone that are lent no tally, whatever roomy trays they have, and by
 -- no more of them than it has left
 abbrev pub WorkEnds : History → Type 0
 WorkEnds h = (r : Request) (d b n : ℕ) (trays : List (List ℕ)) → n ≤ length (h .calls) → UnderWay h r d b n

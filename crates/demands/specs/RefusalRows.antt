@@ -1,8 +1,8 @@
 -- Document 01, "What the controller turns down", as rows: of each call its refusals in their order, and the number that it returns. About any
--- memories and any arguments. Leans on rules' Refusals, Nodes, Client and Work for the conditions, on Calls and History for what a call returns.
--- Definitions only. Assumes nothing.
+-- memories and any arguments. Leans on rules' Refusals, Nodes, Client and Work for the conditions, on Calls, History and
+-- Tally for what a call returns. Definitions only. Assumes nothing.
 use mathlib.Core.Path.{_≡_}
-use mathlib.Core.Logic.{_⊎_}
+use mathlib.Core.Logic.{_⊎_, _↔_}
 use mathlib.Core.Bool.{Bool, true, false, cond, not, _&&_, _||_}
 use mathlib.Core.List.{List, [], _∷_, _++_}
 use Prim.Native.Nat.{ℕ, _+_, _-_, _≤_, _<_}
@@ -12,7 +12,7 @@ use Rattle.lists.specs.Lists.{In}
 use Rattle.query.specs.Range.{isReversed}
 use Rattle.query.specs.Shape.{Form, narrow, shapeOf}
 use Rattle.rules.specs.Layout.{maxNodes, maxPending, maxRevision, trayLeast, nodeCountOffset, answerCountOffset, refusedShort, refusedColumns, refusedUnsound, refusedNoClient}
-use Rattle.rules.specs.Layout.{refusedTaken, refusedIdle, notGiven, refusedNoEntry, refusedPending, refusedWorn, refusedOccupied, refusedReversed, endedLong, endedFull}
+use Rattle.rules.specs.Layout.{refusedTaken, refusedIdle, notGiven, refusedNoEntry, refusedPending, refusedWorn, refusedOccupied, refusedReversed, refusedTallyFull, endedLong, endedFull}
 use Rattle.rules.specs.Work.{readLabels, valueOf, mayAnswer, writeLabels, Work, asking, writing, Request, readOf, insertOf, deleteOf, isWrite, faultOf}
 use Rattle.rules.specs.Nodes.{Words, Node, Store, pending, revision, isPresent, nodeOf, isFree, isWorn}
 use Rattle.rules.specs.Client.{Client, steps, didChange, foundFull, isIdle, isBad, workAt}
@@ -20,7 +20,8 @@ use Rattle.rules.specs.Memory.{Mem, recordsIn, storeIn}
 use Rattle.rules.specs.Outcome.{number}
 use Rattle.rules.specs.Refusals.{form, shape, columns, client, isShort, badColumns, isUnsound, noClient, allIdle}
 use Rattle.rules.specs.Calls.{openResult, pastTable, announcedLabels, labelsLeft}
-use Rattle.rules.specs.History.{Call, begin, step, abandon, evictAnswer, evictNode, renew, callResult, isAccepted}
+use Rattle.rules.specs.History.{Call, begin, step, abandon, evictAnswer, evictNode, renew, isAccepted}
+use Rattle.rules.specs.Tally.{Made, isTallyFull, madeResult}
 
 -- ---- Rows
 -- "no. | word | met when": a number, and whether its condition is met
@@ -238,6 +239,11 @@ rowsOf m (evictAnswer i) = evictAnswerRows m i
 rowsOf m (evictNode i) = evictNodeRows m i
 rowsOf m renew = renewRows m
 
+-- of a call that is lent a tally, or none: "15 tally full, given where the call would raise a count that stands at 4,294,967,295, tested after 11"
+-- (S-7), and behind the 3 that a step or an abandoning finds at its nodes
+unfoldable pub madeRows : Mem → Made → List Row
+madeRows m x = rowsOf m (x .call) ++ (row refusedTallyFull (isTallyFull m x) ∷ [])
+
 -- 12 and 13: a step; and 13 an abandoning (S-4)
 unfoldable pub endsOf : Mem → Call → List Row
 endsOf m (begin d r) = []
@@ -257,12 +263,14 @@ pub record Gives (refusals ends : List Row) (n : ℕ) : Type 0 where
 
 pub record RefusalRows : Type 0 where
   pub opening : (m : Mem) (k : ℕ) → Gives (openRows m k) [] (number (openResult m k .out))
-  pub calls : (m : Mem) (c : Call) → Gives (rowsOf m c) (endsOf m c) (number (callResult m c .out))
+  pub calls : (m : Mem) (x : Made) → Gives (madeRows m x) (endsOf m (x .call)) (number (madeResult m x .out))
 
 -- "The smallest number that applies is given": the order of the rows is never against it, though 3 stands behind 4 and 6 too; but for
--- "14 .., tested right after 2" (S-3), which goes before 3, 4 and 5: where 14 is given, what applies besides is above 2
+-- "14 .., tested right after 2" (S-3), which goes before 3, 4 and 5: where 14 is given, what applies besides is above 2; and for "15 .., tested
+-- after 11" (S-7), which goes before 12 and 13: where 15 is given, what applies besides is above 11
 abbrev pub Smallest : List Row → ℕ → Type 0
-Smallest rows n = (r : Row) → In r rows → r .applies ≡ true → (n ≤ r .number) ⊎ ((n ≡ refusedReversed) × (refusedColumns < r .number))
+Smallest rows n = (r : Row) → In r rows → r .applies ≡ true
+    → (n ≤ r .number) ⊎ (((n ≡ refusedReversed) × (refusedColumns < r .number)) ⊎ ((n ≡ refusedTallyFull) × (refusedOccupied < r .number)))
 
 -- 14 is given to a begin of a read whose range is reversed, and to no other call
 abbrev pub IsReversedBegin : Call → Type 0
@@ -275,13 +283,18 @@ IsReversedBegin renew = ⊥
 
 pub record OnlyReversed : Type 0 where
   pub opening : (m : Mem) (k : ℕ) → number (openResult m k .out) ≡ refusedReversed → ⊥
-  pub calls : (m : Mem) (c : Call) → number (callResult m c .out) ≡ refusedReversed → IsReversedBegin c
+  pub calls : (m : Mem) (x : Made) → number (madeResult m x .out) ≡ refusedReversed → IsReversedBegin (x .call)
+
+-- 15 is given exactly where the count that the call would raise stands at its largest in the tally that it is lent
+pub record OnlyTallyFull : Type 0 where
+  pub opening : (m : Mem) (k : ℕ) → number (openResult m k .out) ≡ refusedTallyFull → ⊥
+  pub calls : (m : Mem) (x : Made) → (number (madeResult m x .out) ≡ refusedTallyFull) ↔ (isTallyFull m x ≡ true)
 
 -- "7 is given no longer" (S-4), by any call
 pub record GivenNoLonger : Type 0 where
   pub opening : (m : Mem) (k : ℕ) → number (openResult m k .out) ≡ notGiven → ⊥
-  pub calls : (m : Mem) (c : Call) → number (callResult m c .out) ≡ notGiven → ⊥
+  pub calls : (m : Mem) (x : Made) → number (madeResult m x .out) ≡ notGiven → ⊥
 
 pub record SmallestGiven : Type 0 where
   pub opening : (m : Mem) (k : ℕ) → Smallest (openRows m k) (number (openResult m k .out))
-  pub calls : (m : Mem) (c : Call) → Smallest (rowsOf m c ++ endsOf m c) (number (callResult m c .out))
+  pub calls : (m : Mem) (x : Made) → Smallest (madeRows m x ++ endsOf m (x .call)) (number (madeResult m x .out))

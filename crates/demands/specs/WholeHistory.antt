@@ -1,8 +1,9 @@
 -- Document 01, "A history and the plain table", for the theorems: a whole history, its calls by number, and what is under way.
--- Leans on rules' History. Definitions only. Assumes nothing.
+-- Leans on rules' History and Tally. Definitions only. Assumes nothing.
 use mathlib.Core.Path.{_≡_}
 use mathlib.Core.Bool.{Bool, true, false, cond, _&&_}
 use mathlib.Core.List.{List}
+use mathlib.Core.Option.{none}
 use Prim.Native.Nat.{ℕ, zero, suc, _+_, _<_}
 use lib.Dec.{eqb, ltb}
 use lib.ListN.{length, getD, take}
@@ -11,16 +12,18 @@ use Rattle.rules.specs.declared.Outcome.the-variants.{Refused, Accepted, Answer
 use Rattle.rules.specs.Memory.{Mem, opened}
 use Rattle.rules.specs.Outcome.{StepResult, number}
 use Rattle.rules.specs.Refusals.{openCode}
-use Rattle.rules.specs.History.{Call, begin, step, abandon, evictAnswer, evictNode, renew, callResult, isAccepted, Plain, plainAtOpening, memAfter, plainAfter}
+use Rattle.rules.specs.History.{Call, begin, step, abandon, evictAnswer, evictNode, renew, isAccepted, Plain, plainAtOpening}
+use Rattle.rules.specs.Tally.{Made, made, isTallyFull, madeResult, memAfter, plainAfter}
 use Rattle.rules.specs.Work.{Request}
 use Rattle.query.specs.Shape.{Shape, shapeOf, narrow}
 
--- "A history is an accepted opening, with any k, and after it a list of calls, the empty one too"
+-- "A history is an accepted opening, with any k, and after it a list of calls, the empty one too"; a call may be lent a tally (S-7), any one each
+-- time
 pub record History : Type 0 where
   pub lent : Mem
   pub k : ℕ
   pub accepted : openCode lent k ≡ 0
-  pub calls : List Call
+  pub calls : List Made
 
 -- the shape that its opening makes
 abbrev pub shapeAt : History → Shape
@@ -34,14 +37,21 @@ unfoldable pub plainAt : History → ℕ → Plain
 plainAt h n = plainAfter (opened narrow (shapeAt h) (h .lent)) (plainAtOpening (shapeAt h)) (take n (h .calls))
 
 -- call n, and what it returned and left
+unfoldable pub madeAt : History → ℕ → Made
+madeAt h n = getD (h .calls) n (made renew none)
+
 unfoldable pub callAt : History → ℕ → Call
-callAt h n = getD (h .calls) n renew
+callAt h n = madeAt h n .call
 
 unfoldable pub resultAt : History → ℕ → StepResult
-resultAt h n = callResult (memAt h n) (callAt h n)
+resultAt h n = madeResult (memAt h n) (madeAt h n)
 
 unfoldable pub acceptedAt : History → ℕ → Bool
 acceptedAt h n = isAccepted (number (resultAt h n .out))
+
+-- 15 does not apply to it: it is lent no tally, or the count that it would raise does not stand at its largest
+abbrev pub HasRoom : History → ℕ → Type 0
+HasRoom h n = isTallyFull (memAt h n) (madeAt h n) ≡ false
 
 -- "one that answers, gives 12, reports the write's end"
 unfoldable pub endsWork : Outcome → Bool

@@ -1,1 +1,6 @@
+mod Lending
 mod ReplyLaws
+mod TalliedAbandon
+mod TalliedBegin
+mod TalliedStep
+mod TalliedWithin

@@ -1,6 +1,6 @@
 // The calls for programs in C and Rust: each of the twelve public calls over plain slices and numbers, under a name of its own. Nothing is decided
 // here: an export makes one call of the library and turns its outcome into three numbers. Leans on calls; specs/Reply.antt
-// says what is sent back.
+// says what is sent back. The calls that may be lent a tally stand in lent.rt.
 use hall::Hall;
 use rules::Outcome;
 ghost use mathlib.Core.Path.{_≡_};
@@ -11,10 +11,12 @@ ghost use Rattle.rules.specs.Memory.{mem};
 ghost use Rattle.rules.specs.Calls.{openResult, beginResult, stepResult, abandonResult, evictAnswerResult, evictNodeResult, renewResult};
 ghost use Rattle.exports.specs.Reply.{replied, replyOf, sent, sentBy, sentWith, sentByStep};
 
+pub mod lent; // lent.rt: the calls that are lent a tally
+
 // What a caller in another language gets. Its memories hold the rest.
 #[repr(C)]
 pub struct Reply {
-    // 0 accepted, 1 to 11 but 7, and 14 refused, 12 long, 13 full.
+    // 0 accepted, 1 to 11 but 7, and 14, and 15 where a tally is lent, refused, 12 long, 13 full.
     pub number: u32,
     // How many records lie in the tray, or a count.
     pub count: u32,

@@ -172,6 +172,12 @@ impl Hall {
     // 14 reversed turns a begin down.
     pub const REFUSED_REVERSED: u32 = 14;
 
+    // 15 tally full turns down a call that is lent a tally and would raise a count that stands at its largest.
+    pub const REFUSED_TALLY_FULL: u32 = 15;
+
+    // The largest number that a count of a tally holds.
+    pub const LARGEST_COUNT: u32 = 4294967295;
+
     // The sizes are the rules'. The least lengths of the four memories are so by the functions below.
     fn limits() -> Limits
         ensures { λ r. ⌜ r ≡ limitsOf ⌝ }

@@ -86,7 +86,7 @@ wide-within k s q g f = wide-keep k (within g) (listOf q (recordsIn k s)) (wide-
 
 -- what the read gets: of a count the number alone
 module _ (s clients : List ℕ) (d k : ℕ) (g : Range) (is : g ≡ rangeAt (clientIn narrow clients d)) where
-  value-list : askedAt clients d .counts ≡ false
+  pub value-list : askedAt clients d .counts ≡ false
       → valueOf (askedAt clients d) (recordsIn k s) ≡ record { count = length (listFor g s clients d k); numbers = flat (listFor g s clients d k) }
   unfolding valueOf ofRecords askAt askIn queryAt rangeAt
   value-list e = rw (is, e)
@@ -96,7 +96,7 @@ module _ (s clients : List ℕ) (d k : ℕ) (g : Range) (is : g ≡ rangeAt (cli
   value-count e = rw (is, e)
 
 -- and what the step then leaves
-table-at : {h : Held} {clients : List ℕ} {d : ℕ} → Reader h clients d → (s : List ℕ) (v : Value) → valueOf (askedAt clients d) (recordsIn (h .columns) s) ≡ v
+pub table-at : {h : Held} {clients : List ℕ} {d : ℕ} → Reader h clients d → (s : List ℕ) (v : Value) → valueOf (askedAt clients d) (recordsIn (h .columns) s) ≡ v
     → made clients d ≡ looks clients d + 1 → (tray ns a : List ℕ)
     → readResult (mem s ns a clients) tray d (askedAt clients d) (made clients d) ≡ tableResult (mem s ns a clients) tray d (askedAt clients d) v
 table-at {h} {clients} {d} r s v e p tray ns a =

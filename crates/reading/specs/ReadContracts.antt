@@ -84,3 +84,19 @@ pub record Steps (records ns filed clients tray : List ℕ) (d : ℕ) (h : Held)
   pub fit : answers.Fit filed
   pub short : someLong (answersIn narrow filed) ≡ false
   pub room : trayLeast ≤ length tray
+
+-- ---- which count a step would raise (would.rt): nothing is altered, so neither nodes nor tray are asked for
+pub record ForeseesFetch (filed clients : List ℕ) (d : ℕ) (h : Held) : Type 0 where
+  pub read : Reader h clients d
+  pub fit : answers.Fit filed
+  pub step : made clients d ≡ looks clients d
+
+pub record ForeseesTable (records clients : List ℕ) (d : ℕ) (h : Held) : Type 0 where
+  pub read : Reader h clients d
+  pub fit : table.Fit (h .columns) records
+  pub step : made clients d ≡ looks clients d + 1
+
+pub record Foresees (records filed clients : List ℕ) (d : ℕ) (h : Held) : Type 0 where
+  pub read : Reader h clients d
+  pub listed : table.Fit (h .columns) records
+  pub fit : answers.Fit filed

@@ -24,6 +24,8 @@ ghost use Rattle.reading.specs.ReadContracts.{made, Looks, Finds, foundF
 use nodes::Sight;
 use rules::Outcome;
 
+pub mod would; // would.rt: which count of a tally the step that is due would raise
+
 // The most records that a read lists.
 const LIST: usize = Hall::LIST as usize;
 

@@ -12,7 +12,7 @@ use lib.ListN.{length, getD, length-drop}
 use borrow.Author.Tests.{ltb-true, ltb-false, eqb-true, eqb-false, eq-eqb}
 use Rattle.laws.proofs.TestLaws.{byTest, clash}
 use Rattle.query.specs.Shape.{narrow}
-use Rattle.rules.specs.Layout.{maxClients, maxNodes, trayLeast, refusedUnsound}
+use Rattle.rules.specs.Layout.{maxClients, maxNodes, trayLeast, refusedUnsound, refusedTallyFull}
 use Rattle.rules.specs.declared.Outcome.{Outcome}
 use Rattle.rules.specs.declared.Outcome.the-variants.{Refused, Accepted, Answered, Long}
 use Rattle.rules.specs.Work.{Ask, Value, Work, asking, writing, Write, readLabels, writeLabels, mayAnswer}
@@ -24,7 +24,8 @@ use Rattle.rules.specs.Outcome.{Result, result, StepResult, resultWith, number}
 use Rattle.rules.specs.Steps.{nowAt, storeBack, answered, lookResult, fetchResult, tableResult, fileResult, readResult, announceResult, writeTableResult, endOf}
 use Rattle.rules.specs.Steps.{raiseResult, writeResult, progressOf, progress}
 use Rattle.rules.specs.Calls.{unless, beginResult, stepResult, pastTable, announcedLabels, labelsLeft, retireResult, abandonedWrite, abandonedOf, abandoned, abandonResult, evictAnswerResult, evictNodeResult, renewResult}
-use Rattle.rules.specs.History.{Call, begin, step, abandon, evictAnswer, evictNode, renew, callResult, isAccepted, untrayed}
+use Rattle.rules.specs.History.{Call, begin, step, abandon, evictAnswer, evictNode, renew, trayOf, callResult, isAccepted, untrayed}
+use Rattle.rules.specs.Tally.{Made, isTallyFull, madeResult}
 use Rattle.rules.specs.Sound.{Busy}
 use Rattle.rules.proofs.PassedChecks.{step-passed, abandon-passed, evict-node-passed}
 use Rattle.rules.proofs.WorkLaws.{read-label-wide, write-label-wide}
@@ -308,7 +309,7 @@ renew-passes m g = unless-passed m _ (renewCode m) _ (renew-sound m (g .fits)) (
     went-passed m _ _ g (λ b low. stored m g b 1 low Accepted _ _ [] refl refl tt (omega arith) (omega arith, tt)))
 
 -- ---- Every call
-pub call-passes : (m : Mem) → Lasting m → (c : Call) → Passed m (callOf (shape m) c) (callResult m c)
+call-passes : (m : Mem) → Lasting m → (c : Call) → Passed m (callOf (shape m) c) (callResult m c)
 unfolding callResult callOf beginResult evictAnswerResult nowAt
 call-passes m g (begin d r) = unless-passed m _ (beginCode m d r) _ (begin-sound m (g .fits) d r) (λ e. still-passes m g _ _ refl)
 call-passes m g (step d tray) = step-passes m g tray d
@@ -317,11 +318,18 @@ call-passes m g (evictAnswer i) = unless-passed m _ (evictAnswerCode m i) _ (evi
 call-passes m g (evictNode i) = evict-node-passes m g i
 call-passes m g renew = renew-passes m g
 
-pub lasting-next : (m : Mem) (c : Call) → Lasting m → Lasting (callResult m c .mem)
-lasting-next m c g =
-    let r = refines m c (g .fits) (once m g) in
+-- with a tally it is the call, or refused by 15
+pub made-passes : (m : Mem) → Lasting m → (x : Made) → Passed m (callOf (shape m) (x .call)) (madeResult m x)
+unfolding madeResult
+made-passes m g x = byTest (isTallyFull m x)
+    (λ t. rw t (refused-passed m _ refusedTallyFull (trayOf (x .call)) (λ e. absurd (omega arith))))
+    (λ t. rw t (call-passes m g (x .call)))
+
+pub lasting-next : (m : Mem) (x : Made) → Lasting m → Lasting (madeResult m x .mem)
+lasting-next m x g =
+    let r = refines m x (g .fits) (once m g) in
     let v = transition-inv (stateOf m) (g .inv) (r .0) in
-    record { fits = r .1; inv = v; room = transition-headroom (stateOf m) (g .inv) v (call-passes m g c .lifted) (g .room) (r .0) }
+    record { fits = r .1; inv = v; room = transition-headroom (stateOf m) (g .inv) v (made-passes m g x .lifted) (g .room) (r .0) }
 
 pub step-accepted : (m : Mem) → Lasting m → (tray : List ℕ) (d : ℕ) → trayLeast ≤ length tray → d < maxClients → isIdle narrow (client m d) ≡ false
     → isAccepted (number (stepResult m tray d .out)) ≡ true

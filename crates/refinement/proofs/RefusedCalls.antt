@@ -1,4 +1,4 @@
--- A call whose code is not 0 is refused and alters nothing, and no code is above 11 but 14, which is a begin's alone. What a code of 0
+-- A call whose code is not 0 is refused and alters nothing, and no code is above 11 but 14, which is a begin's alone, and 15, which a tally gives. What a code of 0
 -- tells stands in rules. Leans on rules' Refusals and on StatesAfter. Assumes nothing.
 use mathlib.Core.Path.{_≡_, refl}
 use mathlib.Core.Logic.{_⊎_, inl, inr}
@@ -13,7 +13,7 @@ use Rattle.laws.proofs.TestLaws.{byTest}
 use Rattle.query.specs.Encoding.{isQuery, namesAll, queryOf}
 use Rattle.query.specs.Range.{isRange, isReversed}
 use Rattle.query.specs.Shape.{narrow, Shape}
-use Rattle.rules.specs.Layout.{trayLeast, nodeCountOffset, answerCountOffset, refusedColumns, refusedOccupied, refusedReversed}
+use Rattle.rules.specs.Layout.{trayLeast, nodeCountOffset, answerCountOffset, refusedColumns, refusedOccupied, refusedReversed, refusedTallyFull}
 use Rattle.rules.specs.declared.Outcome.the-variants.{Refused}
 use Rattle.rules.specs.Nodes.{isWorn, pending}
 use Rattle.rules.specs.Client.{isIdle, isBad}
@@ -30,14 +30,15 @@ use Rattle.refinement.proofs.Abstraction.{responseIn, Fits}
 use Rattle.refinement.proofs.StatesAfter.{Simulated, simulated, as-it-was}
 
 -- ---- A refused call
--- a code: 0, a refusal of 1 to 11, or 14
+-- a code: 0, a refusal of 1 to 11, 14 or 15
 abbrev pub IsCode : ℕ → Type 0
-IsCode n = (n ≤ refusedOccupied) ⊎ (n ≡ refusedReversed)
+IsCode n = (n ≤ refusedOccupied) ⊎ ((n ≡ refusedReversed) ⊎ (n ≡ refusedTallyFull))
 
 pub turned-down : (n : ℕ) → IsCode n → (n ≡ 0 → ⊥) → isAccepted n ≡ false
 unfolding isAccepted
 turned-down n (inl l) ne = rw (ne-eqb n 0 ne, ne-eqb n 12 (λ e. omega arith), ne-eqb n 13 (λ e. omega arith))
-turned-down n (inr l) ne = rw l
+turned-down n (inr (inl l)) ne = rw l
+turned-down n (inr (inr l)) ne = rw l
 
 pub refused-simulated : (m : Mem) (c : Call) (n : ℕ) (tray : List ℕ) → Fits m → IsCode n → (n ≡ 0 → ⊥) → Simulated m c (resultWith (Refused n) m tray)
 unfolding responseIn
@@ -82,7 +83,7 @@ fault-code P a b c sh (deleteOf x) = both P (isQuery sh x) 0 refusedColumns a b
 
 pub begin-coded : (m : Mem) (d : ℕ) (r : Request) → IsCode (beginCode m d r)
 begin-coded m d r =
-    begin-code IsCode (λ n l. inl l) m d r (fault-code IsCode (inl (omega arith)) (inl (omega arith)) (inr refl) (shape m) r)
+    begin-code IsCode (λ n l. inl l) m d r (fault-code IsCode (inl (omega arith)) (inl (omega arith)) (inr (inl refl)) (shape m) r)
 
 -- ---- Steps and abandonings
 atClient-low : (m : Mem) (d : ℕ) → atClient m d ≤ 11

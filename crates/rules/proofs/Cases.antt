@@ -26,7 +26,8 @@ use Rattle.rules.specs.Refusals.{columns, client, isShort, badColumns, i
 use Rattle.rules.specs.Steps.{nowAt, storeBack, answered, lookResult, fetchResult, tableResult, fileResult, readResult, announceResult, writeTableResult, endOf, raiseResult, writeResult, progressOf, progress}
 use Rattle.rules.specs.Calls.{unless, openResult, beginResult, stepResult, pastTable, retireResult, abandonedWrite, abandonedOf, abandoned, abandonResult, evictAnswerResult, evictNodeResult, renewResult}
 use Rattle.query.specs.Shape.{narrow}
-use Rattle.rules.specs.History.{Call, begin, step, abandon, evictNode as dropNode, untrayed, callResult, memAfter}
+use Rattle.rules.specs.History.{Call, begin, step, abandon, evictNode as dropNode, untrayed, callResult}
+use Rattle.rules.specs.Tally.{isFullFor, isTallyFull, madeResult, unlent, memAfter}
 
 -- memories that held other numbers, as an opening with k columns leaves them
 abbrev fresh : ℕ → Mem
@@ -345,7 +346,7 @@ unchanged =
 -- this counter, when 5 is there and when it is not. Its next raise, and its abandoning; a missing or unmarked node is 3 all the same
 abbrev afterTable : List ℕ → ℕ → ℕ → Mem
 afterTable values marks x =
-    let m = memAfter (stocked values) (begin 1 (insertOf (one 5)) ∷ step 1 tray ∷ step 1 tray ∷ step 1 tray ∷ []) in
+    let m = memAfter (stocked values) (unlent (begin 1 (insertOf (one 5)) ∷ step 1 tray ∷ step 1 tray ∷ step 1 tray ∷ [])) in
     withNodes m (set (set (m .nodes) 13 marks) 14 x)
 
 -- the node of 5 has become one of 6
@@ -393,5 +394,5 @@ cases =
     ++ unchanged ++ at-largest ++ (changed-and-full ∷ [])
 
 pub cases-1-to-12 : T (all cases)
-unfolding readNodes writeNodes sheetEntry turned looks wildcardsOf wildcardsIn same keep place without allBelow listed padded written rows flat entriesIn withEntries admits lies naming pick readNode writeNode named readCount writeCount columnOf queryOf wellMarked isQuery namesAll recordOf termValue columnValue tag tags labelWords marks keyWords columnsIn queryIn countsIn countKey rangeOf rangeIn rangeKey wantedKey unranged bareKey range.within isNamed isRange isReversed listOf before has putIn target isFull outside effect noRoom changes labelIn pending revision withPending withRevision hasLabel nodePlace isPresent nodeOf withNode evictNode added isFree oldestFree makeRoom addedIn ensured announcedIn announced isPending released lifted mayRetire retired isHigh isWorn keyIn lengthIn revisionIn isCount mostIn listIn valueIn hasKeyOf atLeast serves fetchPlace keyPlace filed isLong someLong kind steps sawPending didChange foundFull entryOf idle isIdle begun workAt isBad stepped flag noted holding wrote recordsIn withRecords storeIn withStore answersIn withAnswers clientIn withClient cleared opened renewed columns client isShort badColumns isUnsound noClient allIdle openCode beginCode atClient stepCode abandonCode evictAnswerCode evictNodeCode renewCode nowAt storeBack answered lookResult fetchResult tableResult fileResult readResult announceResult writeTableResult endOf raiseResult writeResult progressOf progress unless openResult beginResult stepResult pastTable retireResult abandonedWrite abandonedOf abandoned abandonResult evictAnswerResult evictNodeResult renewResult untrayed callResult ofRecords ofNumber askFault listWithin valueOf mayAnswer readLabels askKey askIn writeLabels changeKind kindOf keyOf changeIn writeIn workIn workFault stepsInAll isWrite askOf workOf faultOf memAfter
+unfolding readNodes writeNodes sheetEntry turned looks wildcardsOf wildcardsIn same keep place without allBelow listed padded written rows flat entriesIn withEntries admits lies naming pick readNode writeNode named readCount writeCount columnOf queryOf wellMarked isQuery namesAll recordOf termValue columnValue tag tags labelWords marks keyWords columnsIn queryIn countsIn countKey rangeOf rangeIn rangeKey wantedKey unranged bareKey range.within isNamed isRange isReversed listOf before has putIn target isFull outside effect noRoom changes labelIn pending revision withPending withRevision hasLabel nodePlace isPresent nodeOf withNode evictNode added isFree oldestFree makeRoom addedIn ensured announcedIn announced isPending released lifted mayRetire retired isHigh isWorn keyIn lengthIn revisionIn isCount mostIn listIn valueIn hasKeyOf atLeast serves fetchPlace keyPlace filed isLong someLong kind steps sawPending didChange foundFull entryOf idle isIdle begun workAt isBad stepped flag noted holding wrote recordsIn withRecords storeIn withStore answersIn withAnswers clientIn withClient cleared opened renewed columns client isShort badColumns isUnsound noClient allIdle openCode beginCode atClient stepCode abandonCode evictAnswerCode evictNodeCode renewCode nowAt storeBack answered lookResult fetchResult tableResult fileResult readResult announceResult writeTableResult endOf raiseResult writeResult progressOf progress unless openResult beginResult stepResult pastTable retireResult abandonedWrite abandonedOf abandoned abandonResult evictAnswerResult evictNodeResult renewResult untrayed callResult ofRecords ofNumber askFault listWithin valueOf mayAnswer readLabels askKey askIn writeLabels changeKind kindOf keyOf changeIn writeIn workIn workFault stepsInAll isWrite askOf workOf faultOf isFullFor isTallyFull madeResult unlent memAfter
 cases-1-to-12 = tt

@@ -233,3 +233,11 @@ endedFull = 13
 -- 14 reversed (S-3): it turns a begin down, and alters nothing, as 1 to 11 do
 abbrev pub refusedReversed : ℕ
 refusedReversed = 14
+
+-- 15 tally full (S-7): it turns down a call that is lent a tally, and alters nothing
+abbrev pub refusedTallyFull : ℕ
+refusedTallyFull = 15
+
+-- "a count that stands at 4,294,967,295": the largest that a count of a tally holds
+abbrev pub maxCount : ℕ
+maxCount = 4294967295

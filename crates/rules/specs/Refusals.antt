@@ -1,7 +1,7 @@
 -- Document 01, "What the controller turns down": the first number that applies, in the order 1, 2, 14, 3, 4 and so on
 -- (the smallest, but for 14), or 0. Leans on Memory. Definitions only.
 -- Assumes nothing. 3 that only a step or an abandoning can find (a node missing, unmarked, ..) stands in Steps
--- and Calls.
+-- and Calls; 15, which only a call that is lent a tally is given, in Tally.
 use mathlib.Core.Bool.{Bool, cond, not, _&&_, _||_}
 use mathlib.Core.List.{List, []}
 use Prim.Native.Nat.{ℕ}

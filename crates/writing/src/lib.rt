@@ -24,6 +24,7 @@ use rules::Outcome;
 use table::Inserted;
 
 mod retire; // retire.rt: marks taken off some of a write's nodes
+pub mod would; // would.rt: which count of a tally the step that is due, or an abandoning, would raise
 
 // What a write's table step says of the table.
 struct Report {

@@ -18,7 +18,7 @@ ghost use Rattle.writing.specs.WriteContracts.{labelsFrom, isFound, plac
 use nodes::Spot;
 
 // Whether a mark can be taken off each of the write's n nodes from number `from` on; where it can, `places` begins with their places.
-fn can_retire(
+pub fn can_retire(
     nodes: &[u32],
     h: Held,
     from: usize,

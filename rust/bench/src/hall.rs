@@ -1,5 +1,5 @@
-//! A hall in the state that a measurement starts from: the four memories and a tray, written directly as docs/LAYOUT.md places them,
-//! and desks brought to a step by real calls. Leans on the twin for the layout, for labels and for those calls.
+//! A hall in the state that a measurement starts from: the four memories, a tray and a tally, written directly as docs/LAYOUT.md places
+//! them, and desks brought to a step by real calls. Leans on the twin for the layout, for labels and for those calls.
 
 use crate::rng::Rng;
 use crate::side::{Act, Asked, Kind, Reply, Twin, ACCEPTED};
@@ -68,6 +68,7 @@ pub struct Hall {
     /// the desks
     pub clients: Memory,
     pub tray: Memory,
+    pub tally: twin::Tally,
 }
 
 impl Hall {
@@ -78,6 +79,7 @@ impl Hall {
             answers: Memory::zeros(ANSWERS_LEAST, 0),
             clients: Memory::zeros(CLIENTS_LEAST, 0),
             tray: Memory::zeros(TRAY_LEAST, 0),
+            tally: [0; COUNTS],
         };
         hall.does(Act::Open(k as u32), ACCEPTED);
         hall
@@ -87,7 +89,7 @@ impl Hall {
     pub fn placed(&self, past: usize) -> Hall {
         let memories = [&self.table, &self.nodes, &self.answers, &self.clients, &self.tray];
         let [table, nodes, answers, clients, tray] = memories.map(|memory| memory.placed(past));
-        Hall { table, nodes, answers, clients, tray }
+        Hall { table, nodes, answers, clients, tray, tally: self.tally }
     }
 
     pub fn columns(&self) -> usize {

@@ -15,6 +15,7 @@ mod rows;
 mod side;
 #[cfg(sqlite)]
 mod sqlite;
+mod tallies;
 mod timing;
 
 use mixes::{Setting, Tally, MIXES, SETTINGS};
@@ -61,7 +62,8 @@ fn run(options: &Options) -> Result<(), String> {
     let effort = Effort { pairs: if options.quick { 15 } else { 1001 }, batch: Duration::from_micros(if options.quick { 20 } else { 50 }) };
     let clock = Clock::new();
     let load_before = report::load();
-    let rows: Vec<Row> = rows::calls().into_iter().chain(ranges::rows()).chain(rows::wholes()).collect();
+    let mut rows: Vec<Row> = rows::calls().into_iter().chain(ranges::rows()).chain(rows::wholes()).collect();
+    rows.extend(tallies::rows(&rows));
     let wanted = |row: &&Row| options.only.as_ref().is_none_or(|text| format!("{}: {}", row.group, row.name).contains(text.as_str()));
     let timed: Vec<Timed> = rows.iter().filter(wanted).map(|row| time(row, effort, &clock)).collect();
     summary(&timed);
@@ -91,7 +93,7 @@ fn time(row: &Row, effort: Effort, clock: &Clock) -> Timed {
     let sqlite = sqlite_time(row, effort, clock);
     let shown = sqlite.map_or(String::new(), |time| format!("  SQLite {:9.0}", time.median));
     let (left, right, ratio) = (measured.library.median, measured.twin.median, &measured.ratio);
-    println!("{:18} {:42} {left:9.0} {right:9.0} ns  {:5.2} ({:.2} to {:.2}){shown}", row.group, row.name, ratio.median, ratio.low, ratio.high);
+    println!("{:24} {:42} {left:9.0} {right:9.0} ns  {:5.2} ({:.2} to {:.2}){shown}", row.group, row.name, ratio.median, ratio.low, ratio.high);
     Timed { group: row.group, name: row.name.clone(), measured, sqlite }
 }
 
@@ -99,9 +101,13 @@ fn summary(timed: &[Timed]) {
     for (row, [library, twin]) in report::ranged_by_plain(timed) {
         println!("{:18} {:42} by plain: library {library:.2}, twin {twin:.2}", row.group, row.name);
     }
-    let slow = timed.iter().filter(|row| row.measured.ratio.median > 1.2).count();
-    let less = timed.iter().filter(|row| row.measured.ratio.median <= 1.0).count();
-    println!("{} rows: {less} at a ratio of 1 or less, {slow} above 1.2", timed.len());
+    for (row, library, more) in report::tallied_by_plain(timed) {
+        println!("{:24} {:42} by plain: library {library:.2}, {more:+.0} ns", row.group, row.name);
+    }
+    let rows: Vec<&Timed> = report::comparable(timed).collect();
+    let slow = rows.iter().filter(|row| row.measured.ratio.median > 1.2).count();
+    let less = rows.iter().filter(|row| row.measured.ratio.median <= 1.0).count();
+    println!("{} rows: {less} at a ratio of 1 or less, {slow} above 1.2", rows.len());
 }
 
 #[cfg(sqlite)]

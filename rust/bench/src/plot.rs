@@ -1,7 +1,7 @@
 //! The plots of a run, as SVG text: the ratio of each call as a bar with its quartiles, and the hit ratios of the five mixes. Leans on report.
 
 use crate::mixes::MIXES;
-use crate::report::{Mixed, Timed};
+use crate::report::{comparable, Mixed, Timed};
 use std::fmt::Write;
 
 const ROW: f64 = 16.0;
@@ -35,6 +35,7 @@ fn label(text: &mut String, x: f64, y: f64, anchor: &str, words: &str) {
 
 /// One bar for each row: how long the library takes if the twin takes 1.
 pub fn ratios(timed: &[Timed]) -> String {
+    let timed: Vec<&Timed> = comparable(timed).collect();
     let most = timed.iter().map(|row| row.measured.ratio.high).fold(2.0, f64::max).ceil();
     let (width, height) = (LEFT + most * UNIT + 80.0, TOP + ROW * timed.len() as f64 + 20.0);
     let mut text = open(width, height, "Time of the library by that of the twin: median, and quartiles as a line. Below 1 the library is faster.");

@@ -1,6 +1,7 @@
-//! The tables of a run, as Markdown and as CSV. Leans on timing and mixes.
+//! The tables of a run, as Markdown and as CSV. Leans on timing, mixes and tallies.
 
 use crate::mixes::{Setting, Tally, MIXES};
+use crate::tallies;
 use crate::timing::{Measured, Quartiles};
 use std::fmt::Write;
 
@@ -57,6 +58,9 @@ pub fn markdown(place: &Place, timed: &[Timed], mixed: &[Mixed]) -> String {
     timed.iter().filter(|row| !row.group.starts_with("whole")).for_each(|row| call_line(&mut text, row));
     text += "\n## Ranged by plain\n\n| call | case | library | twin |\n|---|---|---|---|\n";
     ranged_by_plain(timed).iter().for_each(|(row, by)| range_line(&mut text, row, by));
+    text += "\n## Tallied by plain\n\nA full tally has a count at its largest that the call does not raise.\n\n";
+    text += "| call | case | library | |\n|---|---|---|---|\n";
+    tallied_by_plain(timed).iter().for_each(|(row, by, more)| tally_line(&mut text, row, *by, *more));
     text += "\n## Whole reads and writes\n\nSQLite: ";
     let _ = writeln!(text, "{}.\n", place.sqlite);
     text += "| | case | library | twin | ratio | quartiles of the ratio | SQLite | SQLite by library |\n|---|---|---|---|---|---|---|---|\n";
@@ -94,6 +98,30 @@ pub fn ranged_by_plain(timed: &[Timed]) -> Vec<(&Timed, [f64; 2])> {
         [row.library.median / plain.library.median, row.twin.median / plain.twin.median]
     };
     timed.iter().filter_map(|row| beside(row).map(|plain| (row, by(row, plain)))).collect()
+}
+
+/// Each row with a tally beside which the same call without one was timed: the library's time by that of the plain call, and how many
+/// nanoseconds it is more.
+pub fn tallied_by_plain(timed: &[Timed]) -> Vec<(&Timed, f64, f64)> {
+    let beside = |row: &Timed| {
+        let group = row.group.strip_prefix(tallies::TALLIED).or(row.group.strip_prefix(tallies::FULL))?;
+        timed.iter().find(|plain| plain.group == group && plain.name == row.name)
+    };
+    let by = |row: &Timed, plain: &Timed| {
+        let (row, plain) = (row.measured.library.median, plain.measured.library.median);
+        (row / plain, row - plain)
+    };
+    let pairs = timed.iter().filter_map(|row| beside(row).map(|plain| (row, by(row, plain))));
+    pairs.map(|(row, (by, more))| (row, by, more)).collect()
+}
+
+fn tally_line(text: &mut String, row: &Timed, by: f64, more: f64) {
+    let _ = writeln!(text, "| {} | {} | {by:.2} | {more:+.0} ns |", row.group, row.name);
+}
+
+/// The rows whose ratio of library and twin says something: not those in which the twin tries the call on copies.
+pub fn comparable(timed: &[Timed]) -> impl Iterator<Item = &Timed> {
+    timed.iter().filter(|row| !row.group.starts_with(tallies::FULL))
 }
 
 fn range_line(text: &mut String, row: &Timed, [library, twin]: &[f64; 2]) {

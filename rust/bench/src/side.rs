@@ -62,6 +62,22 @@ pub enum Act {
     EvictNode(u32),
     Renew,
     Whole(Kind, u32, Asked),
+    /// these three are lent the hall's tally
+    BeginTallied(Kind, u32, Asked),
+    StepTallied(u32),
+    AbandonTallied(u32),
+}
+
+impl Act {
+    /// The same call, lent a tally; only a begin, a step and an abandoning can be.
+    pub fn tallied(self) -> Act {
+        match self {
+            Act::Begin(kind, client, asked) => Act::BeginTallied(kind, client, asked),
+            Act::Step(client) => Act::StepTallied(client),
+            Act::Abandon(client) => Act::AbandonTallied(client),
+            other => unreachable!("{other:?} is lent no tally"),
+        }
+    }
 }
 
 /// The paper's number, how many records were answered or counted, and what ended.
@@ -83,15 +99,18 @@ pub trait Side {
     fn evict_answer(h: &mut Hall, place: u32) -> Reply;
     fn evict_node(h: &mut Hall, place: u32) -> Reply;
     fn renew(h: &mut Hall) -> Reply;
+    fn begin_tallied(h: &mut Hall, kind: Kind, client: u32, query: &[u32]) -> Reply;
+    fn step_tallied(h: &mut Hall, client: u32) -> Reply;
+    fn abandon_tallied(h: &mut Hall, client: u32) -> Reply;
 }
 
 pub struct Library;
 pub struct Twin;
 
-/// Both sides offer the same calls on types of their own; the ends of a range they take in
-/// different forms.
+/// Both sides offer the same calls on types of their own; the ends of a range and a tally they take
+/// in different forms.
 macro_rules! side {
-    ($side:ident, $memories:ty, ends of $range:ident: $($end:expr),+) => {
+    ($side:ident, $memories:ty, tally by $tally:path, ends of $range:ident: $($end:expr),+) => {
         impl Side for $side {
             #[inline(always)]
             fn open(h: &mut Hall, k: u32) -> Reply {
@@ -140,6 +159,26 @@ macro_rules! side {
             fn renew(h: &mut Hall) -> Reply {
                 side!(h, $memories, m, m.renew())
             }
+            #[inline(always)]
+            fn begin_tallied(h: &mut Hall, kind: Kind, client: u32, query: &[u32]) -> Reply {
+                let tally = $tally(&mut h.tally);
+                match kind {
+                    Kind::Read => side!(h, $memories, m, m.begin_read_tallied(tally, client, query)),
+                    Kind::Count => side!(h, $memories, m, m.begin_count_tallied(tally, client, query)),
+                    Kind::Insert => side!(h, $memories, m, m.begin_insert_tallied(tally, client, query)),
+                    Kind::Delete => side!(h, $memories, m, m.begin_delete_tallied(tally, client, query)),
+                }
+            }
+            #[inline(always)]
+            fn step_tallied(h: &mut Hall, client: u32) -> Reply {
+                let (tray, tally) = (&mut h.tray, $tally(&mut h.tally));
+                side!(h, $memories, m, m.step_tallied(tray, tally, client))
+            }
+            #[inline(always)]
+            fn abandon_tallied(h: &mut Hall, client: u32) -> Reply {
+                let tally = $tally(&mut h.tally);
+                side!(h, $memories, m, m.abandon_tallied(tally, client))
+            }
         }
     };
     ($h:ident, $memories:ty, $m:ident, $call:expr) => {{
@@ -172,8 +211,16 @@ impl<'a> From<Lend<'a>> for twin::Memories<'a> {
     }
 }
 
-side!(Library, mondzafeky::Memories<'_>, ends of range: range.lowest..=range.highest);
-side!(Twin, twin::Memories<'_>, ends of range: range.lowest, range.highest);
+side!(Library, mondzafeky::Memories<'_>, tally by in_fields, ends of range: range.lowest..=range.highest);
+side!(Twin, twin::Memories<'_>, tally by std::convert::identity, ends of range: range.lowest, range.highest);
+
+/// The counts as the library takes them. They are not copied: that would be timed too.
+#[inline(always)]
+fn in_fields(counts: &mut twin::Tally) -> &mut mondzafeky::Tally {
+    const { assert!(size_of::<mondzafeky::Tally>() == size_of::<twin::Tally>() && align_of::<mondzafeky::Tally>() == align_of::<twin::Tally>()) };
+    // SAFETY: both are nine u32 one after another, the library's by `repr(C)`, and the borrow goes over whole.
+    unsafe { &mut *std::ptr::from_mut(counts).cast() }
+}
 
 /// Makes the call. Never inlined, so that both sides are entered alike.
 #[inline(never)]
@@ -189,6 +236,9 @@ pub fn perform<S: Side>(h: &mut Hall, act: &Act) -> Reply {
         Act::EvictNode(place) => S::evict_node(h, *place),
         Act::Renew => S::renew(h),
         Act::Whole(kind, client, asked) => whole::<S>(h, *kind, *client, asked),
+        Act::BeginTallied(kind, client, asked) => S::begin_tallied(h, *kind, *client, asked.words()),
+        Act::StepTallied(client) => S::step_tallied(h, *client),
+        Act::AbandonTallied(client) => S::abandon_tallied(h, *client),
     }
 }
 

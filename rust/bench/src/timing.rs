@@ -80,6 +80,7 @@ pub struct Prepared {
     hall: Hall,
     act: Act,
     changes: [Vec<(usize, Vec<u32>)>; 4],
+    tally: twin::Tally,
 }
 
 impl Prepared {
@@ -97,11 +98,13 @@ impl Prepared {
             changed(&hall.answers, &left.answers),
             changed(&hall.clients, &left.clients),
         ];
-        Prepared { hall, act, changes }
+        let tally = hall.tally;
+        Prepared { hall, act, changes, tally }
     }
 
     pub fn restore(&mut self) {
         let h = &mut self.hall;
+        h.tally = self.tally;
         for (memory, changes) in [&mut h.table, &mut h.nodes, &mut h.answers, &mut h.clients].into_iter().zip(&self.changes) {
             changes.iter().for_each(|(at, was)| memory[*at..*at + was.len()].copy_from_slice(was));
         }

@@ -1,6 +1,6 @@
 //! A call with its arguments, so that it can be recorded, replayed and read. Leans on side and hall.
 
-use crate::hall::{Hall, MEMORY_NAMES};
+use crate::hall::{Hall, Tally, MEMORY_NAMES, TALLY};
 use crate::side::{Reply, Side};
 use std::fmt;
 
@@ -100,6 +100,10 @@ pub enum Call {
         place: u32,
     },
     Renew,
+    /// no call: from here on another tally is lent, with these counts
+    NewTally {
+        counts: Tally,
+    },
     /// no call: somebody else writes one number into a memory
     Damage {
         memory: u8,
@@ -108,12 +112,16 @@ pub enum Call {
     },
 }
 
+/// What is no call returns this.
+const NOTHING: Reply = Reply { number: 0, count: 0, ending: 0 };
+
 /// The numbers of a step's tray as it is lent.
 pub fn tray_of(length: u32, fill: u32) -> impl Iterator<Item = u32> {
     (0..length).map(move |i| fill.wrapping_add(i.wrapping_mul(0x9E37_79B1)))
 }
 
-pub const KIND_NAMES: [&str; 12] = [
+/// The calls, and from begin_read to abandon once more with a tally.
+pub const KIND_NAMES: [&str; 20] = [
     "open",
     "begin_read",
     "begin_count",
@@ -126,14 +134,23 @@ pub const KIND_NAMES: [&str; 12] = [
     "evict_answer",
     "evict_node",
     "renew",
+    "begin_read_tallied",
+    "begin_count_tallied",
+    "begin_read_within_tallied",
+    "begin_count_within_tallied",
+    "begin_insert_tallied",
+    "begin_delete_tallied",
+    "step_tallied",
+    "abandon_tallied",
 ];
 
-/// The places of steps and of abandonings in `KIND_NAMES`.
+/// The places of steps and of abandonings in `KIND_NAMES`; and how many places after it a call stands that is lent a tally.
 pub const STEP: usize = 7;
 pub const ABANDON: usize = 8;
+pub const TALLIED: usize = 11;
 
 impl Call {
-    /// Its place in `KIND_NAMES`; none for damage.
+    /// Its place in `KIND_NAMES`, without a tally; none for what is no call.
     pub fn kind(&self) -> Option<usize> {
         match self {
             Call::Open { .. } => Some(0),
@@ -148,7 +165,7 @@ impl Call {
             Call::EvictAnswer { .. } => Some(9),
             Call::EvictNode { .. } => Some(10),
             Call::Renew => Some(11),
-            Call::Damage { .. } => None,
+            Call::NewTally { .. } | Call::Damage { .. } => None,
         }
     }
 
@@ -164,6 +181,21 @@ impl Call {
         }
     }
 
+    /// The desk of a begin, a step or an abandoning: these can be lent a tally.
+    pub fn client(&self) -> Option<u32> {
+        match self {
+            Call::BeginRead { client, .. }
+            | Call::BeginCount { client, .. }
+            | Call::BeginReadWithin { client, .. }
+            | Call::BeginCountWithin { client, .. }
+            | Call::BeginInsert { client, .. }
+            | Call::BeginDelete { client, .. }
+            | Call::Step { client, .. }
+            | Call::Abandon { client } => Some(*client),
+            _ => None,
+        }
+    }
+
     /// Lays a step's own tray out, as it is before the step.
     pub fn lay_tray(&self, hall: &mut Hall) {
         if let Call::Step { tray, fill, .. } = self {
@@ -172,10 +204,10 @@ impl Call {
         }
     }
 
-    /// Makes the call on one side's memories.
+    /// Makes the call on one side's memories, without a tally.
     pub fn make(&self, side: &dyn Side, hall: &mut Hall) -> Reply {
         self.lay_tray(hall);
-        let (m, tray) = hall.lend();
+        let (m, tray, _) = hall.lend();
         match self {
             Call::Open { k } => side.open(m, *k),
             Call::BeginRead { client, asked } => side.begin_read(m, *client, asked.words()),
@@ -189,9 +221,13 @@ impl Call {
             Call::EvictAnswer { place } => side.evict_answer(m, *place),
             Call::EvictNode { place } => side.evict_node(m, *place),
             Call::Renew => side.renew(m),
+            Call::NewTally { counts } => {
+                hall.memories[TALLY].copy_from_slice(counts);
+                NOTHING
+            }
             Call::Damage { memory, place, value } => {
                 hall.memories[*memory as usize][*place as usize] = *value;
-                Reply { number: 0, count: 0, ending: 0 }
+                NOTHING
             }
         }
     }
@@ -230,6 +266,7 @@ impl fmt::Display for Call {
             Call::Step { client, .. } | Call::Abandon { client } => write!(f, "{name} desk {client}"),
             Call::EvictAnswer { place } | Call::EvictNode { place } => write!(f, "{name} place {place}"),
             Call::Renew => write!(f, "{name}"),
+            Call::NewTally { counts } => write!(f, "another tally {counts:?}"),
             Call::Damage { memory, place, value } => {
                 write!(f, "{name} {}[{place}] := {value}", MEMORY_NAMES[*memory as usize])
             }

@@ -1,11 +1,14 @@
 //! The checker of demand 3 on executed histories: document 01, "A history and the plain table". It is fed the calls' arguments and
 //! what they returned, and keeps a plain table of its own; nothing in it leans on the library or the twin. It checks two things more that
 //! the rules give: a write's end, by its last raise or by an abandoning (document 02, S-4), is told as its table step was; and with every desk
-//! idle no node has a mark. Beside it, filing checks demand 2's last sentence, and zeros counts what was met of the value 0.
+//! idle no node has a mark. Beside it, filing checks demand 2's last sentence, ledger the tally that calls are lent, and zeros counts what was met of
+//! the value 0. A call that is refused with 15 is a refused call.
 
 use crate::call::{tray_of, Ask, Asked, Call, Within};
 use crate::filing::{Filing, Sentence, Wrong};
 use crate::hall::Hall;
+use crate::ledger::{self, Ledger};
+use crate::made::Made;
 use crate::side::Reply;
 use crate::zeros::{self, Zeros};
 use std::fmt;
@@ -37,6 +40,12 @@ pub enum Complaint {
     NotFetched { client: u32 },
     /// an answer on file that no read filed, or one from file that is not what the last read to file under its query gave
     NotFiled { client: u32 },
+    /// the tally does not hold what the calls come to
+    Counts,
+    /// reads or writes begun are not those that have ended and those under way
+    Sum,
+    /// 15 where no count that the call can raise is at its largest, or none where one is
+    Full,
 }
 
 impl fmt::Display for Complaint {
@@ -56,6 +65,9 @@ impl fmt::Display for Complaint {
             Complaint::NotFiled { client } => {
                 write!(f, "desk {client}: an answer on file, or from it, that the last read to file under the query did not give")
             }
+            Complaint::Counts => write!(f, "the tally does not hold what the calls come to"),
+            Complaint::Sum => write!(f, "the tally's begun are not those that have ended and those under way"),
+            Complaint::Full => write!(f, "15 where no count that the call can raise is at its largest, or none where one is"),
         }
     }
 }
@@ -127,6 +139,7 @@ pub struct Checker {
     /// what was met of the value 0
     pub zeros: Zeros,
     filing: Filing,
+    ledger: Ledger,
 }
 
 impl Checker {
@@ -148,6 +161,7 @@ impl Checker {
             abandoned: [0; 4],
             zeros: [0; zeros::MET.len()],
             filing: Filing::opened(sentence),
+            ledger: Ledger::opened(),
         }
     }
 
@@ -163,13 +177,22 @@ impl Checker {
         [owed, owed_to_earlier, owed_to_counts, owed_to_ranges, owed_past_unchanged]
     }
 
+    /// How many calls were lent a tally, and how many of them were 15; after how many the tally's sums were held with a read under way, and with a
+    /// write.
+    pub fn tallied(&self) -> [u64; 4] {
+        self.ledger.seen
+    }
+
     /// Before a call of the history.
-    pub fn before(&mut self, call: &Call, hall: &Hall) {
-        self.filing.before(call, hall);
+    pub fn before(&mut self, made: impl Into<Made>, hall: &Hall) {
+        self.filing.before(&made.into().call, hall);
+        self.ledger.before(hall);
     }
 
     /// After it; the hall is the one that the call left, with the tray of a step.
-    pub fn after(&mut self, call: &Call, reply: Reply, hall: &Hall) -> Option<Complaint> {
+    pub fn after(&mut self, made: impl Into<Made>, reply: Reply, hall: &Hall) -> Option<Complaint> {
+        let made = made.into();
+        let call = &made.call;
         let accepted = matches!(reply.number, 0 | 12 | 13);
         let complaint = if accepted { self.feed(call, reply, hall) } else { None };
         let wrong = self.filing.after(call, reply, hall).map(|(client, wrong)| match wrong {
@@ -179,7 +202,12 @@ impl Checker {
         let rests = self.notes.iter().flatten().all(|note| note.ended);
         self.rests += rests as u64;
         let marked = (rests && has_marks(hall.nodes())).then_some(Complaint::Marked);
-        complaint.or_else(|| (!self.holds(hall.table())).then_some(Complaint::Table)).or(wrong).or(marked)
+        let tally = self.ledger.after(&made, reply, hall).map(|wrong| match wrong {
+            ledger::Wrong::Counts => Complaint::Counts,
+            ledger::Wrong::Sum => Complaint::Sum,
+            ledger::Wrong::Full => Complaint::Full,
+        });
+        complaint.or_else(|| (!self.holds(hall.table())).then_some(Complaint::Table)).or(wrong).or(marked).or(tally)
     }
 
     fn feed(&mut self, call: &Call, reply: Reply, hall: &Hall) -> Option<Complaint> {

@@ -117,12 +117,18 @@ impl Mixing {
 
     /// Fills the table to 2,048 records and stays there.
     pub fn filling(rng: &mut Rng) -> Mixing {
-        let mut mixing = Mixing::new(1 + rng.below(2), 0, 14, [1, 12, 1]);
+        // with one column it is full after half as many calls
+        let mut mixing = Mixing::new(rng.pick(&[1, 1, 1, 1, 1, 1, 1, 2]), 0, 14, [1, 12, 1]);
         mixing.zeros = 0;
         (mixing.band, mixing.settles) = (2048, true);
         mixing.before_drain = 30_000;
         mixing.abandonings = 40;
         mixing
+    }
+
+    /// It is to fill the table.
+    pub fn fills(&self) -> bool {
+        self.settles
     }
 
     /// Twelve writers on the same nodes.

@@ -1,27 +1,49 @@
-//! A hall: the four memories and the tray, each of its own length, and what a place in them is called. Leans on the twin's layout.
+//! A hall: the four memories and the tray, each of its own length, the tally, and what a place in them is called. Leans on the twin's layout.
 
 use crate::side::Lent;
 use twin::layout::*;
 
 pub const LEAST: [usize; 4] = [TABLE_LEAST, NODES_LEAST, ANSWERS_LEAST, CLIENTS_LEAST];
-pub const MEMORY_NAMES: [&str; 5] = ["table", "nodes", "answers", "desks", "tray"];
+pub const MEMORY_NAMES: [&str; 6] = ["table", "nodes", "answers", "desks", "tray", "tally"];
+/// The places of the tray and of the tally among the memories.
+pub const TRAY: usize = 4;
+pub const TALLY: usize = 5;
 
-/// The memories in their order: table, nodes, answers, clients (the desks), tray.
+/// The counts of a tally (document 02, S-7).
+pub type Tally = [u32; COUNTS];
+pub const COUNT_NAMES: [&str; COUNTS] = [
+    "reads begun",
+    "reads answered from file",
+    "reads answered from the table",
+    "reads ended long",
+    "reads abandoned",
+    "writes begun",
+    "writes ended changed",
+    "writes ended unchanged",
+    "writes abandoned",
+];
+
+/// The memories in their order: table, nodes, answers, clients (the desks), tray; and last the tally, which only a call that is lent it sees.
 #[derive(Clone, PartialEq)]
 pub struct Hall {
-    pub memories: [Vec<u32>; 5],
+    pub memories: [Vec<u32>; 6],
 }
 
 impl Hall {
-    /// All 0; the tray is made anew for each step.
+    /// All 0, the tally too; the tray is made anew for each step.
     pub fn zeros(lengths: [usize; 4]) -> Hall {
         let [table, nodes, answers, clients] = lengths.map(|n| vec![0; n]);
-        Hall { memories: [table, nodes, answers, clients, Vec::new()] }
+        Hall { memories: [table, nodes, answers, clients, Vec::new(), vec![0; COUNTS]] }
     }
 
-    pub fn lend(&mut self) -> (Lent<'_>, &mut [u32]) {
-        let [table, nodes, answers, clients, tray] = &mut self.memories;
-        (Lent { table, nodes, answers, clients }, tray)
+    /// The four memories, the tray and the tally.
+    pub fn lend(&mut self) -> (Lent<'_>, &mut [u32], &mut Tally) {
+        let [table, nodes, answers, clients, tray, tally] = &mut self.memories;
+        (Lent { table, nodes, answers, clients }, tray, tally.first_chunk_mut().expect("a tally has all of its counts"))
+    }
+
+    pub fn tally(&self) -> &Tally {
+        self.memories[TALLY].first_chunk().expect("a tally has all of its counts")
     }
 
     pub fn table(&self) -> &[u32] {
@@ -68,7 +90,7 @@ impl Hall {
 
     /// The first place at which two halls differ.
     pub fn first_difference(&self, other: &Hall) -> Option<(usize, usize)> {
-        (0..5).find_map(|m| {
+        (0..MEMORY_NAMES.len()).find_map(|m| {
             let (left, right) = (&self.memories[m], &other.memories[m]);
             if left == right {
                 return None;
@@ -81,6 +103,9 @@ impl Hall {
 
 /// What stands at a place of a memory, in the words of docs/LAYOUT.md.
 pub fn describe(memory: usize, place: usize, k: u32) -> String {
+    if memory == TALLY {
+        return COUNT_NAMES[place].to_string();
+    }
     let least = if memory < 4 { LEAST[memory] } else { TRAY_LEAST };
     if place >= least {
         return "past the least length".to_string();

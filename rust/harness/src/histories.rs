@@ -6,6 +6,7 @@ use crate::check::{Checker, Complaint};
 use crate::draw::Mixing;
 use crate::filing::Sentence;
 use crate::hall::Hall;
+use crate::lend::Lending;
 use crate::rng::Rng;
 use crate::shrink::Script;
 use crate::side::Side;
@@ -43,6 +44,12 @@ pub struct Findings {
     pub not_filed: u64,
     /// nodes with a mark while every desk was idle; each ends its history
     pub marked: u64,
+    /// calls that were lent a tally; tallies that do not hold what the calls come to, sums that do not hold, 15 where it is not to be; each ends its
+    /// history
+    pub tallied: u64,
+    pub counts: u64,
+    pub sums: u64,
+    pub full: u64,
     /// the table memory, a step limit, an ending of nothing or one told wrongly, a count that ended with 12: each ends its history
     pub others: u64,
     /// the first complaint, with the history up to it
@@ -50,7 +57,22 @@ pub struct Findings {
 }
 
 impl Findings {
-    /// Every answer was right and on file as it should be, and nothing else was complained of, but for fetches, trays and marks.
+    fn add(&mut self, complaint: Complaint) {
+        let of = match complaint {
+            Complaint::Stale { .. } => &mut self.stale,
+            Complaint::NotFetched { .. } => &mut self.not_fetched,
+            Complaint::Tray { .. } => &mut self.trays,
+            Complaint::NotFiled { .. } => &mut self.not_filed,
+            Complaint::Marked => &mut self.marked,
+            Complaint::Counts => &mut self.counts,
+            Complaint::Sum => &mut self.sums,
+            Complaint::Full => &mut self.full,
+            _ => &mut self.others,
+        };
+        *of += 1;
+    }
+
+    /// Every answer was right and on file as it should be, and nothing else was complained of, but for fetches, trays, marks and tallies.
     pub fn is_otherwise_true(&self) -> bool {
         self.stale + self.not_filed + self.others == 0
     }
@@ -76,50 +98,47 @@ pub fn check_alone_by(sentence: Sentence, side: &dyn Side, seed: u64, total: u64
 }
 
 fn one_history((side, mut checker): (&dyn Side, Checker), rng: &mut Rng, mut mixing: Mixing, length: u64, findings: &mut Findings) {
-    let mut script = Script { start: start::noise(rng), calls: vec![Call::Open { k: mixing.k }] };
+    let lending = Lending::of_history(rng, mixing.fills());
+    let mut script = Script { start: start::noise(rng), calls: vec![Call::Open { k: mixing.k }.into()] };
+    lending.lay(rng, &mut script.start);
     let mut hall = script.start.clone();
     script.calls[0].make(side, &mut hall);
     for _ in 0..length {
-        let call = mixing.next(rng, &hall);
-        script.calls.push(call);
-        checker.before(&call, &hall);
-        let reply = call.make(side, &mut hall);
-        let complaint = checker.after(&call, reply, &hall);
+        let call = lending.other(rng).unwrap_or_else(|| mixing.next(rng, &hall));
+        let made = lending.made(rng, call);
+        script.calls.push(made);
+        checker.before(made, &hall);
+        let reply = made.make(side, &mut hall);
         findings.calls += 1;
-        if let Some(complaint) = complaint {
-            findings.first.get_or_insert_with(|| (script.clone(), complaint));
-            match complaint {
-                Complaint::Stale { .. } => findings.stale += 1,
-                Complaint::NotFetched { .. } => findings.not_fetched += 1,
-                Complaint::Tray { .. } => findings.trays += 1,
-                Complaint::NotFiled { .. } => findings.not_filed += 1,
-                Complaint::Marked => findings.marked += 1,
-                _ => findings.others += 1,
-            }
-            if !matches!(complaint, Complaint::Stale { .. } | Complaint::NotFetched { .. } | Complaint::Tray { .. }) {
-                break;
-            }
+        let Some(complaint) = checker.after(made, reply, &hall) else {
+            continue;
+        };
+        findings.first.get_or_insert_with(|| (script.clone(), complaint));
+        findings.add(complaint);
+        if !matches!(complaint, Complaint::Stale { .. } | Complaint::NotFetched { .. } | Complaint::Tray { .. }) {
+            break;
         }
     }
     findings.answers += checker.answers;
     findings.owed += checker.owed()[0];
+    findings.tallied += checker.tallied()[0];
 }
 
 /// The first complaint about a script that opens its hall: after which call, and which.
 pub fn complaint_in(side: &dyn Side, script: &Script) -> Option<(usize, Complaint)> {
     let mut hall: Hall = script.start.clone();
     let mut checker: Option<Checker> = None;
-    for (i, call) in script.calls.iter().enumerate() {
+    for (i, made) in script.calls.iter().enumerate() {
         if let Some(checker) = &mut checker {
-            checker.before(call, &hall);
+            checker.before(made, &hall);
         }
-        let reply = call.make(side, &mut hall);
-        match call {
-            Call::Open { k } if reply.number == 0 => checker = Some(Checker::opened(*k)),
+        let reply = made.make(side, &mut hall);
+        match made.call {
+            Call::Open { k } if reply.number == 0 => checker = Some(Checker::opened(k)),
             Call::Damage { .. } => checker = None,
             _ => {}
         }
-        if let Some(complaint) = checker.as_mut().and_then(|c| c.after(call, reply, &hall)) {
+        if let Some(complaint) = checker.as_mut().and_then(|c| c.after(made, reply, &hall)) {
             return Some((i, complaint));
         }
     }

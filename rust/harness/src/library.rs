@@ -1,6 +1,7 @@
 //! The library as one side of a comparison, through the safe crate over its exported interface. Leans on side and mondzafeky.
 
-use crate::call::Within;
+use crate::call::{Call, Within};
+use crate::hall::Tally;
 use crate::side::{Lent, Reply, Side};
 use mondzafeky::Memories;
 
@@ -51,4 +52,57 @@ impl Side for Library {
     fn renew(&self, m: Lent) -> Reply {
         plain(over(m).renew())
     }
+    fn tallied(&self, m: Lent, tray: &mut [u32], tally: &mut Tally, call: &Call) -> Reply {
+        let mut own = in_fields(tally);
+        let reply = tallied(&mut over(m), tray, &mut own, call);
+        *tally = in_a_row(&own);
+        plain(reply)
+    }
+}
+
+fn tallied(m: &mut Memories, tray: &mut [u32], tally: &mut mondzafeky::Tally, call: &Call) -> mondzafeky::Reply {
+    match call {
+        Call::BeginRead { client, asked } => m.begin_read_tallied(tally, *client, asked.words()),
+        Call::BeginCount { client, asked } => m.begin_count_tallied(tally, *client, asked.words()),
+        Call::BeginReadWithin { client, asked, within } => {
+            m.begin_read_within_tallied(tally, *client, asked.words(), within.column, within.lowest..=within.highest)
+        }
+        Call::BeginCountWithin { client, asked, within } => {
+            m.begin_count_within_tallied(tally, *client, asked.words(), within.column, within.lowest..=within.highest)
+        }
+        Call::BeginInsert { client, asked } => m.begin_insert_tallied(tally, *client, asked.words()),
+        Call::BeginDelete { client, asked } => m.begin_delete_tallied(tally, *client, asked.words()),
+        Call::Step { client, .. } => m.step_tallied(tray, tally, *client),
+        Call::Abandon { client } => m.abandon_tallied(tally, *client),
+        other => unreachable!("{other} is lent no tally"),
+    }
+}
+
+fn in_fields(counts: &Tally) -> mondzafeky::Tally {
+    let [reads_begun, from_file, from_table, ended_long, reads_abandoned, writes_begun, ended_changed, ended_unchanged, writes_abandoned] = *counts;
+    mondzafeky::Tally {
+        reads_begun,
+        from_file,
+        from_table,
+        ended_long,
+        reads_abandoned,
+        writes_begun,
+        ended_changed,
+        ended_unchanged,
+        writes_abandoned,
+    }
+}
+
+fn in_a_row(t: &mondzafeky::Tally) -> Tally {
+    [
+        t.reads_begun,
+        t.from_file,
+        t.from_table,
+        t.ended_long,
+        t.reads_abandoned,
+        t.writes_begun,
+        t.ended_changed,
+        t.ended_unchanged,
+        t.writes_abandoned,
+    ]
 }

@@ -1,5 +1,5 @@
-//! The command `harness`: compares the library with the twin, and checks demand 3 and demand 2's last sentence. Exit status: 0 nothing found
-//! (with --all-faults: every fault found; with --gate: every part passed), 1 a difference, 2 wrong arguments, 3 the checker complains, 4 a
+//! The command `harness`: compares the library with the twin, and checks demand 3, demand 2's last sentence and the tally. Exit status: 0 nothing
+//! found (with --all-faults: every fault found; with --gate: every part passed), 1 a difference, 2 wrong arguments, 3 the checker complains, 4 a
 //! fault was not found, 5 something that a long run must meet was not met, or a row of --limits is not as the documents have it.
 
 use harness::filing::Sentence;
@@ -7,7 +7,7 @@ use harness::histories::{check_alone, check_alone_by, Findings};
 use harness::library::Library;
 use harness::limits::run_limits;
 use harness::met::unmet;
-use harness::report::{grouped, print_complaint, print_failure, print_findings, print_tally};
+use harness::report::{grouped, print_account, print_complaint, print_failure, print_findings};
 use harness::run::Run;
 use harness::side::{fault_named, twin_with, Side, FAULTS};
 use harness::without_fetch::WithoutFetch;
@@ -24,7 +24,7 @@ const USAGE: &str = "usage: harness [--seed N] [--calls N] [--gate | --limits | 
   --limits       both sides of every limit of the documents, library and twin each held to its number; --verbose prints every row
   --fault NAME   build this fault into the twin: early-raise, back-at-one, one-bit, late-look, stacked, no-marks, one-key,
                  count-on-tray, plain-key, wide-range, taken-back, marks-left, zero-as-star, all-values, zero-unseen,
-                 always-raised, never-raised, full-raised
+                 always-raised, never-raised, full-raised, file-as-table, full-early, full-altered, begun-at-end
   --all-faults   each fault in turn; status 0 only if every one is found
   --check        run the checkers over the library's histories (the default); --no-check leaves them out
   --check-twin   histories of the twin alone (with its fault) under the checkers; nothing is compared
@@ -129,11 +129,11 @@ fn compared(options: &Options) -> (u8, Vec<String>) {
     let mut run = Run::new(sides[0], sides[1], options.seed, options.calls, options.check);
     let outcome = run.go();
     if !options.brief {
-        print_tally(&run.tally, options.check);
+        print_account(&run.account, options.check);
     }
     let status = match outcome {
         Ok(()) => {
-            println!("no difference{} in {} calls", if options.check { ", no complaint" } else { "" }, grouped(run.tally.calls));
+            println!("no difference{} in {} calls", if options.check { ", no complaint" } else { "" }, grouped(run.account.calls));
             0
         }
         Err(failure) => {
@@ -141,11 +141,11 @@ fn compared(options: &Options) -> (u8, Vec<String>) {
             if !options.brief {
                 print_failure(*failure, sides, ["library", "twin"]);
             }
-            println!("found after {} calls", grouped(run.tally.calls));
+            println!("found after {} calls", grouped(run.account.calls));
             status
         }
     };
-    (status, unmet(&run.tally))
+    (status, unmet(&run.account))
 }
 
 /// Both sides of every limit.
@@ -163,7 +163,7 @@ fn all_faults(options: &Options) -> u8 {
     for (name, fault) in FAULTS {
         let mut run = Run::new(&Library, twin_with(fault), options.seed, options.calls, false);
         let found = run.go().is_err();
-        let calls = grouped(run.tally.calls);
+        let calls = grouped(run.account.calls);
         println!("  {name:<14} {}", if found { format!("found after {calls} calls") } else { format!("NOT FOUND in {calls} calls") });
         missed += !found as u32;
     }
@@ -196,9 +196,9 @@ const WITH_FULL_TABLES: u64 = 200_000;
 type Tried = (&'static str, &'static dyn Side, fn(&Findings) -> bool);
 
 /// What the checkers should find in each side.
-fn tried() -> [Tried; 14] {
+fn tried() -> [Tried; 18] {
     [
-        ("the plain twin: nothing is found", twin_with(Fault::None), |f| f.first.is_none() && f.owed > 0),
+        ("the plain twin: nothing is found", twin_with(Fault::None), |f| f.first.is_none() && f.owed > 0 && f.tallied > 0),
         ("looks that see no marks: stale answers are found", twin_with(Fault::NoPending), |f| f.stale > 0),
         ("fetches that find no answer: not fetched is found", &WithoutFetch, |f| f.not_fetched > 0 && f.is_otherwise_true()),
         ("keys that do not tell a count from a list: answers that were not filed so are found", twin_with(Fault::OneKey), |f| f.not_filed > 0),
@@ -222,19 +222,35 @@ fn tried() -> [Tried; 14] {
             is_not_fetched_alone(f)
         }),
         ("writes that change the table and raise nothing: stale answers are found", twin_with(Fault::NeverRaised), |f| f.stale > 0),
+        ("answers from file that are counted as from the table: such tallies are found, and nothing else", twin_with(Fault::FileAsTable), |f| {
+            f.counts > 0 && is_true_but_for_tallies(f)
+        }),
+        ("reads that are counted as begun when they are over: such sums are found, and nothing but tallies", twin_with(Fault::BegunAtEnd), |f| {
+            f.sums > 0 && is_true_but_for_tallies(f)
+        }),
+        ("15 where a count is one below its largest: that is found, and nothing else", twin_with(Fault::FullEarly), |f| {
+            f.full > 0 && f.counts + f.sums == 0 && is_true_but_for_tallies(f)
+        }),
+        ("15 after the call has altered something: steps of what was never begun are found", twin_with(Fault::FullAltered), |f| f.others > 0),
     ]
 }
 
 fn is_not_fetched_alone(findings: &Findings) -> bool {
-    findings.not_fetched > 0 && findings.trays + findings.marked == 0 && findings.is_otherwise_true()
+    let tallies = findings.counts + findings.sums + findings.full;
+    findings.not_fetched > 0 && findings.trays + findings.marked + tallies == 0 && findings.is_otherwise_true()
+}
+
+fn is_true_but_for_tallies(findings: &Findings) -> bool {
+    findings.not_fetched + findings.trays + findings.marked == 0 && findings.is_otherwise_true()
 }
 
 /// The checkers find something where there is something, each its own: stale answers where looks pay no heed to marks, fetches that
 /// do not get the filed answer where none does, answers of the other wanting or of another range where a key does not tell it, trays
 /// that counts have written, records just outside a range, stale answers and marks for good where abandonings raise nothing, records with 0
 /// that only a star may find, lists that miss one where its insert was not seen, and fetches that do not get the filed answer where a write that
-/// changed nothing, or found no room, has raised. In the plain twin they find nothing; but they would, were demand 2's last sentence still of
-/// writes that meet the query, or did a write that changes nothing not count even while it is open.
+/// changed nothing, or found no room, has raised; tallies that are not what the calls come to, sums that leave out what is under way, and 15 where it
+/// is not to be or after something was altered. In the plain twin they find nothing; but they would, were demand 2's last sentence still of writes
+/// that meet the query, or did a write that changes nothing not count even while it is open.
 fn checkers(options: &Options) -> u8 {
     let calls = options.calls.min(CHECKED_ALONE);
     let mut missed = 0;

@@ -3,8 +3,10 @@
 use crate::call::{Ask, Call, KIND_NAMES};
 use crate::check::{Checker, Complaint};
 use crate::draw::{self, Mixing};
-use crate::hall::Hall;
+use crate::hall::{Hall, COUNT_NAMES};
 use crate::histories;
+use crate::lend::Lending;
+use crate::made::Made;
 use crate::rng::Rng;
 use crate::seen::{self, LIMITS};
 use crate::shrink::Script;
@@ -17,14 +19,14 @@ use std::time::{Duration, Instant};
 pub const SORTS: [(&str, i64); 5] =
     [("histories from an opening", 50), ("halls near a limit", 18), ("noise", 12), ("damaged halls", 14), ("lengths", 6)];
 
-/// The numbers that a call can return: 0 to 14, of which 7 is given no longer.
-pub const NUMBERS: usize = 15;
+/// The numbers that a call can return: 0 to 15, of which 7 is given no longer.
+pub const NUMBERS: usize = 16;
 
 /// How long a run says nothing.
 const PATIENCE: Duration = Duration::from_secs(8);
 
 /// What a run has done.
-pub struct Tally {
+pub struct Account {
     pub calls: u64,
     /// numbers compared, those of the replies too
     pub numbers: u64,
@@ -47,14 +49,19 @@ pub struct Tally {
     pub abandoned: [u64; 4],
     /// what the checker has met of the value 0
     pub zeros: Zeros,
+    /// of each count of the tally: how often it was raised to its largest, and how often it alone was there at a 15
+    pub counts: [[u64; 2]; COUNT_NAMES.len()],
+    /// calls that the checker has seen lent a tally, those of them that were 15; calls after which it held the sums with a read under way, and with
+    /// a write
+    pub tallied: [u64; 4],
     /// fetches that demand 2's last sentence owed the filed answer, those of them of reads begun before the filing read, those of counts,
     /// those of reads with a range, those that are owed since S-6 alone
     pub owed: [u64; 5],
 }
 
-impl Tally {
-    fn new() -> Tally {
-        Tally {
+impl Account {
+    fn new() -> Account {
+        Account {
             calls: 0,
             numbers: 0,
             damages: 0,
@@ -69,6 +76,8 @@ impl Tally {
             checked: [0; 4],
             abandoned: [0; 4],
             zeros: [0; zeros::MET.len()],
+            counts: [[0; 2]; COUNT_NAMES.len()],
+            tallied: [0; 4],
             owed: [0; 5],
         }
     }
@@ -84,17 +93,20 @@ pub struct Failure {
 type Outcome = Result<(), Box<Failure>>;
 
 /// A script that is being made on both sides.
-struct Made {
+struct Both {
     sort: usize,
+    lending: Lending,
     script: Script,
     left: Hall,
     right: Hall,
     checker: Option<Checker>,
 }
 
-impl Made {
-    fn new(sort: usize, start: Hall) -> Made {
-        Made { sort, left: start.clone(), right: start.clone(), script: Script { start, calls: Vec::new() }, checker: None }
+impl Both {
+    /// The start's tally is laid as it is to be lent.
+    fn new(sort: usize, lending: Lending, rng: &mut Rng, mut start: Hall) -> Both {
+        lending.lay(rng, &mut start);
+        Both { sort, lending, left: start.clone(), right: start.clone(), script: Script { start, calls: Vec::new() }, checker: None }
     }
 
     fn failure(&mut self, complaint: Option<Complaint>) -> Box<Failure> {
@@ -110,28 +122,28 @@ pub struct Run<'a> {
     check: bool,
     total: u64,
     way: usize,
-    pub tally: Tally,
+    pub account: Account,
 }
 
 impl<'a> Run<'a> {
     pub fn new(left: &'a dyn Side, right: &'a dyn Side, seed: u64, total: u64, check: bool) -> Run<'a> {
         let mut rng = Rng::new(seed);
         let way = rng.below(256) as usize;
-        Run { left, right, rng, check, total, way, tally: Tally::new() }
+        Run { left, right, rng, check, total, way, account: Account::new() }
     }
 
     /// Makes the calls; stops at the first difference, or at the checker's first complaint about the left side.
     pub fn go(&mut self) -> Outcome {
         let mut told = Instant::now();
-        while self.tally.calls < self.total {
+        while self.account.calls < self.total {
             if told.elapsed() > PATIENCE {
-                eprintln!("harness: {} of {} calls so far", self.tally.calls, self.total);
+                eprintln!("harness: {} of {} calls so far", self.account.calls, self.total);
                 told = Instant::now();
             }
-            let calls = self.tally.calls as i64;
-            let due = |sort: &usize| SORTS[*sort].1 * calls - 100 * self.tally.calls_of_sort[*sort] as i64;
+            let calls = self.account.calls as i64;
+            let due = |sort: &usize| SORTS[*sort].1 * calls - 100 * self.account.calls_of_sort[*sort] as i64;
             let sort = (0..5).max_by_key(due).unwrap();
-            self.tally.scripts[sort] += 1;
+            self.account.scripts[sort] += 1;
             let done = match sort {
                 0 => self.history(),
                 1 => self.near_a_limit(),
@@ -139,103 +151,121 @@ impl<'a> Run<'a> {
                 3 => self.damaged(),
                 _ => self.lengths(),
             };
-            self.tally.calls_of_sort[sort] += self.tally.calls - calls as u64;
+            self.account.calls_of_sort[sort] += self.account.calls - calls as u64;
             done?;
         }
         Ok(())
     }
 
-    /// One call on both sides.
-    fn make(&mut self, made: &mut Made, call: Call) -> Outcome {
-        made.script.calls.push(call);
-        let before = seen::before(&call, &made.left);
-        if let Some(checker) = &mut made.checker {
-            checker.before(&call, &made.left);
+    /// One call on both sides, lent the tally or not.
+    fn make(&mut self, both: &mut Both, call: Call) -> Outcome {
+        let made = both.lending.made(&mut self.rng, call);
+        both.script.calls.push(made);
+        let (before, tally) = (seen::before(&call, &both.left), *both.left.tally());
+        if let Some(checker) = &mut both.checker {
+            checker.before(made, &both.left);
         }
-        let reply = call.make(self.left, &mut made.left);
-        let other = call.make(self.right, &mut made.right);
-        let Some(kind) = call.kind() else {
-            self.tally.damages += 1;
-            made.checker = None;
-            return Ok(());
-        };
-        self.tally.accepted_of_sort[made.sort] += matches!(reply.number, 0 | 12 | 13) as u64;
-        self.count(kind, reply, &made.left);
-        if reply != other || made.left != made.right {
-            return Err(made.failure(None));
+        let reply = made.make(self.left, &mut both.left);
+        let other = made.make(self.right, &mut both.right);
+        if let Call::Damage { .. } = call {
+            self.account.damages += 1;
+            both.checker = None;
         }
-        if let Some(limit) = seen::limit_met(&call, before, reply, &made.left) {
-            self.tally.limits[limit] += 1;
+        if let Some(kind) = made.kind() {
+            self.account.accepted_of_sort[both.sort] += matches!(reply.number, 0 | 12 | 13) as u64;
+            self.count(kind, reply, &both.left);
         }
-        self.checked(made, &call, reply)
+        if reply != other || both.left != both.right {
+            return Err(both.failure(None));
+        }
+        // one that is 15 meets no other limit
+        if let Some(limit) = seen::limit_met(&call, before, reply, &both.left).filter(|_| reply.number != 15) {
+            self.account.limits[limit] += 1;
+        }
+        if let Some((count, side)) = seen::count_met(&made, tally, reply, both.left.tally()) {
+            self.account.counts[count][side] += 1;
+        }
+        self.checked(both, &made, reply)
     }
 
     fn count(&mut self, kind: usize, reply: Reply, hall: &Hall) {
-        self.tally.calls += 1;
-        self.tally.calls_of_columns[hall.columns() as usize % 5] += (hall.columns() < 5) as u64;
-        self.tally.numbers += hall.size() as u64 + 3;
-        if let Some(count) = self.tally.outcomes[kind].get_mut(reply.number as usize) {
+        self.account.calls += 1;
+        self.account.calls_of_columns[hall.columns() as usize % 5] += (hall.columns() < 5) as u64;
+        self.account.numbers += hall.size() as u64 + 3;
+        if let Some(count) = self.account.outcomes[kind].get_mut(reply.number as usize) {
             *count += 1;
         }
-        if let Some(count) = self.tally.endings[kind].get_mut(reply.ending as usize) {
+        if let Some(count) = self.account.endings[kind].get_mut(reply.ending as usize) {
             *count += 1;
         }
     }
 
-    fn checked(&mut self, made: &mut Made, call: &Call, reply: Reply) -> Outcome {
+    fn checked(&mut self, both: &mut Both, made: &Made, reply: Reply) -> Outcome {
         if !self.check {
             return Ok(());
         }
-        match call {
-            Call::Open { k } if reply.number == 0 => made.checker = Some(Checker::opened(*k)),
+        match made.call {
+            Call::Open { k } if reply.number == 0 => both.checker = Some(Checker::opened(k)),
             _ => {}
         }
-        let Some(checker) = &mut made.checker else {
+        let Some(checker) = &mut both.checker else {
             return Ok(());
         };
-        let (seen, abandoned, zeros, owed) = (checker.seen(), checker.abandoned, checker.zeros, checker.owed());
-        let complaint = checker.after(call, reply, &made.left);
-        add(&mut self.tally.checked, checker.seen(), seen);
-        add(&mut self.tally.abandoned, checker.abandoned, abandoned);
-        add(&mut self.tally.zeros, checker.zeros, zeros);
-        add(&mut self.tally.owed, checker.owed(), owed);
+        let (seen, abandoned, zeros, owed, tallied) = (checker.seen(), checker.abandoned, checker.zeros, checker.owed(), checker.tallied());
+        let complaint = checker.after(made, reply, &both.left);
+        add(&mut self.account.checked, checker.seen(), seen);
+        add(&mut self.account.abandoned, checker.abandoned, abandoned);
+        add(&mut self.account.zeros, checker.zeros, zeros);
+        add(&mut self.account.owed, checker.owed(), owed);
+        add(&mut self.account.tallied, checker.tallied(), tallied);
         match complaint {
-            Some(complaint) => Err(made.failure(Some(complaint))),
+            Some(complaint) => Err(both.failure(Some(complaint))),
             None => Ok(()),
         }
     }
 
-    fn mix(&mut self, made: &mut Made, mixing: &mut Mixing, length: u64) -> Outcome {
-        for _ in 0..length.min(self.total.saturating_sub(self.tally.calls)) {
-            let call = mixing.next(&mut self.rng, &made.left);
-            self.make(made, call)?;
+    fn mix(&mut self, both: &mut Both, mixing: &mut Mixing, length: u64) -> Outcome {
+        for _ in 0..length.min(self.total.saturating_sub(self.account.calls)) {
+            if let Some(other) = both.lending.other(&mut self.rng) {
+                self.make(both, other)?;
+            }
+            let call = mixing.next(&mut self.rng, &both.left);
+            self.make(both, call)?;
         }
         Ok(())
     }
 
+    /// A script of this sort that starts here.
+    fn starts(&mut self, sort: usize, lending: Lending, start: Hall) -> Both {
+        Both::new(sort, lending, &mut self.rng, start)
+    }
+
     /// From memories of any contents, opened, and the checker with it.
     fn history(&mut self) -> Outcome {
-        let (mut mixing, length) = histories::mixing(&mut self.rng, self.tally.scripts[0], self.total);
-        let mut made = Made::new(0, start::noise(&mut self.rng));
-        self.make(&mut made, Call::Open { k: mixing.k })?;
-        self.mix(&mut made, &mut mixing, length)
+        let (mut mixing, length) = histories::mixing(&mut self.rng, self.account.scripts[0], self.total);
+        let (lending, start) = (Lending::of_history(&mut self.rng, mixing.fills()), start::noise(&mut self.rng));
+        let mut both = self.starts(0, lending, start);
+        self.make(&mut both, Call::Open { k: mixing.k })?;
+        self.mix(&mut both, &mut mixing, length)
     }
 
     fn near_a_limit(&mut self) -> Outcome {
-        let mut made = Made::new(1, start::near_limits(&mut self.rng));
-        let mut mixing = Mixing::in_hall(&mut self.rng, &made.left);
+        let start = start::near_limits(&mut self.rng);
+        let mut both = self.starts(1, Lending::Mixed, start);
+        let mut mixing = Mixing::in_hall(&mut self.rng, &both.left);
         let length = 20 + self.rng.below(200) as u64;
-        self.mix(&mut made, &mut mixing, length)
+        self.mix(&mut both, &mut mixing, length)
     }
 
     fn noise(&mut self) -> Outcome {
-        let mut made = Made::new(2, start::any_noise(&mut self.rng));
+        let start = start::any_noise(&mut self.rng);
+        let mut both = self.starts(2, Lending::Mixed, start);
         if self.rng.chance(1, 4) {
-            self.make(&mut made, Call::Renew)?;
+            self.make(&mut both, Call::Renew)?;
         }
         for _ in 0..1 + self.rng.below(12) {
-            let call = draw::any_call(&mut self.rng, &made.left);
-            self.make(&mut made, call)?;
+            let call = draw::any_call(&mut self.rng, &both.left);
+            self.make(&mut both, call)?;
         }
         Ok(())
     }
@@ -243,26 +273,27 @@ impl<'a> Run<'a> {
     /// A history; then again and again one to three numbers are changed, calls are made, and half of the time the numbers are
     /// put back so that the hall does not only turn everything down.
     fn damaged(&mut self) -> Outcome {
-        let mut made = Made::new(3, start::noise(&mut self.rng));
+        let start = start::noise(&mut self.rng);
+        let mut both = self.starts(3, Lending::Mixed, start);
         let mut mixing = if self.rng.chance(1, 2) { Mixing::tight(&mut self.rng) } else { Mixing::wide(&mut self.rng) };
-        self.make(&mut made, Call::Open { k: mixing.k })?;
+        self.make(&mut both, Call::Open { k: mixing.k })?;
         let length = 30 + self.rng.below(300) as u64;
-        self.mix(&mut made, &mut mixing, length)?;
+        self.mix(&mut both, &mut mixing, length)?;
         for _ in 0..12 {
-            let damages: Vec<Call> = (0..1 + self.rng.below(3)).map(|_| start::damage(&mut self.rng, &made.left)).collect();
-            let repairs: Vec<Call> = damages.iter().map(|damage| repair(damage, &made.left)).collect();
-            self.make_all(&mut made, damages)?;
-            self.mix(&mut made, &mut mixing, 15)?;
+            let damages: Vec<Call> = (0..1 + self.rng.below(3)).map(|_| start::damage(&mut self.rng, &both.left)).collect();
+            let repairs: Vec<Call> = damages.iter().map(|damage| repair(damage, &both.left)).collect();
+            self.make_all(&mut both, damages)?;
+            self.mix(&mut both, &mut mixing, 15)?;
             if self.rng.chance(3, 4) {
-                self.make_all(&mut made, repairs)?;
+                self.make_all(&mut both, repairs)?;
             }
         }
         Ok(())
     }
 
-    fn make_all(&mut self, made: &mut Made, calls: Vec<Call>) -> Outcome {
+    fn make_all(&mut self, both: &mut Both, calls: Vec<Call>) -> Outcome {
         for call in calls {
-            self.make(made, call)?;
+            self.make(both, call)?;
         }
         Ok(())
     }
@@ -271,33 +302,33 @@ impl<'a> Run<'a> {
     fn lengths(&mut self) -> Outcome {
         let way = self.way;
         self.way = (way + 1) % 256;
-        self.tally.ways[way] = true;
+        self.account.ways[way] = true;
         let mut start = start::near_limits(&mut self.rng);
         for (memory, length) in start.memories.iter_mut().zip(start::lengths(way)) {
             let fill = self.rng.any();
             memory.resize(length, fill);
             memory.shrink_to_fit();
         }
-        let mut made = Made::new(4, start);
-        let k = made.left.columns().clamp(1, 4);
+        let mut both = self.starts(4, Lending::Mixed, start);
+        let k = both.left.columns().clamp(1, 4);
         for step in 0..4 {
             let (client, fill) = (self.rng.below(12), self.rng.any());
-            self.make(&mut made, Call::Step { client, tray: [0, 127, 128, 129][step], fill })?;
+            self.make(&mut both, Call::Step { client, tray: [0, 127, 128, 129][step], fill })?;
         }
         let (client, asked) = (self.rng.below(12), draw::plain_query(&mut self.rng, k, 4, 16));
         let ask = Ask { asked, counts: self.rng.chance(1, 2), within: None };
         let ranged = draw::with_range(&mut self.rng, k, ask, [1, 3]);
         for ask in [ask, ranged] {
-            self.make(&mut made, ask.begin(client))?;
-            self.make(&mut made, Ask { counts: !ask.counts, ..ask }.begin(client))?;
+            self.make(&mut both, ask.begin(client))?;
+            self.make(&mut both, Ask { counts: !ask.counts, ..ask }.begin(client))?;
         }
-        self.make(&mut made, Call::BeginInsert { client, asked })?;
-        self.make(&mut made, Call::BeginDelete { client, asked })?;
+        self.make(&mut both, Call::BeginInsert { client, asked })?;
+        self.make(&mut both, Call::BeginDelete { client, asked })?;
         // what else would be turned down, or not: 1 goes before it
-        let odd: Vec<Call> = (0..4).map(|_| draw::odd_call(&mut self.rng, &made.left, k)).collect();
-        self.make_all(&mut made, odd)?;
+        let odd: Vec<Call> = (0..4).map(|_| draw::odd_call(&mut self.rng, &both.left, k)).collect();
+        self.make_all(&mut both, odd)?;
         let rest = [Call::Abandon { client }, Call::EvictAnswer { place: 0 }, Call::EvictNode { place: 0 }, Call::Renew, Call::Open { k }];
-        self.make_all(&mut made, rest.to_vec())
+        self.make_all(&mut both, rest.to_vec())
     }
 }
 

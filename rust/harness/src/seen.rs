@@ -1,8 +1,10 @@
 //! Which limits of document 01, and of S-1, S-3, S-4 and S-6 in document 02, a run has met, on which side. It looks at one hall before and after a
-//! call; the other is the same. (What is met of the value 0, S-5, is told by zeros.) Leans on call, hall and the twin's layout, queries and ranges.
+//! call; the other is the same. And the limit of each count of a tally (S-7). (What is met of the value 0, S-5, is told by zeros.) Leans on call,
+//! made, hall and the twin's layout, queries and ranges.
 
 use crate::call::{Asked, Call, Within};
-use crate::hall::{Hall, LEAST};
+use crate::hall::{Hall, Tally, LEAST};
+use crate::made::Made;
 use crate::side::Reply;
 use twin::layout::*;
 use twin::query::{Label, Query};
@@ -245,6 +247,18 @@ fn edge(hall: &Hall, query: &Query) -> Option<usize> {
     let range = query.range?;
     let edges = [range.lowest.checked_sub(1), range.highest.checked_add(1), Some(range.lowest), Some(range.highest)];
     edges.iter().position(|edge| edge.is_some_and(|value| records(hall, query).any(|r| r[range.column as usize] == value)))
+}
+
+/// Which count of the tally the call has met the limit of: raised to its largest (0), or there alone at a 15 (1).
+pub fn count_met(made: &Made, before: Tally, reply: Reply, after: &Tally) -> Option<(usize, usize)> {
+    let is_full = |count: &u32| *count == u32::MAX;
+    if !made.tallied || reply.number == 15 && before.iter().copied().filter(is_full).count() > 1 {
+        return None;
+    }
+    if reply.number == 15 {
+        return before.iter().position(is_full).map(|count| (count, 1));
+    }
+    before.iter().zip(after).position(|(before, after)| !is_full(before) && is_full(after)).map(|count| (count, 0))
 }
 
 /// Which limit the call has met, as a place in `LIMITS`.

@@ -1,22 +1,23 @@
 //! Shortens what leads to a difference, so that a person can read it: calls are dropped and numbers set to 0 while it stays.
-//! Leans on call and hall.
+//! Leans on call, made and hall.
 
 use crate::call::Call;
-use crate::hall::Hall;
+use crate::hall::{Hall, TALLY};
+use crate::made::Made;
 use std::time::{Duration, Instant};
 
 /// Memories and the calls made on them.
 #[derive(Clone)]
 pub struct Script {
     pub start: Hall,
-    pub calls: Vec<Call>,
+    pub calls: Vec<Made>,
 }
 
 /// Shortens a script while `stays` holds of it, within the time given.
 pub fn shorten(script: Script, time: Duration, stays: &dyn Fn(&Script) -> bool) -> Script {
     let until = Instant::now() + time;
     let mut script = drop_calls(script, until, stays);
-    for memory in 0..4 {
+    for memory in [0, 1, 2, 3, TALLY] {
         zero_numbers(&mut script, memory, until, stays);
     }
     script = drop_calls(script, until, stays);
@@ -31,11 +32,11 @@ fn lower_places(script: &mut Script, until: Instant, stays: &dyn Fn(&Script) -> 
     let mut lowered = false;
     for i in 0..script.calls.len() {
         let old = script.calls[i];
-        let lower = move |place| match old {
-            Call::EvictAnswer { .. } => Call::EvictAnswer { place },
-            _ => Call::EvictNode { place },
+        let lower = move |place| match old.call {
+            Call::EvictAnswer { .. } => Made::from(Call::EvictAnswer { place }),
+            _ => Made::from(Call::EvictNode { place }),
         };
-        let (Call::EvictAnswer { place } | Call::EvictNode { place }) = old else {
+        let (Call::EvictAnswer { place } | Call::EvictNode { place }) = old.call else {
             continue;
         };
         let found = (0..place.min(1024)).take_while(|_| Instant::now() < until).find(|place| {

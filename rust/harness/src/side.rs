@@ -1,6 +1,8 @@
-//! One side of a comparison: the twelve calls, one method each. The twin with each fault is one. Leans on the twin, and on call for a range.
+//! One side of a comparison: the calls, one method each, and one for those that are lent a tally. The twin with each fault is one. Leans on the twin,
+//! and on call and hall for what is handed over.
 
-use crate::call::Within;
+use crate::call::{Call, Within};
+use crate::hall::Tally;
 use twin::{Fault, Memories};
 
 pub use twin::Reply;
@@ -27,6 +29,8 @@ pub trait Side {
     fn evict_answer(&self, m: Lent, place: u32) -> Reply;
     fn evict_node(&self, m: Lent, place: u32) -> Reply;
     fn renew(&self, m: Lent) -> Reply;
+    /// A begin, a step or an abandoning that is lent a tally; only a step uses the tray.
+    fn tallied(&self, m: Lent, tray: &mut [u32], tally: &mut Tally, call: &Call) -> Reply;
 }
 
 /// The twin, with a fault or none.
@@ -75,11 +79,29 @@ impl<const FAULT: u8> Side for Twin<FAULT> {
     fn renew(&self, m: Lent) -> Reply {
         Self::over(m).renew()
     }
+    fn tallied(&self, m: Lent, tray: &mut [u32], tally: &mut Tally, call: &Call) -> Reply {
+        let mut m = Self::over(m);
+        match call {
+            Call::BeginRead { client, asked } => m.begin_read_tallied(tally, *client, asked.words()),
+            Call::BeginCount { client, asked } => m.begin_count_tallied(tally, *client, asked.words()),
+            Call::BeginReadWithin { client, asked, within } => {
+                m.begin_read_within_tallied(tally, *client, asked.words(), within.column, within.lowest, within.highest)
+            }
+            Call::BeginCountWithin { client, asked, within } => {
+                m.begin_count_within_tallied(tally, *client, asked.words(), within.column, within.lowest, within.highest)
+            }
+            Call::BeginInsert { client, asked } => m.begin_insert_tallied(tally, *client, asked.words()),
+            Call::BeginDelete { client, asked } => m.begin_delete_tallied(tally, *client, asked.words()),
+            Call::Step { client, .. } => m.step_tallied(tray, tally, *client),
+            Call::Abandon { client } => m.abandon_tallied(tally, *client),
+            other => unreachable!("{other} is lent no tally"),
+        }
+    }
 }
 
-/// The faults by name; the first five are those of document 01, the last twelve of counts (S-1), of ranges (S-3), of abandonings (S-4), of the
-/// value 0 (S-5) and of writes that change nothing (S-6).
-pub const FAULTS: [(&str, Fault); 18] = [
+/// The faults by name; the first five are those of document 01, the last sixteen of counts (S-1), of ranges (S-3), of abandonings (S-4), of the
+/// value 0 (S-5), of writes that change nothing (S-6) and of the tally (S-7).
+pub const FAULTS: [(&str, Fault); 22] = [
     ("early-raise", Fault::EarlyRaise),
     ("back-at-one", Fault::BackAtOne),
     ("one-bit", Fault::OneBit),
@@ -98,6 +120,10 @@ pub const FAULTS: [(&str, Fault); 18] = [
     ("always-raised", Fault::AlwaysRaised),
     ("never-raised", Fault::NeverRaised),
     ("full-raised", Fault::FullRaised),
+    ("file-as-table", Fault::FileAsTable),
+    ("full-early", Fault::FullEarly),
+    ("full-altered", Fault::FullAltered),
+    ("begun-at-end", Fault::BegunAtEnd),
 ];
 
 pub fn fault_named(name: &str) -> Option<Fault> {
@@ -126,5 +152,9 @@ pub fn twin_with(fault: Fault) -> &'static dyn Side {
         Fault::AlwaysRaised => &Twin::<{ Fault::AlwaysRaised as u8 }>,
         Fault::NeverRaised => &Twin::<{ Fault::NeverRaised as u8 }>,
         Fault::FullRaised => &Twin::<{ Fault::FullRaised as u8 }>,
+        Fault::FileAsTable => &Twin::<{ Fault::FileAsTable as u8 }>,
+        Fault::FullEarly => &Twin::<{ Fault::FullEarly as u8 }>,
+        Fault::FullAltered => &Twin::<{ Fault::FullAltered as u8 }>,
+        Fault::BegunAtEnd => &Twin::<{ Fault::BegunAtEnd as u8 }>,
     }
 }

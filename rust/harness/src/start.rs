@@ -3,7 +3,7 @@
 
 use crate::call::Call;
 use crate::draw::plain_query;
-use crate::hall::{Hall, LEAST};
+use crate::hall::{Hall, LEAST, TALLY};
 use crate::rng::Rng;
 use twin::layout::*;
 use twin::query::{Label, Query};
@@ -361,8 +361,11 @@ fn set_revisions(rng: &mut Rng, hall: &mut Hall) {
     }
 }
 
-/// One number of a hall changed: in a header, in an entry that is in use, or anywhere.
+/// One number of a hall changed: in a header, in an entry that is in use, or anywhere; or a count of the tally.
 pub fn damage(rng: &mut Rng, hall: &Hall) -> Call {
+    if rng.chance(1, 16) {
+        return Call::Damage { memory: TALLY as u8, place: rng.below(COUNTS as u32), value: rng.pick(&[0, u32::MAX - 1, u32::MAX]) };
+    }
     let memory = rng.below(4) as usize;
     let used = match memory {
         0 => hall.get(0, COUNT).min(RECORDS as u32) * hall.columns().min(4),

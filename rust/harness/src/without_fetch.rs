@@ -1,7 +1,8 @@
 //! The plain twin with one fault of its own: no fetch finds a filed answer, and everything goes to the table. Every list is right, so
 //! demand 3 has nothing against it; demand 2's last sentence has. For trying that its checker finds this. Leans on side and hall's layout.
 
-use crate::call::Within;
+use crate::call::{Call, Within};
+use crate::hall::Tally;
 use crate::side::{twin_with, Lent, Reply, Side};
 use twin::layout::*;
 use twin::query::Query;
@@ -35,15 +36,8 @@ impl Side for WithoutFetch {
     fn begin_delete(&self, m: Lent, client: u32, query: &[u32]) -> Reply {
         plain().begin_delete(m, client, query)
     }
-    /// While a fetch is made, the count of filed answers is 0.
     fn step(&self, m: Lent, tray: &mut [u32], client: u32) -> Reply {
-        if !is_fetch(&m, client) {
-            return plain().step(m, tray, client);
-        }
-        let count = std::mem::replace(&mut m.answers[COUNT], 0);
-        let reply = plain().step(Lent { table: m.table, nodes: m.nodes, answers: m.answers, clients: m.clients }, tray, client);
-        m.answers[COUNT] = count;
-        reply
+        unfiled(m, client, |m| plain().step(m, tray, client))
     }
     fn abandon(&self, m: Lent, client: u32) -> Reply {
         plain().abandon(m, client)
@@ -57,6 +51,23 @@ impl Side for WithoutFetch {
     fn renew(&self, m: Lent) -> Reply {
         plain().renew(m)
     }
+    fn tallied(&self, m: Lent, tray: &mut [u32], tally: &mut Tally, call: &Call) -> Reply {
+        match call {
+            Call::Step { client, .. } => unfiled(m, *client, |m| plain().tallied(m, tray, tally, call)),
+            _ => plain().tallied(m, tray, tally, call),
+        }
+    }
+}
+
+/// A step; while a fetch is made, the count of filed answers is 0.
+fn unfiled(m: Lent, client: u32, step: impl FnOnce(Lent) -> Reply) -> Reply {
+    if !is_fetch(&m, client) {
+        return step(m);
+    }
+    let count = std::mem::replace(&mut m.answers[COUNT], 0);
+    let reply = step(Lent { table: m.table, nodes: m.nodes, answers: m.answers, clients: m.clients });
+    m.answers[COUNT] = count;
+    reply
 }
 
 /// In a hall that a history left: the desk reads and has made its looks.

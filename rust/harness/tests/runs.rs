@@ -18,8 +18,8 @@ const SHORTENING: Duration = Duration::from_secs(20);
 fn the_library_agrees_with_the_twin_and_a_short_run_meets_too_little() {
     let mut run = Run::new(&Library, twin_with(Fault::None), 9, 50_000, true);
     assert!(run.go().is_ok());
-    assert!(run.tally.calls >= 50_000 && run.tally.checked[0] > 500 && run.tally.checked[1] > 100);
-    let names = unmet(&run.tally);
+    assert!(run.account.calls >= 50_000 && run.account.checked[0] > 500 && run.account.checked[1] > 100);
+    let names = unmet(&run.account);
     assert!(names.iter().any(|name| name.starts_with("way of lengths not made")), "{names:?}");
     assert!(!names.iter().any(|name| name.contains("has returned")), "{names:?}");
 }
@@ -39,8 +39,8 @@ fn each_fault_is_found_and_shortened() {
     }
 }
 
-/// Each fault gives stale answers, but for the one whose counts are right and go to the tray, the one that leaves marks for good, and those that
-/// raise after no change: what is filed is not fetched then, nor is it where marks stay. A run of 200,000 calls fills tables.
+/// Each fault gives stale answers, but for the one whose counts are right and go to the tray, the one that leaves marks for good, those that raise
+/// after no change: what is filed is not fetched then, nor is it where marks stay; and those of the tally. A run of 200,000 calls fills tables.
 #[test]
 fn the_checker_finds_what_each_fault_does() {
     for (name, fault) in FAULTS {
@@ -48,8 +48,13 @@ fn the_checker_finds_what_each_fault_does() {
         let findings = check_alone(side, 5, if fault == Fault::FullRaised { 200_000 } else { 100_000 });
         let (tray, marks) = (fault == Fault::CountOnTray, fault == Fault::MarksLeft);
         let raised = [Fault::AlwaysRaised, Fault::FullRaised].contains(&fault);
+        let tallies = [Fault::FileAsTable, Fault::BegunAtEnd, Fault::FullEarly, Fault::FullAltered];
+        let of_tally = tallies.contains(&fault);
         let found = (findings.stale > 0, findings.trays > 0, findings.marked > 0);
-        assert_eq!(found, (!tray && !marks && !raised, tray, marks), "{name}: {} stale of {}", findings.stale, findings.answers);
+        assert_eq!(found, (!tray && !marks && !raised && !of_tally, tray, marks), "{name}: {} stale of {}", findings.stale, findings.answers);
+        let tallied = [findings.counts, findings.sums, findings.full, findings.others].into_iter().zip(tallies).find(|(_, own)| *own == fault);
+        assert!(tallied.is_none_or(|(times, _)| times > 0), "{name}");
+        assert!(of_tally || findings.counts + findings.sums + findings.full == 0, "{name}");
         assert!(findings.not_fetched > 0 || !marks && !raised, "{name}");
         let (script, _) = findings.first.unwrap();
         if fault == Fault::FullRaised {

@@ -1,5 +1,6 @@
 //! A hall that owns its memories and its tray, so that no memory can be exchanged for another and a call has only what it is about. Thin over the
-//! low calls of `Memories`: each method is one of them, with its reply as a `Result`. Leans on saved, outcome, abandoned, query and inspect.
+//! low calls of `Memories`: each method is one of them, with its reply as a `Result`; those with a tally are in tallied. Leans on saved, outcome,
+//! abandoned, query and inspect.
 use crate::inspect::Inspect;
 use crate::outcome::accepted;
 use crate::saved::{self, WrongLength};
@@ -132,17 +133,20 @@ impl Hall {
 
     /// One step of what is under way at `client`, the desk. Refusals: `Unsound`, `NoClient`, `Idle`.
     pub fn step(&mut self, client: u32) -> Result<Outcome<'_>, Refusal> {
-        let counts = self.counts(client);
-        let reply = saved::memories(&mut self.numbers).step(&mut self.tray, client);
-        self.outcome(reply, counts)
+        self.stepping(client, |memories, tray| memories.step(tray, client))
     }
 
     /// Steps a desk to the end of its read or write, or to the first step that is refused: at most 19 steps of a read, 33 of a write.
     /// [`Outcome::UnderWay`] is none of its outcomes. Refusals: as for a step.
     pub fn run(&mut self, client: u32) -> Result<Outcome<'_>, Refusal> {
+        self.stepping(client, |memories, tray| memories.run(tray, client))
+    }
+
+    /// What comes of steps at `client`, the desk.
+    pub(crate) fn stepping(&mut self, client: u32, steps: impl FnOnce(&mut Memories<'_>, &mut [u32]) -> Reply) -> Result<Outcome<'_>, Refusal> {
         let counts = self.counts(client);
-        let reply = saved::memories(&mut self.numbers).run(&mut self.tray, client);
-        self.outcome(reply, counts)
+        let reply = steps(&mut saved::memories(&mut self.numbers), &mut self.tray);
+        Outcome::of(reply, &self.tray, self.columns(), counts)
     }
 
     /// Whether a count is under way at `client`, the desk, by its key. Asked before a step, since the step that ends it leaves the desk idle.
@@ -150,10 +154,6 @@ impl Hall {
         let [_, _, _, clients] = saved::parts(&self.numbers);
         let key = layout::HEADER + layout::CLIENT_WIDTH * client as usize + layout::CLIENT_ENTRY;
         client < CLIENTS && layout::is_count(clients[key])
-    }
-
-    fn outcome(&self, reply: Reply, counts: bool) -> Result<Outcome<'_>, Refusal> {
-        Outcome::of(reply, &self.tray, self.columns(), counts)
     }
 
     /// Ends what is under way at `client`, the desk, in one call and at any time: for a bench that

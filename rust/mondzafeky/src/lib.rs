@@ -17,8 +17,8 @@
 //!
 //! # How to call it
 //!
-//! [`Hall`] owns its memories. A call that is turned down returns a [`Refusal`], 1 to 11 or 14 (7
-//! is unused), and has altered nothing. **12 and 13 are ends**, not refusals: the read found more
+//! [`Hall`] owns its memories. A call that is turned down returns a [`Refusal`], 1 to 11, 14 or 15
+//! (7 is unused), and has altered nothing. **12 and 13 are ends**, not refusals: the read found more
 //! than 32 records ([`Outcome::Long`]), the insert found the table full ([`Outcome::Full`]), and
 //! the desk is idle after them as after every other end ([`Outcome::has_ended`]). How many they are
 //! is told by a count ([`Hall::begin_count`], [`Outcome::Counted`]), which never ends with 12; a
@@ -35,6 +35,9 @@
 //! **0 means not measured.** A record may carry it, and inserting such a record again changes
 //! nothing. Naming 0 finds nothing, in a read, a count or a delete, and a range skips it, also one
 //! that begins at 0; a star finds it ([`Query`] has an example).
+//!
+//! **What filing saves** is counted in a [`Tally`], lent along with each begin, step and abandoning: the calls whose names end in `_tallied`. Its
+//! text is a small table with the share of reads answered from file.
 //!
 //! Calls are **indivisible towards each other, but not thread-safe**: steps of different desks may follow each other in any order, two calls at
 //! once on one hall may not. Where threads share a hall, put one lock (a `Mutex<Hall>`) around each call; it need not be held from a begin to
@@ -94,6 +97,8 @@ mod outcome;
 mod query;
 mod refusal;
 pub mod saved;
+mod tallied;
+mod tally;
 
 pub use abandoned::Abandoned;
 pub use calls::Reply;
@@ -102,6 +107,7 @@ pub use outcome::{Outcome, Records};
 pub use query::Query;
 pub use refusal::{NoRefusal, Refusal};
 use std::ops::RangeInclusive;
+pub use tally::Tally;
 
 /// The least length of the table memory, in 32-bit numbers, as of all that follow.
 pub const TABLE_LEAST: usize = 8_200;
@@ -124,7 +130,7 @@ pub const CLIENTS: u32 = 12;
 /// The most records that a read lists.
 pub const LIST: u32 = 32;
 
-/// The numbers that a call returns in [`Reply::number`]. 1 to 11, and 14, are refusals: no memory
+/// The numbers that a call returns in [`Reply::number`]. 1 to 11, 14 and 15 are refusals: no memory
 /// is altered. 7 is not among them: it is given no longer, and the number stays unused.
 pub mod number {
     pub use crate::names::{name, sentence};
@@ -160,6 +166,8 @@ pub mod number {
     pub const FULL: u32 = 13;
     /// The lowest value of a range is above its highest.
     pub const REVERSED: u32 = 14;
+    /// The call would raise a count of the lent tally that stands at 4,294,967,295: lend a new one.
+    pub const TALLY_FULL: u32 = 15;
 }
 
 /// What has ended, in [`Reply::ending`].
@@ -264,11 +272,16 @@ impl Memories<'_> {
     /// Steps a desk until its read or write has ended, or a step is refused: at most 33 steps on memories that a history of calls left. The last
     /// step's reply.
     pub fn run(&mut self, tray: &mut [u32], client: u32) -> Reply {
-        loop {
-            let reply = self.step(tray, client);
-            if reply.number != number::ACCEPTED || reply.ending != ending::NONE {
-                return reply;
-            }
+        last_of(|| self.step(tray, client))
+    }
+}
+
+/// The reply to the step that ends a run: an end or a refusal.
+pub(crate) fn last_of(mut step: impl FnMut() -> Reply) -> Reply {
+    loop {
+        let reply = step();
+        if reply.number != number::ACCEPTED || reply.ending != ending::NONE {
+            return reply;
         }
     }
 }

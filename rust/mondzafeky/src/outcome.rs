@@ -108,7 +108,7 @@ impl Reply {
         self.ending != ending::NONE || matches!(self.number, number::LONG | number::FULL)
     }
 
-    /// What the call was turned down with, if it was: 1 to 6, 8 to 11 or 14.
+    /// What the call was turned down with, if it was: 1 to 6, 8 to 11, 14 or 15.
     #[must_use]
     pub fn refusal(self) -> Option<Refusal> {
         Refusal::try_from(self.number).ok()

@@ -1,12 +1,13 @@
-//! What a call is turned down with: the numbers 1 to 6, 8 to 11 and 14, as an error. Leans on names
-//! and on the numbers in lib.
+//! What a call is turned down with: the numbers 1 to 6, 8 to 11, 14 and 15, as an error. Leans on
+//! names and on the numbers in lib.
 use crate::number;
 use std::error::Error;
 use std::fmt;
 
 /// A call was turned down and altered nothing. The first number that applies is given, in the order
-/// 1, 2, 14, 3, 4 and so on. 12 and 13 are not among these: they end a read or a write, and are
-/// [`crate::Outcome::Long`] and [`crate::Outcome::Full`]. 7 is given no longer and stays unused.
+/// 1, 2, 14, 3, 4 and so on; 15 comes after all others. 12 and 13 are not among these: they end a
+/// read or a write, and are [`crate::Outcome::Long`] and [`crate::Outcome::Full`]. 7 is given no
+/// longer and stays unused.
 ///
 /// ```
 /// let refusal = mondzafeky::Hall::open(5).unwrap_err();
@@ -41,11 +42,14 @@ pub enum Refusal {
     Occupied = number::OCCUPIED,
     /// 14: the lowest value of a range is above its highest, as in `9..=4`.
     Reversed = number::REVERSED,
+    /// 15: the call would raise a count of the lent tally that stands at 4,294,967,295. What is
+    /// under way stays as it is: make the call again, and lend it a new [`crate::Tally`].
+    TallyFull = number::TALLY_FULL,
 }
 
 impl Refusal {
     /// All of them, by their number.
-    pub const ALL: [Refusal; 11] = [
+    pub const ALL: [Refusal; 12] = [
         Refusal::Short,
         Refusal::Columns,
         Refusal::Unsound,
@@ -57,9 +61,10 @@ impl Refusal {
         Refusal::Worn,
         Refusal::Occupied,
         Refusal::Reversed,
+        Refusal::TallyFull,
     ];
 
-    /// The number that the call returned: 1 to 6, 8 to 11 or 14.
+    /// The number that the call returned: 1 to 6, 8 to 11, 14 or 15.
     #[must_use]
     pub fn number(self) -> u32 {
         self as u32
@@ -96,13 +101,13 @@ impl TryFrom<u32> for Refusal {
     }
 }
 
-/// A number that is no refusal's: none of 1 to 6, 8 to 11 and 14.
+/// A number that is no refusal's: none of 1 to 6, 8 to 11, 14 and 15.
 #[derive(Clone, Copy, Debug, PartialEq, Eq)]
 pub struct NoRefusal(pub u32);
 
 impl fmt::Display for NoRefusal {
     fn fmt(&self, f: &mut fmt::Formatter<'_>) -> fmt::Result {
-        write!(f, "{}, {}, is no refusal: those are 1 to 6, 8 to 11 and 14", self.0, number::name(self.0))
+        write!(f, "{}, {}, is no refusal: those are 1 to 6, 8 to 11, 14 and 15", self.0, number::name(self.0))
     }
 }
 

@@ -1,5 +1,5 @@
 //! The safe calls: short memories and senseless arguments are refused and alter nothing; a whole read, a whole count and a whole write.
-use mondzafeky::{ending, number, Memories, Reply, ANSWERS_LEAST, CLIENTS_LEAST, NODES_LEAST, TABLE_LEAST, TRAY_LEAST};
+use mondzafeky::{ending, number, Memories, Reply, Tally, ANSWERS_LEAST, CLIENTS_LEAST, NODES_LEAST, TABLE_LEAST, TRAY_LEAST};
 
 struct Owned {
     table: Vec<u32>,
@@ -39,9 +39,10 @@ fn refused(number: u32) -> Reply {
     Reply { number, count: 0, ending: 0 }
 }
 
-/// Every call on these memories, and its reply; those with a range have stars alone.
-fn every_call(m: &mut Memories<'_>, tray: &mut [u32], query: &[u32], n: u32) -> [Reply; 12] {
+/// Every call on these memories, and its reply; those with a range have stars alone, and those with a tally a cleared one.
+fn every_call(m: &mut Memories<'_>, tray: &mut [u32], query: &[u32], n: u32) -> [Reply; 20] {
     let stars = vec![0; query.len()];
+    let tally = &mut Tally::default();
     [
         m.open(n),
         m.begin_read(n, query),
@@ -55,6 +56,14 @@ fn every_call(m: &mut Memories<'_>, tray: &mut [u32], query: &[u32], n: u32) -> 
         m.evict_answer(n),
         m.evict_node(n),
         m.renew(),
+        m.begin_read_tallied(tally, n, query),
+        m.begin_count_tallied(tally, n, query),
+        m.begin_read_within_tallied(tally, n, &stars, 0, 4..=9),
+        m.begin_count_within_tallied(tally, n, &stars, 0, n..=9),
+        m.begin_insert_tallied(tally, n, query),
+        m.begin_delete_tallied(tally, n, query),
+        m.step_tallied(tray, tally, n),
+        m.abandon_tallied(tally, n),
     ]
 }
 

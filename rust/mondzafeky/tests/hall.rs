@@ -180,7 +180,8 @@ fn each_refusal_is_met_with_its_number() {
     let numbers: Vec<u32> = met.into_iter().map(Refusal::number).collect();
     assert_eq!(numbers, [2, 2, 1, 4, 6, 6, 8, 8, 5, 11, 9, 10, 3]);
     let all = Refusal::ALL.map(Refusal::number);
-    assert!(all.iter().all(|n| numbers.contains(n) || *n == number::REVERSED), "14 is met in tests/ranges.rs");
+    let elsewhere = [number::REVERSED, number::TALLY_FULL];
+    assert!(all.iter().all(|n| numbers.contains(n) || elsewhere.contains(n)), "14 is met in tests/ranges.rs, 15 in tests/tally.rs");
 }
 
 #[test]
@@ -204,9 +205,9 @@ fn refused_calls_alter_nothing() {
 
 #[test]
 fn refusals_have_numbers_words_and_sentences() {
-    let words = ["short", "columns", "unsound", "no desk", "taken", "idle", "no entry", "marked", "worn", "occupied", "reversed"];
+    let words = ["short", "columns", "unsound", "no desk", "taken", "idle", "no entry", "marked", "worn", "occupied", "reversed", "tally full"];
     // 7 is given no longer; 12 and 13 are ends.
-    let numbers = [1, 2, 3, 4, 5, 6, 8, 9, 10, 11, 14];
+    let numbers = [1, 2, 3, 4, 5, 6, 8, 9, 10, 11, 14, 15];
     assert_eq!(Refusal::ALL.map(Refusal::number), numbers);
     for ((refusal, n), word) in Refusal::ALL.into_iter().zip(numbers).zip(words) {
         assert_eq!((Refusal::try_from(n), refusal.name()), (Ok(refusal), word));
@@ -214,12 +215,12 @@ fn refusals_have_numbers_words_and_sentences() {
         assert_eq!((number::name(n), number::sentence(n)), (refusal.name(), refusal.sentence()));
         assert!(refusal.sentence().contains(';'), "what it means; what to do: {refusal}");
     }
-    for n in [0, 7, 12, 13, 15, u32::MAX] {
+    for n in [0, 7, 12, 13, 16, u32::MAX] {
         assert_eq!(Refusal::try_from(n), Err(NoRefusal(n)));
     }
-    assert_eq!(NoRefusal(13).to_string(), "13, full, is no refusal: those are 1 to 6, 8 to 11 and 14");
-    assert_eq!([0, 7, 12, 13, 15].map(number::name), ["accepted", "unknown", "long", "full", "unknown"]);
-    assert_eq!((number::sentence(7), number::sentence(15)), ("No call returns this number.", "No call returns this number."));
+    assert_eq!(NoRefusal(13).to_string(), "13, full, is no refusal: those are 1 to 6, 8 to 11, 14 and 15");
+    assert_eq!([0, 7, 12, 13, 15, 16].map(number::name), ["accepted", "unknown", "long", "full", "tally full", "unknown"]);
+    assert_eq!((number::sentence(7), number::sentence(16)), ("No call returns this number.", "No call returns this number."));
     assert_eq!(
         Refusal::Reversed.to_string(),
         "14, reversed: The lowest value of the range is above its highest; give the lower one first, and begin again."

@@ -1,6 +1,8 @@
-//! The header for C says the same as this crate: the calls, the words and sentences of the numbers, the version, the least lengths, the limits.
+//! The header for C says the same as this crate: the calls, the words and sentences of the numbers, the counts of a tally, the version, the least
+//! lengths, the limits.
 
-use mondzafeky::number;
+use mondzafeky::{number, Tally};
+use std::mem::{align_of, offset_of, size_of};
 
 const HEADER: &str = include_str!("../../../c/mondzafeky.h");
 const CALLS: &str = include_str!("../src/calls.rs");
@@ -29,12 +31,12 @@ fn literals(statement: &str) -> String {
 #[test]
 fn words_and_sentences_are_the_same() {
     let (words, sentences) = (strings_of("mondzafeky_name"), strings_of("mondzafeky_sentence"));
-    assert_eq!((words.len(), sentences.len()), (15, 15), "0 to 14 but 7, and what is none of them");
-    let in_order = (0..16).filter(|n| *n != 7);
+    assert_eq!((words.len(), sentences.len()), (16, 16), "0 to 15 but 7, and what is none of them");
+    let in_order = (0..17).filter(|n| *n != 7);
     for (n, (word, sentence)) in in_order.zip(words.iter().zip(&sentences)) {
         assert_eq!((word.as_str(), sentence.as_str()), (number::name(n), number::sentence(n)));
     }
-    assert_eq!((number::name(7), number::sentence(7)), (words[14].as_str(), sentences[14].as_str()));
+    assert_eq!((number::name(7), number::sentence(7)), (words[15].as_str(), sentences[15].as_str()));
 }
 
 /// What the header defines under this name.
@@ -61,6 +63,7 @@ fn numbers_are_the_same() {
         ("LONG", number::LONG),
         ("FULL", number::FULL),
         ("REVERSED", number::REVERSED),
+        ("TALLY_FULL", number::TALLY_FULL),
     ];
     for (name, number) in numbers {
         assert_eq!(defined(name), number.to_string(), "{name}");
@@ -75,7 +78,28 @@ fn numbers_are_the_same() {
 fn the_calls_are_the_same() {
     let declared: Vec<&str> = HEADER.lines().filter_map(|line| line.strip_prefix("mondzafeky_reply ")?.strip_suffix('(')).collect();
     let called: Vec<&str> = CALLS.lines().filter_map(|line| Some(line.strip_prefix("call!(")?.split_once(',')?.0)).collect();
-    assert_eq!((declared.len(), declared), (12, called));
+    assert_eq!((declared.len(), declared), (20, called));
+}
+
+/// The counts of a tally, in their order: nine numbers without a gap, by name in both.
+#[test]
+fn the_tally_is_the_same() {
+    let start = HEADER.find("uint32_t reads_begun;").unwrap();
+    let body = &HEADER[start..start + HEADER[start..].find("} mondzafeky_tally;").unwrap()];
+    let names: Vec<&str> = body.lines().filter_map(|line| line.trim().strip_prefix("uint32_t ")?.split_once(';')).map(|(name, _)| name).collect();
+    let places = [
+        ("reads_begun", offset_of!(Tally, reads_begun)),
+        ("from_file", offset_of!(Tally, from_file)),
+        ("from_table", offset_of!(Tally, from_table)),
+        ("ended_long", offset_of!(Tally, ended_long)),
+        ("reads_abandoned", offset_of!(Tally, reads_abandoned)),
+        ("writes_begun", offset_of!(Tally, writes_begun)),
+        ("ended_changed", offset_of!(Tally, ended_changed)),
+        ("ended_unchanged", offset_of!(Tally, ended_unchanged)),
+        ("writes_abandoned", offset_of!(Tally, writes_abandoned)),
+    ];
+    assert!(names.iter().enumerate().map(|(i, name)| (*name, 4 * i)).eq(places));
+    assert_eq!((size_of::<Tally>(), align_of::<Tally>()), (36, 4));
 }
 
 #[test]

@@ -67,3 +67,6 @@ pub const DELETE: u32 = 3;
 pub const TAG_VALUE: u32 = 1;
 pub const TAG_WILDCARD: u32 = 2;
 pub const TAG_ANY: u32 = 3;
+
+/// a tally: so many counts
+pub const COUNTS: usize = 9;

@@ -10,14 +10,16 @@ pub mod range;
 mod refusals;
 mod steps;
 pub mod table;
+mod tally;
 mod within;
 
 use layout::*;
 use query::Query;
 use range::Range;
+pub use tally::{Count, Tally};
 
-/// Document 01, "Faults a bench would show", and thirteen more: looks that pay no heed to marks, two each of counts, of ranges and of abandonings,
-/// three each of the value 0 and of writes that change nothing.
+/// Document 01, "Faults a bench would show", and seventeen more: looks that pay no heed to marks, two each of counts, of ranges and of abandonings,
+/// three each of the value 0 and of writes that change nothing, four of the tally.
 #[derive(Clone, Copy, PartialEq, Eq, Debug)]
 #[repr(u8)]
 pub enum Fault {
@@ -58,6 +60,14 @@ pub enum Fault {
     NeverRaised,
     /// a full table is taken for a change: its insert lifts its counters
     FullRaised,
+    /// an answer from file is counted in the tally as one from the table
+    FileAsTable,
+    /// 15 is given where the count is one below its largest too
+    FullEarly,
+    /// 15 is given after the call has altered what it alters
+    FullAltered,
+    /// a read is counted as begun when it is over, so that none is under way in the tally
+    BegunAtEnd,
 }
 
 /// The number for a plain twin, to be given as `Memories<'_, PLAIN>` where it is not the default.
@@ -75,7 +85,7 @@ pub struct Reply {
 impl Reply {
     const ACCEPTED: Reply = Reply::refused(0);
 
-    /// 1 to 14, which have no count, and of which 7 is given no longer; 0 where nothing ended.
+    /// 1 to 15, which have no count, and of which 7 is given no longer; 0 where nothing ended.
     const fn refused(number: u32) -> Reply {
         Reply { number, count: 0, ending: 0 }
     }

@@ -27,7 +27,7 @@ const MOST: u32 = u32::MAX;
 
 /// A write of each kind with each end, begun at desk 0; its nodes will be node 0, 1, .. 8 is the last column's value in the first record. And how
 /// many records there are after its table step.
-fn writes(k: u32) -> Vec<(Scene, Reply, [u32; 2])> {
+pub fn writes(k: u32) -> Vec<(Scene, Reply, [u32; 2])> {
     let (stars, one) = (query(k, 0, 0), |last| one_record(k, last));
     let writes = [
         (INSERT, one(7), 0, CHANGED, 1),

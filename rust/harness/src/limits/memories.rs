@@ -131,7 +131,7 @@ fn calls(k: u32) -> Vec<Row> {
 pub fn lengths(rows: &mut Vec<Row>, k: u32) {
     for row in calls(k) {
         // the tray is for a step only
-        let memories = if matches!(row.call, Call::Step { .. }) { 5 } else { 4 };
+        let memories = if matches!(row.call.call, Call::Step { .. }) { 5 } else { 4 };
         for memory in 0..memories {
             for length in [0, LEAST[memory] - 1] {
                 let mut lent = LEAST;

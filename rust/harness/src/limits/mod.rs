@@ -1,8 +1,8 @@
-//! Both sides of every limit of document 01, of S-1, S-3, S-4, S-5 and S-6 in document 02 and of every least length, as rows: a scene, a call, and
-//! what the documents have for it, with the words that give it. Library and twin are each held to that; neither is judged by the other, though
-//! their memories are compared too.
-//! scene: scenes and calls; memories, clients, arguments, steps, counts, nodes, abandonings, passes, ranges, reversed, held, zeros, unchanged: the
-//! rows. Leans on call, hall and side.
+//! Both sides of every limit of document 01, of S-1 and S-3 to S-7 in document 02 and of every least length, as rows: a scene, a call, and what the
+//! documents have for it, with the words that give it. Library and twin are each held to that; neither is judged by the other, though their memories
+//! are compared too.
+//! scene: scenes and calls; memories, clients, arguments, steps, counts, nodes, abandonings, passes, ranges, reversed, held, zeros, unchanged, tally:
+//! the rows. Leans on call, made, hall and side.
 
 mod abandonings;
 mod arguments;
@@ -16,11 +16,13 @@ mod ranges;
 mod reversed;
 mod scene;
 mod steps;
+mod tally;
 mod unchanged;
 mod zeros;
 
 use crate::call::Call;
 use crate::hall::{describe, Hall, MEMORY_NAMES};
+use crate::made::Made;
 use crate::report::{grouped, reply_text};
 use crate::side::{Reply, Side};
 use scene::*;
@@ -42,7 +44,7 @@ pub struct Row {
     pub scene: Scene,
     /// how long the memories are, and the tray of a step, when the call is made
     pub lent: [usize; 5],
-    pub call: Call,
+    pub call: Made,
     pub wanted: Reply,
     /// how many numbers the answer writes to the tray
     pub written: usize,
@@ -94,16 +96,18 @@ impl Row {
     pub fn run(&self, side: &dyn Side) -> Came {
         let mut hall = match self.scene.set_up(side) {
             Ok(hall) => hall,
-            Err(call) => return Came { reply: None, flaw: Some(format!("the scene's {call} was not accepted")), hall: Hall::zeros([0; 4]) },
+            Err(call) => {
+                return Came { reply: None, flaw: Some(format!("the scene's {call} did not come to what it is to")), hall: Hall::zeros([0; 4]) }
+            }
         };
         hall.memories.iter_mut().zip(self.lent).for_each(|(memory, length)| memory.truncate(length));
-        let mut call = self.call;
-        if let Call::Step { tray, .. } = &mut call {
+        let mut made = self.call;
+        if let Call::Step { tray, .. } = &mut made.call {
             *tray = self.lent[4] as u32;
         }
-        call.lay_tray(&mut hall);
+        made.call.lay_tray(&mut hall);
         let before = hall.clone();
-        let reply = call.make(side, &mut hall);
+        let reply = made.make(side, &mut hall);
         Came { reply: Some(reply), flaw: self.flaw(reply, &before, &hall), hall }
     }
 
@@ -115,8 +119,12 @@ impl Row {
             return Some(format!("{}: {}, the documents have {wanted}", self.named(*memory, *place), hall.get(*memory, *place)));
         }
         // "1 to 11, and any number that a later request adds to a call, alter no memory."
-        if (1..=11).contains(&self.wanted.number) || self.wanted.number == 14 {
+        if (1..=11).contains(&self.wanted.number) || [14, 15].contains(&self.wanted.number) {
             return before.first_difference(hall).map(|(memory, place)| format!("{}: altered by a refusal", self.named(memory, place)));
+        }
+        // a call that is lent no tally has none to write
+        if !self.call.tallied && before.tally() != hall.tally() {
+            return Some("a tally that was not lent: altered".to_string());
         }
         // "the rest of the tray keeps its contents"
         let mut rest = self.written..hall.tray().len();
@@ -183,6 +191,8 @@ const ZEROS: [Part; 9] =
     [zeros::named, zeros::ranges, zeros::beside_ranges, zeros::lengths, zeros::inserts, zeros::deletes, zeros::looks, zeros::shared, zeros::found];
 /// Of writes that change nothing (S-6).
 const UNCHANGING: [Part; 5] = [unchanged::raises, unchanged::read_beside, unchanged::seen, unchanged::counters, unchanged::unmarked];
+/// Of tallies (S-7).
+const TALLIES: [Part; 7] = [tally::begins, tally::answers, tally::abandoned_reads, tally::writes, tally::not_raised, tally::order, tally::unsound];
 /// Of the passes over records (S-2).
 const PASSES: [Part; 2] = [passes::places, passes::zeros];
 
@@ -191,7 +201,7 @@ pub fn rows() -> Vec<Row> {
     let mut rows = Vec::new();
     memories::columns(&mut rows);
     reversed::columns(&mut rows);
-    let parts = || PLAIN.iter().flatten().chain(&RANGES).chain(&ABANDONINGS).chain(&ZEROS).chain(&UNCHANGING).chain(&PASSES);
+    let parts = || PLAIN.iter().flatten().chain(&RANGES).chain(&ABANDONINGS).chain(&ZEROS).chain(&UNCHANGING).chain(&TALLIES).chain(&PASSES);
     (1..=4).for_each(|k| parts().for_each(|part| part(&mut rows, k)));
     let exact: Vec<Row> = rows.iter().filter(|row| row.lent == MORE).map(|row| row.clone().lent(LEAST)).collect();
     rows.extend(exact);

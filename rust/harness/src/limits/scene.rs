@@ -1,15 +1,16 @@
 //! What is done before a row's call, as data: calls and numbers put into memories that hold noise; and the calls of the rows.
-//! Leans on call and hall, and on the twin's layout for places alone: no length and no size is taken from there.
+//! Leans on call, made and hall, and on the twin's layout for places alone: no length and no size is taken from there.
 
 use super::{Limit, Row, MORE};
 use crate::call::{Ask, Asked, Call, Within};
 use crate::hall::Hall;
+use crate::made::Made;
 use crate::side::{Reply, Side};
 pub use twin::layout::{CLIENT_CHANGED, CLIENT_ENTRY, CLIENT_FULL, CLIENT_KIND, CLIENT_STEPS, CLIENT_WIDTH, ENTRY_LENGTH, ENTRY_LIST};
 pub use twin::layout::{COUNT_BIT, DELETE, ENTRY_REVISIONS, ENTRY_WIDTH, HEAD, INSERT, KEY_HIGHEST, KEY_LOWEST, NODE_PENDING, NODE_REVISION};
 pub use twin::layout::{NODE_WIDTH, RANGE_UNIT, READ, TAG_VALUE};
 
-/// A memory (0 table, 1 nodes, 2 answers, 3 desks, 4 tray) and a place in it.
+/// A memory (0 table, 1 nodes, 2 answers, 3 desks, 4 tray, 5 tally) and a place in it.
 pub type Place = (usize, usize);
 
 pub const RECORD_COUNT: Place = (0, 0);
@@ -106,7 +107,9 @@ pub fn abandon(client: u32) -> Call {
 #[derive(Clone)]
 enum Deed {
     /// a call that is to be accepted
-    Made(Call),
+    Made(Made),
+    /// a call that is to be refused with this number
+    Refused(Made, u32),
     /// n numbers from a place on, each `stride` places after the one before and greater by `more`
     Put { at: Place, stride: usize, n: u32, first: u32, more: u32 },
 }
@@ -126,8 +129,12 @@ impl Scene {
         Scene::noise(k).made(Call::Open { k })
     }
 
-    pub fn made(mut self, call: Call) -> Scene {
-        self.deeds.push(Deed::Made(call));
+    pub fn made(mut self, call: impl Into<Made>) -> Scene {
+        self.deeds.push(Deed::Made(call.into()));
+        self
+    }
+    pub fn refused(mut self, call: Made, number: u32) -> Scene {
+        self.deeds.push(Deed::Refused(call, number));
         self
     }
 
@@ -180,13 +187,13 @@ impl Scene {
     }
 
     /// A row: this scene and a call in it, `value` standing on one side of the limit.
-    pub fn row(&self, limit: Limit, value: u32, call: Call, wanted: Reply) -> Row {
+    pub fn row(&self, limit: Limit, value: u32, call: impl Into<Made>, wanted: Reply) -> Row {
         let written = (wanted.count * self.k) as usize;
-        Row { limit, value, scene: self.clone(), lent: MORE, call, wanted, written, after: Vec::new() }
+        Row { limit, value, scene: self.clone(), lent: MORE, call: call.into(), wanted, written, after: Vec::new() }
     }
 
-    /// The hall as one side's calls make it, or the call that this side did not accept.
-    pub fn set_up(&self, side: &dyn Side) -> Result<Hall, Call> {
+    /// The hall as one side's calls make it, or the call that this side did not accept, or not refuse as it is to be.
+    pub fn set_up(&self, side: &dyn Side) -> Result<Hall, Made> {
         let mut hall = Hall::zeros([MORE[0], MORE[1], MORE[2], MORE[3]]);
         for (i, number) in hall.memories.iter_mut().flatten().enumerate() {
             *number = (i as u32).wrapping_mul(2_654_435_769);
@@ -195,7 +202,8 @@ impl Scene {
             match *deed {
                 // "A call is accepted if it returns 0, 12 or 13."
                 Deed::Made(call) if ![0, 12, 13].contains(&call.make(side, &mut hall).number) => return Err(call),
-                Deed::Made(_) => {}
+                Deed::Refused(call, number) if call.make(side, &mut hall).number != number => return Err(call),
+                Deed::Made(_) | Deed::Refused(..) => {}
                 Deed::Put { at: (memory, place), stride, n, first, more } => {
                     (0..n).for_each(|i| hall.memories[memory][place + i as usize * stride] = first.wrapping_add(i.wrapping_mul(more)))
                 }

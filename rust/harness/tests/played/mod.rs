@@ -1,10 +1,11 @@
-//! A history of one side under the checkers, for the tests. Leans on call, check, hall and side.
+//! A history of one side under the checkers, for the tests. Leans on call, made, check, hall and side.
 // each test takes of it what it needs
 #![allow(dead_code)]
 
 use harness::call::Call;
 use harness::check::{Checker, Complaint};
 use harness::hall::{Hall, LEAST};
+use harness::made::Made;
 use harness::side::{Reply, Side};
 
 pub struct Played {
@@ -22,21 +23,23 @@ impl Played {
     }
 
     /// What the checkers say if something is done to a call's reply and to the hall after it.
-    pub fn bent(&mut self, call: Call, bend: impl Fn(&mut Reply, &mut Hall)) -> (Reply, Option<Complaint>) {
-        self.checker.before(&call, &self.hall);
-        let mut reply = call.make(self.side, &mut self.hall);
+    pub fn bent(&mut self, made: impl Into<Made>, bend: impl Fn(&mut Reply, &mut Hall)) -> (Reply, Option<Complaint>) {
+        let made = made.into();
+        self.checker.before(made, &self.hall);
+        let mut reply = made.make(self.side, &mut self.hall);
         bend(&mut reply, &mut self.hall);
-        (reply, self.checker.after(&call, reply, &self.hall))
+        (reply, self.checker.after(made, reply, &self.hall))
     }
 
-    pub fn tell(&mut self, call: Call) -> (Reply, Option<Complaint>) {
-        self.bent(call, |_, _| {})
+    pub fn tell(&mut self, made: impl Into<Made>) -> (Reply, Option<Complaint>) {
+        self.bent(made, |_, _| {})
     }
 
     /// A call that is accepted and not complained of.
-    pub fn make(&mut self, call: Call) -> Reply {
-        let (reply, complaint) = self.tell(call);
-        assert_eq!((reply.number, complaint), (0, None), "{call}");
+    pub fn make(&mut self, made: impl Into<Made>) -> Reply {
+        let made = made.into();
+        let (reply, complaint) = self.tell(made);
+        assert_eq!((reply.number, complaint), (0, None), "{made}");
         reply
     }
 
