@@ -10,16 +10,16 @@ use borrow.Author.Tests.{eqb-true, eqb-false, eq-eqb, ne-eqb}
 use Rattle.lists.specs.Lists.{without}
 use Rattle.laws.proofs.TestLaws.{byTest}
 use Rattle.query.specs.declared.Range.{Range}
-use Rattle.query.specs.Shape.{Shape, narrow}
+use Rattle.query.specs.Shape.{Shape}
 use Rattle.rules.specs.declared.Outcome.{Outcome}
 use Rattle.rules.specs.declared.Outcome.the-variants.{Refused, Accepted}
 use Rattle.rules.specs.Layout.{reads, inserts, deletes, firstFloor}
 use Rattle.rules.specs.Work.{Work, kindOf, changeKind, keyOf, workOf}
 use Rattle.rules.specs.Nodes.{store, evictNode}
 use Rattle.rules.specs.Client.{begun, idle}
-use Rattle.rules.specs.Memory.{Mem, mem, withClients, storeIn, withStore, answersIn, withAnswers, withClient, renewed}
+use Rattle.rules.specs.Memory.{current, Mem, mem, withNodes, withFiled, withClients, storeIn, withStore, answersIn, withAnswers, withClient, renewed}
 use Rattle.rules.specs.Outcome.{Result, result, resultWith}
-use Rattle.rules.specs.Refusals.{shape, client, stepCode, beginCode, abandonCode, evictAnswerCode, evictNodeCode, renewCode}
+use Rattle.rules.specs.Refusals.{form, shape, client, stepCode, beginCode, abandonCode, evictAnswerCode, evictNodeCode, renewCode}
 use Rattle.rules.specs.Steps.{nowAt, storeBack}
 use Rattle.rules.specs.Calls.{unless, beginResult, stepResult, abandonedOf, abandoned, abandonResult, evictAnswerResult, evictNodeResult, renewResult}
 use Rattle.rules.specs.History.{untrayed}
@@ -56,12 +56,12 @@ module _ (m : Mem) (d x : ℕ) (counts : Bool) (g : Range) (a : List ℕ) {r : B
   unfolding beginResult
   begin-refused h = refused m (beginCode m d (requestOf x counts g a)) (r .code) (f .code) _ h
 
-  pub begin-done : (s : List ℕ) → reads ≤ x → x ≤ deletes → r .code ≡ 0 → s ≡ withClient narrow (m .clients) d (begunWith x (r .key))
+  pub begin-done : (s : List ℕ) → reads ≤ x → x ≤ deletes → r .code ≡ 0 → s ≡ withClient (form m) (m .clients) d (begunWith x (r .key))
       → result Accepted (withClients m s) ≡ beginResult m d (requestOf x counts g a)
   unfolding beginResult nowAt
   begin-done s l o z e =
       let w : Work = workOf (shape m) (requestOf x counts g a) in
-      let y : begunWith x (r .key) ≡ begun narrow w =
+      let y : begunWith x (r .key) ≡ begun w =
       ap (λ (i : ℕ). begunWith i (r .key)) (sym (kind-is (shape m) x counts g a l o)) ∙ ap (begunWith (kindOf w)) (f .key (sym (f .code) ∙ z)) ∙ begun-with w in
       rw (e, y) (done m (beginCode m d (requestOf x counts g a)) (r .code) (f .code) _ z)
 
@@ -70,15 +70,14 @@ pub step-refused : (m : Mem) (tray : List ℕ) (d n : ℕ) → n ≡ stepCode m 
 unfolding stepResult
 step-refused m tray d n e h = rw (ne-eqb (stepCode m tray d) 0 (λ z. h (e ∙ z)), e)
 
-module _ (m : Mem) (d n : ℕ) (e : n ≡ abandonCode m d) where
-  pub abandon-refused : (n ≡ 0 → ⊥) → result (Refused n) m ≡ abandonResult m d
-  unfolding abandonResult
-  abandon-refused h = refused m (abandonCode m d) n e _ h
+pub abandon-refused : (m : Mem) (d n : ℕ) → n ≡ abandonCode m d → (n ≡ 0 → ⊥) → result (Refused n) m ≡ abandonResult m d
+unfolding abandonResult
+abandon-refused m d n e h = refused m (abandonCode m d) n e _ h
 
-  pub reader-gives-up : {h : Held} → n ≡ 0 → IsHeld h (m .clients) d → h .kind ≡ reads → (s : List ℕ) → s ≡ withClient narrow (m .clients) d (idle narrow)
-      → result Accepted (withClients m s) ≡ abandonResult m d
-  unfolding abandonResult unless abandoned abandonedOf nowAt
-  reader-gives-up z i x s g = rw (eq-eqb (abandonCode m d) 0 (sym e ∙ z), asks m d i x, g)
+pub reader-gives-up : (tb nd an cl : List ℕ) (d n : ℕ) → n ≡ abandonCode (mem tb nd an cl) d → {h : Held} → n ≡ 0 → IsHeld h cl d → h .kind ≡ reads
+    → (s : List ℕ) → s ≡ withClient current cl d idle → result Accepted (mem tb nd an s) ≡ abandonResult (mem tb nd an cl) d
+unfolding abandonResult unless abandoned abandonedOf nowAt
+reader-gives-up tb nd an cl d n e z i x s g = rw (eq-eqb (abandonCode (mem tb nd an cl) d) 0 (sym e ∙ z), asks tb nd an cl d i x, g)
 
 -- ---- Evictions and the renewal
 module _ (m : Mem) (n : ℕ) where
@@ -96,18 +95,18 @@ module _ (m : Mem) (n : ℕ) where
     unfolding evictCode
     node-code-is c = sym (rw c at e) ∙ z
 
-    pub answer-goes : k ≡ Answer → (s : List ℕ) → s ≡ withAnswers narrow (m .answers) (without i (answersIn narrow (m .answers)))
-        → result Accepted (mem (m .table) (m .nodes) s (m .clients)) ≡ evictResult m k i
+    pub answer-goes : k ≡ Answer → (s : List ℕ) → s ≡ withAnswers (form m) (m .answers) (without i (answersIn (form m) (m .answers)))
+        → result Accepted (withFiled m s) ≡ evictResult m k i
     unfolding evictResult evictAnswerResult
     answer-goes c s f = rw (c, f) (done m (evictAnswerCode m i) n (z ∙ sym (answer-code-is c)) _ z)
 
-    pub node-goes : k ≡ Node → (s : List ℕ) → s ≡ withStore narrow (m .nodes) (evictNode narrow i (storeIn narrow (m .nodes)))
-        → result Accepted (mem (m .table) s (m .answers) (m .clients)) ≡ evictResult m k i
+    pub node-goes : k ≡ Node → (s : List ℕ) → s ≡ withStore (form m) (m .nodes) (evictNode i (storeIn (form m) (m .nodes)))
+        → result Accepted (withNodes m s) ≡ evictResult m k i
     unfolding evictResult evictNodeResult storeBack
     node-goes c s f = rw (c, f) (done m (evictNodeCode m i) n (z ∙ sym (node-code-is c)) _ z)
 
-  pub renews : (s t : List ℕ) → n ≡ renewCode m → n ≡ 0 → s ≡ withStore narrow (m .nodes) (store firstFloor []) → t ≡ withAnswers narrow (m .answers) []
-      → result Accepted (mem (m .table) s t (m .clients)) ≡ renewResult m
+  pub renews : (s t : List ℕ) → n ≡ renewCode m → n ≡ 0 → s ≡ withStore (form m) (m .nodes) (store firstFloor []) → t ≡ withAnswers (form m) (m .answers) []
+      → result Accepted (withFiled (withNodes m s) t) ≡ renewResult m
   unfolding renewResult renewed
   renews s t e h f g = rw (f, g) (done m (renewCode m) n e _ h)
 

@@ -17,7 +17,7 @@ use Rattle.query.specs.declared.Range.the-variants.{None, Between}
 use Rattle.query.specs.Range.{isNamed, isRange, isReversed}
 use Rattle.query.specs.Query.{Query, naming}
 use Rattle.query.specs.Encoding.{columnOf, queryOf, isQuery, namesAll, recordOf, keyWords, wantedKey}
-use Rattle.query.specs.Shape.{Shape, shapeOf, maxColumns, narrow}
+use Rattle.query.specs.Shape.{Shape, shapeOf, maxColumns}
 use Rattle.query.proofs.EncodingLaws.{is-query-length}
 use Rattle.columns.specs.declared.Taken.{Taken}
 use Rattle.columns.specs.ColumnContracts.{four, takenOf}
@@ -30,7 +30,7 @@ use Rattle.rules.specs.Work.{askFault, keyOf, askKey, Request, readOf, insertOf
 use Rattle.rules.specs.Nodes.{isWorn}
 use Rattle.rules.specs.Client.{isIdle, isBad}
 use Rattle.rules.specs.Memory.{Mem, storeIn}
-use Rattle.rules.specs.Refusals.{shape, client, isShort, isUnsound, noClient, atClient, beginCode}
+use Rattle.rules.specs.Refusals.{form, shape, client, isShort, isUnsound, noClient, atClient, beginCode}
 use Rattle.rules.proofs.WorkLaws.{fault-none}
 use Rattle.rules.proofs.PassedChecks.{insert-good, begin-passed}
 use Rattle.checks.specs.declared.Begun.{Begun}
@@ -194,11 +194,11 @@ begin-found false false false true r = refl
 begin-found false false false false r = refl
 
 module _ (m : Mem) (d : ℕ) (r : Request) (n : ℕ) (f : n ≡ atClient m d) where
-  desk-rest : cond (eqb n 0) refusedTaken (cond (eqb n refusedIdle) (cond (isWrite r && isWorn narrow (shape m) (storeIn narrow (m .nodes))) refusedWorn 0) n) ≡ deskCode m d r
+  desk-rest : cond (eqb n 0) refusedTaken (cond (eqb n refusedIdle) (cond (isWrite r && isWorn (form m) (shape m) (storeIn (form m) (m .nodes))) refusedWorn 0) n) ≡ deskCode m d r
   unfolding deskCode atClient
   desk-rest = rw f
-      (sym (begin-found (isUnsound m) (noClient d) (isBad narrow (shape m) (client m d)) (isIdle narrow (client m d))
-      (cond (isWrite r && isWorn narrow (shape m) (storeIn narrow (m .nodes))) refusedWorn 0)))
+      (sym (begin-found (isUnsound m) (noClient d) (isBad (shape m) (client m d)) (isIdle (client m d))
+      (cond (isWrite r && isWorn (form m) (shape m) (storeIn (form m) (m .nodes))) refusedWorn 0)))
 
   pub desk-busy : n ≡ 0 → refusedTaken ≡ deskCode m d r
   desk-busy h = rw h at desk-rest
@@ -207,16 +207,16 @@ module _ (m : Mem) (d : ℕ) (r : Request) (n : ℕ) (f : n ≡ atClient m d) wh
   desk-other h g = rw (ne-eqb n 0 h, ne-eqb n refusedIdle g) at desk-rest
 
   module _ (g : n ≡ refusedIdle) where
-    desk-free : cond (isWrite r && isWorn narrow (shape m) (storeIn narrow (m .nodes))) refusedWorn 0 ≡ deskCode m d r
+    desk-free : cond (isWrite r && isWorn (form m) (shape m) (storeIn (form m) (m .nodes))) refusedWorn 0 ≡ deskCode m d r
     desk-free = rw g at desk-rest
 
     pub desk-read : isWrite r ≡ false → 0 ≡ deskCode m d r
     desk-read h = rw h at desk-free
 
-    pub desk-worn : isWrite r ≡ true → true ≡ isWorn narrow (shape m) (storeIn narrow (m .nodes)) → refusedWorn ≡ deskCode m d r
+    pub desk-worn : isWrite r ≡ true → true ≡ isWorn (form m) (shape m) (storeIn (form m) (m .nodes)) → refusedWorn ≡ deskCode m d r
     desk-worn h w = rw (h, ← w) at desk-free
 
-    pub desk-write : isWrite r ≡ true → false ≡ isWorn narrow (shape m) (storeIn narrow (m .nodes)) → 0 ≡ deskCode m d r
+    pub desk-write : isWrite r ≡ true → false ≡ isWorn (form m) (shape m) (storeIn (form m) (m .nodes)) → 0 ≡ deskCode m d r
     desk-write h w = rw (h, ← w) at desk-free
 
 -- ---- All of a begin
@@ -224,12 +224,12 @@ module _ (m : Mem) (d : ℕ) (x : Request) where
   turned-down : {r : Begun} → r .code ≡ beginCode m d x → (r .code ≡ 0 → ⊥) → BeginFound r m d x
   turned-down e h = record { code = e; key = λ z. absurd (h (e ∙ z)) }
 
-  pub begin-short : {r : Begun} → r .code ≡ refusedShort → true ≡ isShort narrow (shape m) m → BeginFound r m d x
+  pub begin-short : {r : Begun} → r .code ≡ refusedShort → true ≡ isShort (shape m) m → BeginFound r m d x
   unfolding beginCode
   begin-short e s = turned-down (e ∙ rw (← s)) (λ z. omega arith)
 
   -- r: what arrives, taken
-  module _ (s : false ≡ isShort narrow (shape m) m) {r : Begun} (q : Asked r (shape m) x) where
+  module _ (s : false ≡ isShort (shape m) m) {r : Begun} (q : Asked r (shape m) x) where
     pub begin-fault : (r .code ≡ 0 → ⊥) → BeginFound r m d x
     unfolding beginCode
     begin-fault h = turned-down (q .code ∙ rw (← s, ne-eqb (faultOf (shape m) x) 0 (λ z. h (q .code ∙ z)))) h

@@ -8,19 +8,20 @@ use lib.Dec.{eqb}
 use lib.ListN.{length, getD}
 use borrow.Author.Tests.{lt-ltb, le-ltb, le-leb, lt-leb, eq-eqb, ne-eqb}
 use Rattle.lists.specs.Lists.{allBelow}
-use Rattle.query.specs.Shape.{maxColumns, narrow}
+use Rattle.query.specs.Shape.{maxColumns}
 use Rattle.rules.specs.Layout.{maxRecords, maxNodes, maxAnswers, maxClients, trayLeast, recordCountOffset, nodeCountOffset, answerCountOffset}
 use Rattle.rules.specs.Layout.{columnsOffset, refusedShort, refusedUnsound, refusedNoClient, refusedIdle, refusedNoEntry}
 use Rattle.rules.specs.Layout.{refusedPending, refusedOccupied}
 use Rattle.rules.specs.Nodes.{isFree}
 use Rattle.rules.specs.Answers.{someLong}
 use Rattle.rules.specs.Client.{isBad}
-use Rattle.rules.specs.Memory.{Mem, shapeIn, clientIn, storeIn, answersIn}
-use Rattle.rules.specs.Refusals.{shape, client, isShort, badColumns, isUnsound, noClient, allIdle, atClient, stepCode, abandonCode}
+use Rattle.rules.specs.Memory.{current, Mem, mem, shapeIn, clientIn, storeIn, answersIn}
+use Rattle.rules.specs.Refusals.{form, shape, client, isShort, badColumns, isUnsound, noClient, allIdle, atClient, stepCode, abandonCode}
 use Rattle.rules.specs.Refusals.{evictAnswerCode, evictNodeCode, renewCode}
 use Rattle.nodes.proofs.NodeScans.{is-free-pending}
 use Rattle.clients.specs.declared.Held.{Held}
 use Rattle.clients.specs.ClientContracts.{IsHeld, idleAt}
+use Rattle.clients.proofs.ClientReads.{all-idle}
 use Rattle.clients.proofs.ClientSound.{kind-busy, none-idle}
 use Rattle.checks.specs.declared.Checked.{Checked}
 use Rattle.checks.specs.declared.Kept.{Kept}
@@ -53,37 +54,37 @@ module _ (m : Mem) where
           unfolding isUnsound badColumns
           unsound-answers e = rw (ne-eqb _ _ a, le-ltb _ _ b, le-ltb _ _ c, le-ltb _ _ d, lt-ltb _ _ e)
 
-          pub unsound-lists : (r : Bool) → getD (m .answers) answerCountOffset 0 ≤ maxAnswers → r ≡ someLong (answersIn narrow (m .answers)) → r ≡ isUnsound m
+          pub unsound-lists : (r : Bool) → getD (m .answers) answerCountOffset 0 ≤ maxAnswers → r ≡ someLong (answersIn (form m) (m .answers)) → r ≡ isUnsound m
           unfolding isUnsound badColumns
           unsound-lists r e f = rw (ne-eqb _ _ a, le-ltb _ _ b, le-ltb _ _ c, le-ltb _ _ d, le-ltb _ _ e, f)
 
-  pub sound-short : true ≡ isShort narrow (shape m) m → refusedShort ≡ soundCode m
+  pub sound-short : true ≡ isShort (shape m) m → refusedShort ≡ soundCode m
   unfolding soundCode
   sound-short a = rw (← a)
 
-  pub sound-not : false ≡ isShort narrow (shape m) m → true ≡ isUnsound m → refusedUnsound ≡ soundCode m
+  pub sound-not : false ≡ isShort (shape m) m → true ≡ isUnsound m → refusedUnsound ≡ soundCode m
   unfolding soundCode
   sound-not a b = rw (← a, ← b)
 
-  pub sound-fine : false ≡ isShort narrow (shape m) m → false ≡ isUnsound m → 0 ≡ soundCode m
+  pub sound-fine : false ≡ isShort (shape m) m → false ≡ isUnsound m → 0 ≡ soundCode m
   unfolding soundCode
   sound-fine a b = rw (← a, ← b)
 
 -- ---- What is found at a client
 -- by the client alone, of which h was read
 module _ {h : Held} {s : List ℕ} {d : ℕ} (i : IsHeld h s d) where
-  pub code-bad : true ≡ isBad narrow (shapeIn s) (clientIn narrow s d) → refusedUnsound ≡ clientCode s d
+  pub code-bad : true ≡ isBad (shapeIn s) (clientIn current s d) → refusedUnsound ≡ clientCode s d
   unfolding clientCode
   code-bad a = rw (← a)
 
-  module _ (a : false ≡ isBad narrow (shapeIn s) (clientIn narrow s d)) where
+  module _ (a : false ≡ isBad (shapeIn s) (clientIn current s d)) where
     pub code-idle : h .kind ≡ 0 → refusedIdle ≡ clientCode s d
     unfolding clientCode
     code-idle e = rw (← a, ← none-idle _ _ a (sym (i .kind) ∙ e))
 
     pub code-busy : (h .kind ≡ 0 → ⊥) → 0 ≡ clientCode s d
     unfolding clientCode
-    code-busy e = rw (← a, kind-busy (clientIn narrow s d) (λ z. e (i .kind ∙ z)))
+    code-busy e = rw (← a, kind-busy (clientIn current s d) (λ z. e (i .kind ∙ z)))
 
 -- a refusal hands nothing on
 pub refused-with : {r : Checked} {m : Mem} {d n : ℕ} (x : ℕ) → r .code ≡ x → (x ≡ 0 → ⊥) → x ≡ n → Found r m d n
@@ -98,35 +99,34 @@ module _ (m : Mem) (d : ℕ) where
   unfolding atClient
   client-unsound a = rw (← a)
 
-  module _ (a : false ≡ isUnsound m) where
-    pub client-none : maxClients ≤ d → refusedNoClient ≡ atClient m d
-    unfolding atClient noClient
-    client-none b = rw (← a, le-leb maxClients d b)
+  pub client-none : false ≡ isUnsound m → maxClients ≤ d → refusedNoClient ≡ atClient m d
+  unfolding atClient noClient
+  client-none a b = rw (← a, le-leb maxClients d b)
 
-    pub client-there : d < maxClients → (n : ℕ) → n ≡ clientCode (m .clients) d → n ≡ atClient m d
-    unfolding atClient noClient client clientCode
-    client-there b n e = rw (← a, lt-leb maxClients d b) e
+pub client-there : (tb nd an cl : List ℕ) (d : ℕ) → false ≡ isUnsound (mem tb nd an cl) → d < maxClients → (n : ℕ) → n ≡ clientCode cl d → n ≡ atClient (mem tb nd an cl) d
+unfolding atClient noClient client clientCode
+client-there tb nd an cl d a b n e = rw (← a, lt-leb maxClients d b) e
 
 -- ---- Steps and abandonings
 module _ (m : Mem) (tray : List ℕ) (d : ℕ) where
-  pub step-short : true ≡ isShort narrow (shape m) m → refusedShort ≡ stepCode m tray d
+  pub step-short : true ≡ isShort (shape m) m → refusedShort ≡ stepCode m tray d
   unfolding stepCode
   step-short s = rw (← s)
 
-  pub step-tray : false ≡ isShort narrow (shape m) m → length tray < trayLeast → refusedShort ≡ stepCode m tray d
+  pub step-tray : false ≡ isShort (shape m) m → length tray < trayLeast → refusedShort ≡ stepCode m tray d
   unfolding stepCode
   step-tray s t = rw (← s, lt-ltb _ _ t)
 
-  pub step-found : false ≡ isShort narrow (shape m) m → trayLeast ≤ length tray → atClient m d ≡ stepCode m tray d
+  pub step-found : false ≡ isShort (shape m) m → trayLeast ≤ length tray → atClient m d ≡ stepCode m tray d
   unfolding stepCode
   step-found s t = rw (← s, le-ltb _ _ t)
 
 module _ (m : Mem) (d : ℕ) where
-  pub abandon-short : true ≡ isShort narrow (shape m) m → refusedShort ≡ abandonCode m d
+  pub abandon-short : true ≡ isShort (shape m) m → refusedShort ≡ abandonCode m d
   unfolding abandonCode
   abandon-short s = rw (← s)
 
-  pub abandon-found : false ≡ isShort narrow (shape m) m → atClient m d ≡ abandonCode m d
+  pub abandon-found : false ≡ isShort (shape m) m → atClient m d ≡ abandonCode m d
   unfolding abandonCode
   abandon-found s = rw (← s)
 
@@ -145,7 +145,7 @@ module _ (s : List ℕ) (i : ℕ) where
   node-none l = rw (le-leb _ _ l)
 
   -- r: whether the node is free
-  module _ (l : i < getD s nodeCountOffset 0) (r : Bool) (e : r ≡ isFree (getD (storeIn narrow s .nodes) i [])) where
+  module _ (l : i < getD s nodeCountOffset 0) (r : Bool) (e : r ≡ isFree (getD (storeIn current s .nodes) i [])) where
     pub node-pending : not r ≡ true → refusedPending ≡ nodeCode s i
     unfolding nodeCode
     node-pending p = rw (lt-leb _ _ l, ← e, p)
@@ -160,14 +160,14 @@ module _ (m : Mem) (n : ℕ) (e : n ≡ soundCode m) where
   sound-first false true r = refl
   sound-first false false r = refl
 
-  sound-rest : (r : ℕ) → cond (isShort narrow (shape m) m) 1 (cond (isUnsound m) 3 r) ≡ cond (eqb n 0) r n
+  sound-rest : (r : ℕ) → cond (isShort (shape m) m) 1 (cond (isUnsound m) 3 r) ≡ cond (eqb n 0) r n
   unfolding soundCode
-  sound-rest r = rw e (sound-first (isShort narrow (shape m) m) (isUnsound m) r)
+  sound-rest r = rw e (sound-first (isShort (shape m) m) (isUnsound m) r)
 
-  sound-out : (r : ℕ) → (n ≡ 0 → ⊥) → n ≡ cond (isShort narrow (shape m) m) 1 (cond (isUnsound m) 3 r)
+  sound-out : (r : ℕ) → (n ≡ 0 → ⊥) → n ≡ cond (isShort (shape m) m) 1 (cond (isUnsound m) 3 r)
   sound-out r h = rw (sound-rest r, ne-eqb n 0 h)
 
-  sound-on : (r : ℕ) → n ≡ 0 → r ≡ cond (isShort narrow (shape m) m) 1 (cond (isUnsound m) 3 r)
+  sound-on : (r : ℕ) → n ≡ 0 → r ≡ cond (isShort (shape m) m) 1 (cond (isUnsound m) 3 r)
   sound-on r h = rw (sound-rest r, eq-eqb n 0 h)
 
   pub evict-out : (k : Kept) (i : ℕ) → (n ≡ 0 → ⊥) → n ≡ evictCode m k i
@@ -175,28 +175,28 @@ module _ (m : Mem) (n : ℕ) (e : n ≡ soundCode m) where
   evict-out Answer i h = sound-out _ h
   evict-out Node i h = sound-out _ h
 
-  module _ (h : n ≡ 0) (k : Kept) (i x : ℕ) where
-    pub evict-answer : k ≡ Answer → x ≡ answerCode (m .answers) i → x ≡ evictCode m k i
-    unfolding evictCode evictAnswerCode answerCode
-    evict-answer c f = rw c (f ∙ sound-on _ h)
-
-    pub evict-node : k ≡ Node → x ≡ nodeCode (m .nodes) i → x ≡ evictCode m k i
-    unfolding evictCode evictNodeCode nodeCode
-    evict-node c f = rw (c, is-free-pending) (f ∙ sound-on _ h)
+  pub evict-answer : n ≡ 0 → (k : Kept) (i x : ℕ) → k ≡ Answer → x ≡ answerCode (m .answers) i → x ≡ evictCode m k i
+  unfolding evictCode evictAnswerCode answerCode
+  evict-answer h k i x c f = rw c (f ∙ sound-on _ h)
 
   pub renew-out : (n ≡ 0 → ⊥) → n ≡ renewCode m
   unfolding renewCode
   renew-out h = sound-out _ h
 
-  module _ (h : n ≡ 0) (r : Bool) (f : r ≡ allBelow maxClients (idleAt (m .clients))) where
-    is-all : r ≡ allIdle m
-    unfolding allIdle idleAt client
-    is-all = f
+-- those that go by what is read of a memory in the current form
+module _ (tb nd an cl : List ℕ) (n : ℕ) (e : n ≡ soundCode (mem tb nd an cl)) (h : n ≡ 0) where
+  pub evict-node : (k : Kept) (i x : ℕ) → k ≡ Node → x ≡ nodeCode nd i → x ≡ evictCode (mem tb nd an cl) k i
+  unfolding evictCode evictNodeCode nodeCode
+  evict-node k i x c f = rw (c, is-free-pending) (f ∙ sound-on (mem tb nd an cl) n e _ h)
 
-    pub renew-busy : not r ≡ true → refusedOccupied ≡ renewCode m
-    unfolding renewCode
-    renew-busy g = rw (← is-all, g) (sound-on refusedOccupied h)
+  module _ (r : Bool) (f : r ≡ allBelow maxClients (idleAt cl)) where
+    is-all : r ≡ allIdle (mem tb nd an cl)
+    is-all = f ∙ sym (all-idle tb nd an cl)
 
-    pub renew-fine : not r ≡ false → 0 ≡ renewCode m
+    pub renew-busy : not r ≡ true → refusedOccupied ≡ renewCode (mem tb nd an cl)
     unfolding renewCode
-    renew-fine g = rw (← is-all, g) (sound-on 0 h)
+    renew-busy g = rw (← is-all, g) (sound-on (mem tb nd an cl) n e refusedOccupied h)
+
+    pub renew-fine : not r ≡ false → 0 ≡ renewCode (mem tb nd an cl)
+    unfolding renewCode
+    renew-fine g = rw (← is-all, g) (sound-on (mem tb nd an cl) n e 0 h)

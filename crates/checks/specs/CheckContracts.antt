@@ -7,14 +7,14 @@ use Prim.Native.Nat.{ℕ, _≤_}
 use lib.Dec.{eqb, leb}
 use lib.ListN.{getD}
 use Rattle.query.specs.declared.Range.{Range}
-use Rattle.query.specs.Shape.{Shape, narrow, maxColumns}
+use Rattle.query.specs.Shape.{Shape, maxColumns}
 use Rattle.rules.specs.Layout.{answerCountOffset, nodeCountOffset, reads, inserts, refusedShort, refusedUnsound, refusedNoClient, refusedTaken, refusedIdle}
 use Rattle.rules.specs.Layout.{refusedNoEntry, refusedPending, refusedWorn}
 use Rattle.rules.specs.Work.{keyOf, Request, readOf, insertOf, deleteOf, isWrite, workOf, faultOf}
 use Rattle.rules.specs.Nodes.{isWorn, isFree}
 use Rattle.rules.specs.Client.{isIdle, isBad}
-use Rattle.rules.specs.Memory.{Mem, shapeIn, clientIn, storeIn}
-use Rattle.rules.specs.Refusals.{shape, client, isShort, isUnsound, noClient, refuse, beginCode, evictAnswerCode, evictNodeCode}
+use Rattle.rules.specs.Memory.{current, Mem, shapeIn, clientIn, storeIn}
+use Rattle.rules.specs.Refusals.{form, shape, client, isShort, isUnsound, noClient, refuse, beginCode, evictAnswerCode, evictNodeCode}
 use Rattle.clients.specs.ClientContracts.{IsHeld}
 use Rattle.checks.specs.declared.Checked.{Checked}
 use Rattle.checks.specs.declared.Begun.{Begun}
@@ -23,13 +23,13 @@ use Rattle.checks.specs.declared.Kept.the-variants.{Answer, Node}
 
 -- 1 short or 3 unsound, by the four memories alone
 unfoldable pub soundCode : Mem → ℕ
-soundCode m = refuse (isShort narrow (shape m) m) refusedShort (refuse (isUnsound m) refusedUnsound 0)
+soundCode m = refuse (isShort (shape m) m) refusedShort (refuse (isUnsound m) refusedUnsound 0)
 
 -- ---- A client's desk
 -- 3 unsound or 6 idle, by the client alone
 unfoldable pub clientCode : List ℕ → ℕ → ℕ
 clientCode s d =
-    refuse (isBad narrow (shapeIn s) (clientIn narrow s d)) refusedUnsound (refuse (isIdle narrow (clientIn narrow s d)) refusedIdle 0)
+    refuse (isBad (shapeIn s) (clientIn current s d)) refusedUnsound (refuse (isIdle (clientIn current s d)) refusedIdle 0)
 
 -- r has the number n; where it is 0, r holds what was read of client d
 pub record Found (r : Checked) (m : Mem) (d n : ℕ) : Type 0 where
@@ -51,9 +51,9 @@ unfoldable pub deskCode : Mem → ℕ → Request → ℕ
 deskCode m d x =
     refuse (isUnsound m) refusedUnsound
     (refuse (noClient d) refusedNoClient
-    (refuse (isBad narrow (shape m) (client m d)) refusedUnsound
-    (refuse (not (isIdle narrow (client m d))) refusedTaken
-    (refuse (isWrite x && isWorn narrow (shape m) (storeIn narrow (m .nodes))) refusedWorn 0))))
+    (refuse (isBad (shape m) (client m d)) refusedUnsound
+    (refuse (not (isIdle (client m d))) refusedTaken
+    (refuse (isWrite x && isWorn (form m) (shape m) (storeIn (form m) (m .nodes))) refusedWorn 0))))
 
 -- r has the begin's number; where it is 0, r has the key that the client is to keep
 pub record BeginFound (r : Begun) (m : Mem) (d : ℕ) (x : Request) : Type 0 where
@@ -66,7 +66,7 @@ answerCode s i = refuse (leb (getD s answerCountOffset 0) i) refusedNoEntry 0
 
 unfoldable pub nodeCode : List ℕ → ℕ → ℕ
 nodeCode s i =
-    refuse (leb (getD s nodeCountOffset 0) i) refusedNoEntry (refuse (not (isFree (getD (storeIn narrow s .nodes) i []))) refusedPending 0)
+    refuse (leb (getD s nodeCountOffset 0) i) refusedNoEntry (refuse (not (isFree (getD (storeIn current s .nodes) i []))) refusedPending 0)
 
 unfoldable pub evictCode : Mem → Kept → ℕ → ℕ
 evictCode m Answer i = evictAnswerCode m i

@@ -9,7 +9,7 @@ ghost use mathlib.Core.Bool.{Bool, true, false};
 ghost use mathlib.Core.List.{List};
 ghost use Prim.Native.Nat.{ℕ, _≤_};
 ghost use lib.ListN.{length};
-ghost use Rattle.query.specs.Shape.{shapeOf, maxColumns, narrow};
+ghost use Rattle.query.specs.Shape.{shapeOf, maxColumns};
 ghost use Rattle.query.specs.Encoding.{isQuery};
 ghost use Rattle.query.specs.declared.Range.{Range};
 ghost use Rattle.rules.specs.Work.{askFault, readOf, insertOf, askOf};
@@ -22,7 +22,7 @@ ghost use Rattle.checks.specs.CheckContracts.{soundCode, clientCode, Fou
 // ---- The memories
 // Whether k, an entry count or a filed list's length is out of range. Reads each memory once.
 fn is_unsound(table: &[u32], nodes: &[u32], answers: &[u32], clients: &[u32]) -> bool
-    requires { ⌜ isShort narrow (shape (mem (now table) (now nodes) (now answers) (now clients))) (mem (now table) (now nodes) (now answers) (now clients)) ≡ false ⌝ }
+    requires { ⌜ isShort (shape (mem (now table) (now nodes) (now answers) (now clients))) (mem (now table) (now nodes) (now answers) (now clients)) ≡ false ⌝ }
     ensures { λ r. ⌜ r ≡ isUnsound (mem (now (table .entry)) (now (nodes .entry)) (now (answers .entry)) (now (clients .entry))) ⌝ }
 {
     let k = clients[Hall::COLUMNS_OFFSET];
@@ -97,7 +97,7 @@ fn client_code(clients: &[u32], d: usize, h: Held) -> u32
 
 // What a call finds at client d of long memories: 3 unsound, 4 no such client, 6 idle, 0 busy. The client is read here, once.
 fn at_client(table: &[u32], nodes: &[u32], answers: &[u32], clients: &[u32], d: u32) -> Checked
-    requires { ⌜ isShort narrow (shape (mem (now table) (now nodes) (now answers) (now clients))) (mem (now table) (now nodes) (now answers) (now clients)) ≡ false ⌝ }
+    requires { ⌜ isShort (shape (mem (now table) (now nodes) (now answers) (now clients))) (mem (now table) (now nodes) (now answers) (now clients)) ≡ false ⌝ }
     ensures { λ r. ⌜ Found r (mem (now (table .entry)) (now (nodes .entry)) (now (answers .entry)) (now (clients .entry))) d (atClient (mem (now (table .entry)) (now (nodes .entry)) (now (answers .entry)) (now (clients .entry))) d) ⌝ }
 {
     if is_unsound(table, nodes, answers, clients) {
@@ -214,7 +214,7 @@ fn desk_code(
     kind: u32,
     d: u32,
 ) -> u32
-    requires { ⌜ isShort narrow (shape (mem (now table) (now nodes) (now answers) (now clients))) (mem (now table) (now nodes) (now answers) (now clients)) ≡ false ⌝ }
+    requires { ⌜ isShort (shape (mem (now table) (now nodes) (now answers) (now clients))) (mem (now table) (now nodes) (now answers) (now clients)) ≡ false ⌝ }
     ensures { λ r. ⌜ ((counts : Bool) (range : Range) (a : List ℕ) → r ≡ deskCode (mem (now (table .entry)) (now (nodes .entry)) (now (answers .entry)) (now (clients .entry))) d (requestOf kind counts range a)) ⌝ }
 {
     let found = at_client(table, nodes, answers, clients, d);

@@ -9,9 +9,9 @@ use lib.Seq.{length-take-le, getD-take, getD-drop, drop-drop, take-take, drop-ap
 use borrow.Rule.Slice.PartMut.{putMid}
 use Rattle.lists.specs.Lists.{written}
 use Rattle.laws.proofs.WrittenLaws.{mid-written, drop-take, length-written, written-over, written-self, set-inside}
-use Rattle.rules.specs.Memory.{clientIn, withClient}
-use Rattle.query.specs.Shape.{narrow}
-use Rattle.rules.specs.Layout.{maxClients, clientWidth, clientOffset}
+use Rattle.rules.specs.Client.{kind}
+use Rattle.rules.specs.Memory.{current, clientIn, withClient}
+use Rattle.rules.specs.Layout.{maxClients, kindOffset, clientWidth, clientOffset}
 use Rattle.rules.proofs.ClientLaws as rules
 use Rattle.clients.specs.ClientContracts.{Fit}
 
@@ -43,50 +43,55 @@ part-cleared s at end n t e h k =
 
 -- ---- what is read
 module _ (s : List ℕ) (d : ℕ) where
-  pub word-at : (j : ℕ) → j < clientWidth narrow → getD (clientIn narrow s d) j 0 ≡ getD s (clientOffset narrow d + j) 0
+  pub word-at : (j : ℕ) → j < clientWidth → getD (clientIn current s d) j 0 ≡ getD s (clientOffset current d + j) 0
   unfolding clientIn
-  word-at j h = getD-take (clientWidth narrow) (drop (clientOffset narrow d) s) j 0 h ∙ getD-drop (clientOffset narrow d) s j 0
+  word-at j h = getD-take clientWidth (drop (clientOffset current d) s) j 0 h ∙ getD-drop (clientOffset current d) s j 0
 
-  pub part-at : (j n : ℕ) → j + n ≤ clientWidth narrow → take n (drop j (clientIn narrow s d)) ≡ take n (drop (clientOffset narrow d + j) s)
+  pub part-at : (j n : ℕ) → j + n ≤ clientWidth → take n (drop j (clientIn current s d)) ≡ take n (drop (clientOffset current d + j) s)
   unfolding clientIn
   part-at j n h =
-      ap (take n) (drop-take j (clientWidth narrow) (drop (clientOffset narrow d) s)) ∙ take-take n (clientWidth narrow - j) (drop j (drop (clientOffset narrow d) s)) (omega arith)
-      ∙ ap (take n) (drop-drop j (clientOffset narrow d) s)
+      ap (take n) (drop-take j clientWidth (drop (clientOffset current d) s)) ∙ take-take n (clientWidth - j) (drop j (drop (clientOffset current d) s)) (omega arith)
+      ∙ ap (take n) (drop-drop j (clientOffset current d) s)
+
+  -- its kind, for a reader of that number alone
+  pub kind-at : getD s (clientOffset current d + kindOffset) 0 ≡ kind (clientIn current s d)
+  unfolding kind
+  kind-at = sym (word-at kindOffset (omega arith))
 
 module _ (s : List ℕ) (d : ℕ) (f : Fit s d) where
-  pub client-room : clientOffset narrow d + clientWidth narrow ≤ length s
+  pub client-room : clientOffset current d + clientWidth ≤ length s
   client-room = omega arith
 
-  pub length-client : length (clientIn narrow s d) ≡ clientWidth narrow
-  length-client = rules.client-wide s d client-room
+  pub length-client : length (clientIn current s d) ≡ clientWidth
+  length-client = rules.client-wide current s d client-room
 
-  pub with-self : withClient narrow s d (clientIn narrow s d) ≡ s
+  pub with-self : withClient current s d (clientIn current s d) ≡ s
   unfolding clientIn withClient
-  with-self = written-self s (clientOffset narrow d) (clientWidth narrow) client-room
+  with-self = written-self s (clientOffset current d) clientWidth client-room
 
 -- ---- what a changed client leaves
-module _ (s : List ℕ) (d : ℕ) (f : Fit s d) (c : List ℕ) (n : length c ≡ clientWidth narrow) where
-  pub length-kept : length (withClient narrow s d c) ≡ length s
-  length-kept = rules.length-with s d c n (client-room s d f)
+module _ (s : List ℕ) (d : ℕ) (f : Fit s d) (c : List ℕ) (n : length c ≡ clientWidth) where
+  pub length-kept : length (withClient current s d c) ≡ length s
+  length-kept = rules.length-with current s d c n (client-room s d f)
 
-  pub fit-kept : (e : ℕ) → e < maxClients → Fit (withClient narrow s d c) e
+  pub fit-kept : (e : ℕ) → e < maxClients → Fit (withClient current s d c) e
   fit-kept e h = let l = length-kept in record { long = omega arith; below = h }
 
-  pub client-same : clientIn narrow (withClient narrow s d c) d ≡ c
-  client-same = rules.client-same s d c n (client-room s d f)
+  pub client-same : clientIn current (withClient current s d c) d ≡ c
+  client-same = rules.client-same current s d c n (client-room s d f)
 
-  pub client-other : (e : ℕ) → (e ≡ d → ⊥) → clientIn narrow (withClient narrow s d c) e ≡ clientIn narrow s e
-  client-other e h = rules.client-other s d c n (client-room s d f) e h
+  pub client-other : (e : ℕ) → (e ≡ d → ⊥) → clientIn current (withClient current s d c) e ≡ clientIn current s e
+  client-other e h = rules.client-other current s d c n (client-room s d f) e h
 
-  pub with-twice : (v : List ℕ) → length v ≡ clientWidth narrow → withClient narrow (withClient narrow s d c) d v ≡ withClient narrow s d v
+  pub with-twice : (v : List ℕ) → length v ≡ clientWidth → withClient current (withClient current s d c) d v ≡ withClient current s d v
   unfolding withClient
-  with-twice v m = written-over s (clientOffset narrow d) c v (omega arith) (omega arith)
+  with-twice v m = written-over s (clientOffset current d) c v (omega arith) (omega arith)
 
   -- one number more of it stored, and some
-  pub with-word : (j x : ℕ) → j < clientWidth narrow → set (withClient narrow s d c) (clientOffset narrow d + j) x ≡ withClient narrow s d (set c j x)
+  pub with-word : (j x : ℕ) → j < clientWidth → set (withClient current s d c) (clientOffset current d + j) x ≡ withClient current s d (set c j x)
   unfolding withClient
-  with-word j x h = sym (set-inside s (clientOffset narrow d) c j x (omega arith) (omega arith))
+  with-word j x h = sym (set-inside s (clientOffset current d) c j x (omega arith) (omega arith))
 
-  pub with-words : (j : ℕ) (v : List ℕ) → j + length v ≤ clientWidth narrow → written (withClient narrow s d c) (clientOffset narrow d + j) v ≡ withClient narrow s d (written c j v)
+  pub with-words : (j : ℕ) (v : List ℕ) → j + length v ≤ clientWidth → written (withClient current s d c) (clientOffset current d + j) v ≡ withClient current s d (written c j v)
   unfolding withClient
-  with-words j v h = written-inside s (clientOffset narrow d) c j v (omega arith) (omega arith)
+  with-words j v h = written-inside s (clientOffset current d) c j v (omega arith) (omega arith)

@@ -13,39 +13,40 @@ use Rattle.laws.proofs.ListLaws.{below-next, below-not}
 use Rattle.laws.proofs.WrittenLaws.{drop-take}
 use Rattle.rules.specs.Answers.{keyIn, lengthIn, isCount, mostIn, isLong}
 use Rattle.rules.specs.Client.{Client, entryOf, isIdle, idle, rangeAt}
-use Rattle.rules.specs.Memory.{Mem, clientIn}
+use Rattle.rules.specs.Memory.{current, mem, clientIn}
 use Rattle.rules.specs.Refusals.{client, allIdle}
 use Rattle.query.specs.declared.Range.{Range}
 use Rattle.query.specs.declared.Range.the-variants.{None, Between}
 use Rattle.query.specs.Range.{isRanged}
 use Rattle.query.specs.Encoding.{keyWidth, countBit, countsIn, rangeUnit, lowestOffset, highestOffset, rangeOf, rangeIn, unranged, bareKey}
-use Rattle.query.specs.Shape.{maxColumns, narrow}
+use Rattle.query.specs.Shape.{maxColumns}
 use Rattle.rules.specs.Layout.{maxRecords, maxClients, maxList, entryWidth, entryOffset, clientWidth, clientOffset, heldValuesOffset, heldLengthOffset}
 use Rattle.columns.specs.KeyContracts.{queryWidth}
 use Rattle.columns.proofs.KeyLoops.{bare-first}
 use Rattle.rules.proofs.ClientLaws.{key-wide}
+use Rattle.rules.proofs.ClientParts.{length-entry}
 use Rattle.clients.specs.ClientContracts.{Fit, plainKey, idleAt}
 use Rattle.clients.proofs.ClientMemory.{length-client, part-at}
 
 -- ---- idleness
-part-client : (s : List ℕ) (d : ℕ) → take (clientOffset narrow d + clientWidth narrow - (clientOffset narrow d)) (drop (clientOffset narrow d) s) ≡ clientIn narrow s d
+part-client : (s : List ℕ) (d : ℕ) → take (clientOffset current d + clientWidth - (clientOffset current d)) (drop (clientOffset current d) s) ≡ clientIn current s d
 unfolding clientIn
-part-client s d = let m : clientOffset narrow d + clientWidth narrow - (clientOffset narrow d) ≡ clientWidth narrow = omega arith in rw m
+part-client s d = let m : clientOffset current d + clientWidth - (clientOffset current d) ≡ clientWidth = omega arith in rw m
 
 module _ (s : List ℕ) (d : ℕ) where
   pub idle-read : (r : Bool) → Fit s d
-      → r ≡ same (take (clientOffset narrow d + clientWidth narrow - (clientOffset narrow d)) (drop (clientOffset narrow d) s)) (replicate (length (take (clientOffset narrow d + clientWidth narrow - (clientOffset narrow d)) (drop (clientOffset narrow d) s))) 0)
-      → r ≡ isIdle narrow (clientIn narrow s d)
+      → r ≡ same (take (clientOffset current d + clientWidth - (clientOffset current d)) (drop (clientOffset current d) s)) (replicate (length (take (clientOffset current d + clientWidth - (clientOffset current d)) (drop (clientOffset current d) s))) 0)
+      → r ≡ isIdle (clientIn current s d)
   unfolding isIdle idle
   idle-read r f e = e ∙ rw (part-client s d, length-client s d f)
 
   -- the search for a busy client
-  pub idle-next : (r : Bool) → r ≡ isIdle narrow (clientIn narrow s d) → not r ≡ false → allBelow d (idleAt s) ≡ true → allBelow (d + 1) (idleAt s) ≡ true
+  pub idle-next : (r : Bool) → r ≡ isIdle (clientIn current s d) → not r ≡ false → allBelow d (idleAt s) ≡ true → allBelow (d + 1) (idleAt s) ≡ true
   unfolding idleAt
   idle-next true e h k = below-next d (idleAt s) k (sym e)
   idle-next false e h k = cc
 
-  pub idle-stops : (r : Bool) (n : ℕ) → r ≡ isIdle narrow (clientIn narrow s d) → not r ≡ true → d < n → false ≡ allBelow n (idleAt s)
+  pub idle-stops : (r : Bool) (n : ℕ) → r ≡ isIdle (clientIn current s d) → not r ≡ true → d < n → false ≡ allBelow n (idleAt s)
   unfolding idleAt
   idle-stops true n e h k = cc
   idle-stops false n e h k = sym (below-not n (idleAt s) d k (sym e))
@@ -54,9 +55,9 @@ module _ (s : List ℕ) (d : ℕ) where
   idle-all n h k e = let m : d ≡ n = omega arith in rw (← m) (sym e)
 
 -- the rules' test of all clients
-pub all-idle : (m : Mem) → allIdle m ≡ allBelow maxClients (idleAt (m .clients))
+pub all-idle : (tb nd an cl : List ℕ) → allIdle (mem tb nd an cl) ≡ allBelow maxClients (idleAt cl)
 unfolding allIdle idleAt client
-all-idle m = refl
+all-idle tb nd an cl = refl
 
 -- ---- the query
 -- a key of seven numbers, without what is wanted and without its range: its marks, and behind them its query's numbers, 0 for the ends
@@ -112,7 +113,7 @@ bare-same : (m : ℕ) (key : List ℕ) → length key ≡ keyWidth → m ≡ get
 bare-same m [] l e = absurd (omega arith)
 bare-same m (x ∷ key) l e = rw e (bare-first x key)
 
-module _ (c : Client) (w : length c ≡ clientWidth narrow) (m : ℕ) (e : m ≡ getD c entryOffset 0) where
+module _ (c : Client) (w : length c ≡ clientWidth) (m : ℕ) (e : m ≡ getD c entryOffset 0) where
   pub marks-read : (n : ℕ) → ((vs : List ℕ) → n ≡ getD (bareKey (m ∷ vs)) 0 0) → n ≡ getD (bareKey (keyIn (entryOf c))) 0 0
   marks-read n f = f [] ∙ sym (bare-first m []) ∙ bare-same m (keyIn (entryOf c)) (key-wide c w) (e ∙ first-read c)
 
@@ -134,11 +135,11 @@ key-rest c = drop-take 1 keyWidth (drop entryOffset c) ∙ ap (take (keyWidth - 
 
 -- the part that holds so many of the key's numbers behind its first
 pub rest-read : (s : List ℕ) (d n : ℕ) → n ≤ keyWidth - 1
-    → take (clientOffset narrow d + heldValuesOffset + n - (clientOffset narrow d + heldValuesOffset)) (drop (clientOffset narrow d + heldValuesOffset) s)
-    ≡ take n (drop 1 (keyIn (entryOf (clientIn narrow s d))))
+    → take (clientOffset current d + heldValuesOffset + n - (clientOffset current d + heldValuesOffset)) (drop (clientOffset current d + heldValuesOffset) s)
+    ≡ take n (drop 1 (keyIn (entryOf (clientIn current s d))))
 rest-read s d n h =
-    let m : clientOffset narrow d + heldValuesOffset + n - (clientOffset narrow d + heldValuesOffset) ≡ n = omega arith in
-    rw m (sym (part-at s d heldValuesOffset n (omega arith)) ∙ sym (ap (take n) (key-rest (clientIn narrow s d)) ∙ take-take n (keyWidth - 1) (drop heldValuesOffset (clientIn narrow s d)) h))
+    let m : clientOffset current d + heldValuesOffset + n - (clientOffset current d + heldValuesOffset) ≡ n = omega arith in
+    rw m (sym (part-at s d heldValuesOffset n (omega arith)) ∙ sym (ap (take n) (key-rest (clientIn current s d)) ∙ take-take n (keyWidth - 1) (drop heldValuesOffset (clientIn current s d)) h))
 
 values-in : (c : Client) → take maxColumns (drop heldValuesOffset c) ≡ take maxColumns (drop 1 (keyIn (entryOf c)))
 values-in c = sym (ap (take maxColumns) (key-rest c) ∙ take-take maxColumns (keyWidth - 1) (drop heldValuesOffset c) (omega arith))
@@ -155,12 +156,12 @@ four-at s i h =
     ∙ ap (λ (l : List ℕ). getD s i 0 ∷ l) (next-one s (i + 1) (i + 2) 2 (omega arith) (omega arith))
     ∙ next-one s i (i + 1) 3 (omega arith) refl
 
-pub values-read : (s : List ℕ) (d i : ℕ) → Fit s d → i ≡ clientOffset narrow d + heldValuesOffset
-    → (getD s i 0 ∷ getD s (i + 1) 0 ∷ getD s (i + 2) 0 ∷ getD s (i + 3) 0 ∷ []) ≡ take maxColumns (drop 1 (keyIn (entryOf (clientIn narrow s d))))
+pub values-read : (s : List ℕ) (d i : ℕ) → Fit s d → i ≡ clientOffset current d + heldValuesOffset
+    → (getD s i 0 ∷ getD s (i + 1) 0 ∷ getD s (i + 2) 0 ∷ getD s (i + 3) 0 ∷ []) ≡ take maxColumns (drop 1 (keyIn (entryOf (clientIn current s d))))
 values-read s d i f e =
     let l = f .long in
     let b = f .below in
-    four-at s i (omega arith) ∙ rw e (sym (part-at s d heldValuesOffset maxColumns (omega arith)) ∙ values-in (clientIn narrow s d))
+    four-at s i (omega arith) ∙ rw e (sym (part-at s d heldValuesOffset maxColumns (omega arith)) ∙ values-in (clientIn current s d))
 
 -- ---- the list's length, or the count
 pub length-read : (c : Client) → getD c heldLengthOffset 0 ≡ lengthIn (entryOf c)
@@ -179,14 +180,13 @@ module _ (c : Client) (n : ℕ) (e : n ≡ getD c heldLengthOffset 0) (counts : 
 
 -- the part that holds a client's entry
 pub entry-part : (s : List ℕ) (d : ℕ) → Fit s d
-    → take (clientOffset narrow d + entryOffset + entryWidth narrow - (clientOffset narrow d + entryOffset)) (drop (clientOffset narrow d + entryOffset) s)
-    ≡ entryOf (clientIn narrow s d)
+    → take (clientOffset current d + entryOffset + entryWidth - (clientOffset current d + entryOffset)) (drop (clientOffset current d + entryOffset) s)
+    ≡ entryOf (clientIn current s d)
 unfolding entryOf
 entry-part s d f =
-    let w : ℕ = entryWidth narrow in
-    let m : clientOffset narrow d + entryOffset + w - (clientOffset narrow d + entryOffset) ≡ w = omega arith in
-    rw m (sym (part-at s d entryOffset w (omega arith)) ∙ take-all w (drop entryOffset (clientIn narrow s d)) (rw (length-drop, length-client s d f) (omega arith)))
+    let w : ℕ = entryWidth in
+    let m : clientOffset current d + entryOffset + w - (clientOffset current d + entryOffset) ≡ w = omega arith in
+    rw m (sym (part-at s d entryOffset w (omega arith)) ∙ take-all w (drop entryOffset (clientIn current s d)) (rw (length-drop, length-client s d f) (omega arith)))
 
-pub entry-length : (s : List ℕ) (d : ℕ) (x : List ℕ) → Fit s d → x ≡ entryOf (clientIn narrow s d) → length x ≡ entryWidth narrow
-unfolding entryOf
-entry-length s d x f e = ap length e ∙ rw (length-drop, length-client s d f) refl
+pub entry-length : (s : List ℕ) (d : ℕ) (x : List ℕ) → Fit s d → x ≡ entryOf (clientIn current s d) → length x ≡ entryWidth
+entry-length s d x f e = ap length e ∙ length-entry (clientIn current s d) (length-client s d f)

@@ -7,25 +7,24 @@ use Prim.Native.Nat.{ℕ, _+_, _^_, _≤_, _<_}
 use native.Mathlib.Nat.{pow-le-pow-right}
 use native.Mathlib.Omega.{arith}
 use lib.Dec.{eqb, leb}
-use lib.ListN.{length, getD}
+use lib.ListN.{length}
 use borrow.Author.Tests.{eq-eqb, ne-eqb, lt-ltb, le-ltb, le-leb, lt-leb, not-false}
-use Rattle.laws.proofs.ListLaws.{ne-same}
 use Rattle.laws.proofs.TestLaws.{byTest, or-false}
 use Rattle.query.specs.Query.{Query, readCount, writeCount}
 use Rattle.query.specs.declared.Range.{Range}
 use Rattle.query.specs.declared.Range.the-variants.{None}
 use Rattle.query.specs.Range.{isRanged, isRange, isReversed}
 use Rattle.query.specs.Encoding.{columnsIn, queryIn, namesAll, isKey, rangeIn, bareKey}
-use Rattle.query.specs.Shape.{Shape, shapeOf, maxColumns, narrow}
+use Rattle.query.specs.Shape.{Shape, shapeOf, maxColumns}
 use Rattle.query.proofs.NodeLists.{read-count-most}
 use Rattle.query.proofs.EncodingLaws.{columns-length}
 use Rattle.rules.specs.Layout.{lookRoom, clientWidth, reads, inserts, deletes}
 use Rattle.rules.specs.Answers.{keyIn, isCount, isLong}
 use Rattle.rules.specs.Work.{Ask, askFault, askIn, workIn, workFault, stepsInAll}
-use Rattle.rules.specs.Client.{Client, kind, steps, entryOf, idle, isIdle, queryAt, rangeAt, workAt, isBad}
-use Rattle.rules.specs.Memory.{shapeIn, clientIn}
+use Rattle.rules.specs.Client.{Client, kind, steps, entryOf, isIdle, queryAt, rangeAt, workAt, isBad}
+use Rattle.rules.specs.Memory.{current, shapeIn, clientIn}
 use Rattle.rules.proofs.WorkLaws.{no-range, work-fault}
-use Rattle.rules.proofs.ClientLaws.{key-wide, key-tests, steps-at}
+use Rattle.rules.proofs.ClientLaws.{key-wide, key-tests, steps-at, idle-kind}
 use Rattle.clients.specs.declared.Held.{Held}
 use Rattle.clients.specs.ClientContracts.{Fit, IsHeld, plainKey, stepsOfKind}
 use Rattle.clients.proofs.HeldLaws.{held-query}
@@ -90,12 +89,8 @@ none-good sh q g e = rw e
 
 -- ---- the ways out
 -- a client with a kind is not idle
-pub kind-busy : (c : Client) → (kind c ≡ 0 → ⊥) → isIdle narrow c ≡ false
-unfolding isIdle kind
-kind-busy c h = ne-same c (idle narrow) (λ e. h (ap (λ (l : List ℕ). getD l 0 0) e ∙ idle-kind))
-  where
-    idle-kind : getD (idle narrow) 0 0 ≡ 0
-    idle-kind = unfold idle in refl
+pub kind-busy : (c : Client) → (kind c ≡ 0 → ⊥) → isIdle c ≡ false
+kind-busy c h = byTest (isIdle c) (λ e. absurd (h (idle-kind c e))) (λ e. e)
 
 -- of a client with a kind, what its other numbers say
 unfoldable isBadBusy : Shape → Client → Bool
@@ -106,34 +101,34 @@ isBadBusy sh c =
     || (leb (stepsOfKind (kind c) (queryAt sh c)) (steps c) || isLong (entryOf c)))
 
 module _ (sh : Shape) (c : Client) where
-  pub bad-none : (r : Bool) → r ≡ isIdle narrow c → kind c ≡ 0 → not r ≡ isBad narrow sh c
+  pub bad-none : (r : Bool) → r ≡ isIdle c → kind c ≡ 0 → not r ≡ isBad sh c
   unfolding isBad
   bad-none true e h = rw (← e)
   bad-none false e h = rw (← e, h)
 
   -- a client that is not bad and has no kind is idle
-  pub none-idle : false ≡ isBad narrow sh c → kind c ≡ 0 → true ≡ isIdle narrow c
-  none-idle g h = sym (not-false (isIdle narrow c) (bad-none (isIdle narrow c) refl h ∙ sym g))
+  pub none-idle : false ≡ isBad sh c → kind c ≡ 0 → true ≡ isIdle c
+  none-idle g h = sym (not-false (isIdle c) (bad-none (isIdle c) refl h ∙ sym g))
 
-  bad-busy : length c ≡ clientWidth narrow → sh .columns ≤ maxColumns → (kind c ≡ 0 → ⊥) → kind c ≤ deletes → isBadBusy sh c ≡ isBad narrow sh c
+  bad-busy : length c ≡ clientWidth → sh .columns ≤ maxColumns → (kind c ≡ 0 → ⊥) → kind c ≤ deletes → isBadBusy sh c ≡ isBad sh c
   unfolding isBad isBadBusy
   bad-busy w f h g = rw (kind-busy c h, ne-eqb (kind c) 0 h, le-ltb deletes (kind c) g, key-tests sh c w f, steps-of-kind sh c)
 
   -- x: the kind that was read
   module _ (x : ℕ) (is : x ≡ kind c) (some : x ≡ 0 → ⊥) where
-    pub bad-kind : deletes < x → true ≡ isBad narrow sh c
+    pub bad-kind : deletes < x → true ≡ isBad sh c
     unfolding isBad
     bad-kind g =
         let h : kind c ≡ 0 → ⊥ = λ z. some (is ∙ z) in
         rw (kind-busy c h, ne-eqb (kind c) 0 h, lt-ltb deletes (kind c) (omega arith))
 
-    module _ (wide : length c ≡ clientWidth narrow) (few : sh .columns ≤ maxColumns) (most : x ≤ deletes) where
-      whole : isBadBusy sh c ≡ isBad narrow sh c
+    module _ (wide : length c ≡ clientWidth) (few : sh .columns ≤ maxColumns) (most : x ≤ deletes) where
+      whole : isBadBusy sh c ≡ isBad sh c
       whole = bad-busy wide few (λ z. some (is ∙ z)) (omega arith)
 
       -- a: the key's test, w: that of what is wanted, b: the insert's, f: the range's, n: its steps in all, i: those that it has made
       module _ (a : Bool) (p : a ≡ not (isKey sh (bareKey (keyIn (entryOf c))))) where
-        pub bad-key : a ≡ true → true ≡ isBad narrow sh c
+        pub bad-key : a ≡ true → true ≡ isBad sh c
         unfolding isBadBusy
         bad-key h = rw (← p, h) at whole
 
@@ -141,7 +136,7 @@ module _ (sh : Shape) (c : Client) where
           wanting-is : w ≡ (not (eqb (kind c) reads) && (isCount (entryOf c) || isRanged (rangeAt c)))
           wanting-is = v ∙ rw is
 
-          pub bad-wanting : w ≡ true → true ≡ isBad narrow sh c
+          pub bad-wanting : w ≡ true → true ≡ isBad sh c
           unfolding isBadBusy
           bad-wanting g = rw (← p, h, ← wanting-is, g) at whole
 
@@ -149,12 +144,12 @@ module _ (sh : Shape) (c : Client) where
             insert-is : b ≡ (eqb (kind c) inserts && not (namesAll (queryAt sh c)))
             insert-is = r ∙ rw is
 
-            pub bad-insert : b ≡ true → true ≡ isBad narrow sh c
+            pub bad-insert : b ≡ true → true ≡ isBad sh c
             unfolding isBadBusy
             bad-insert g = rw (← p, h, ← wanting-is, u, ← insert-is, g) at whole
 
             module _ (g : b ≡ false) (f : Bool) (y : f ≡ not (eqb (workFault (workAt sh c)) 0)) where
-              pub bad-range : f ≡ true → true ≡ isBad narrow sh c
+              pub bad-range : f ≡ true → true ≡ isBad sh c
               unfolding isBadBusy
               bad-range k = rw (← p, h, ← wanting-is, u, ← insert-is, g, ← y, k) at whole
 
@@ -162,11 +157,11 @@ module _ (sh : Shape) (c : Client) where
                 steps-is : stepsOfKind (kind c) (queryAt sh c) ≡ n
                 steps-is = sym (t ∙ rw is)
 
-                pub bad-step : n ≤ i → true ≡ isBad narrow sh c
+                pub bad-step : n ≤ i → true ≡ isBad sh c
                 unfolding isBadBusy
                 bad-step l = rw (← p, h, ← wanting-is, u, ← insert-is, g, ← y, k, steps-is, ← s, le-leb n i l) at whole
 
-                pub bad-length : i < n → (z : Bool) → z ≡ isLong (entryOf c) → z ≡ isBad narrow sh c
+                pub bad-length : i < n → (z : Bool) → z ≡ isLong (entryOf c) → z ≡ isBad sh c
                 unfolding isBadBusy
                 bad-length l z m = m ∙ (rw (← p, h, ← wanting-is, u, ← insert-is, g, ← y, k, steps-is, ← s, lt-leb n i l) at whole)
 
@@ -176,26 +171,26 @@ module _ {h : Held} {s : List ℕ} {d : ℕ} (i : IsHeld h s d) where
   few-held l = let e = i .columns in omega arith
 
   -- g: the range that was read
-  module _ {g : Range} (e : g ≡ rangeAt (clientIn narrow s d)) where
-    pub key-held : {a : Bool} → Fit s d → a ≡ not (isKey (shapeOf (h .columns)) (plainKey (h .marks) g (keyIn (entryOf (clientIn narrow s d)))))
-        → a ≡ not (isKey (shapeIn s) (bareKey (keyIn (entryOf (clientIn narrow s d)))))
+  module _ {g : Range} (e : g ≡ rangeAt (clientIn current s d)) where
+    pub key-held : {a : Bool} → Fit s d → a ≡ not (isKey (shapeOf (h .columns)) (plainKey (h .marks) g (keyIn (entryOf (clientIn current s d)))))
+        → a ≡ not (isKey (shapeIn s) (bareKey (keyIn (entryOf (clientIn current s d)))))
     unfolding rangeAt
     key-held f y =
-        let key : List ℕ = keyIn (entryOf (clientIn narrow s d)) in
-        let w = key-wide (clientIn narrow s d) (length-client s d f) in
+        let key : List ℕ = keyIn (entryOf (clientIn current s d)) in
+        let w = key-wide (clientIn current s d) (length-client s d f) in
         y ∙ rw (i .columns, i .marks, e) (ap (λ (l : List ℕ). not (isKey (shapeIn s) l)) (sym (bare-plain key w)))
 
     pub wanting-held : {w : Bool} → w ≡ (not (eqb (h .kind) reads) && (h .counts || isRanged g))
-        → w ≡ (not (eqb (h .kind) reads) && (isCount (entryOf (clientIn narrow s d)) || isRanged (rangeAt (clientIn narrow s d))))
+        → w ≡ (not (eqb (h .kind) reads) && (isCount (entryOf (clientIn current s d)) || isRanged (rangeAt (clientIn current s d))))
     wanting-held y = y ∙ rw (i .counts, e)
 
     -- where no writer has one
     pub range-held : {f w : Bool} → h .columns ≤ maxColumns → w ≡ (not (eqb (h .kind) reads) && (h .counts || isRanged g)) → w ≡ false
         → ((vs : List ℕ) → f ≡ (not (isRange (shapeOf (h .columns)) (columnsIn (h .columns) (h .marks) vs) g) || isReversed g))
-        → f ≡ not (eqb (workFault (workAt (shapeIn s) (clientIn narrow s d))) 0)
+        → f ≡ not (eqb (workFault (workAt (shapeIn s) (clientIn current s d))) 0)
     unfolding workAt queryAt rangeAt askIn
     range-held {f} l v u y =
-        let c = clientIn narrow s d in
+        let c = clientIn current s d in
         let key : List ℕ = keyIn (entryOf c) in
         let t : f ≡ not (isRange (shapeIn s) (queryIn (shapeIn s) (bareKey key)) (rangeIn key)) || isReversed (rangeIn key) =
         y (h .values) ∙ rw (held-query i l, e, i .columns) in
@@ -208,9 +203,9 @@ module _ {h : Held} {s : List ℕ} {d : ℕ} (i : IsHeld h s d) where
         rw r (t ∙ none-good (shapeIn s) (queryIn (shapeIn s) (bareKey key)) (rangeIn key) n)))
 
   pub insert-held : {b : Bool} → h .columns ≤ maxColumns → ((vs : List ℕ) → b ≡ (eqb (h .kind) inserts && not (namesAll (columnsIn (h .columns) (h .marks) vs))))
-      → b ≡ (eqb (h .kind) inserts && not (namesAll (queryAt (shapeIn s) (clientIn narrow s d))))
+      → b ≡ (eqb (h .kind) inserts && not (namesAll (queryAt (shapeIn s) (clientIn current s d))))
   insert-held l e = e (h .values) ∙ ap (λ (q : Query). eqb (h .kind) inserts && not (namesAll q)) (held-query i l)
 
   pub steps-held : {n : ℕ} → h .columns ≤ maxColumns → ((vs : List ℕ) → n ≡ stepsOfKind (h .kind) (columnsIn (h .columns) (h .marks) vs))
-      → n ≡ stepsOfKind (h .kind) (queryAt (shapeIn s) (clientIn narrow s d))
+      → n ≡ stepsOfKind (h .kind) (queryAt (shapeIn s) (clientIn current s d))
   steps-held l e = e (h .values) ∙ ap (stepsOfKind (h .kind)) (held-query i l)

@@ -11,7 +11,7 @@ use borrow.Author.Tests.{ltb-true}
 use Rattle.laws.proofs.ListLaws.{and-left}
 use Rattle.query.specs.Query.{Query, readNode, writeNode, readCount, writeCount}
 use Rattle.query.specs.Encoding.{columnOf, columnsIn, queryIn, isKey, bareKey, keyWidth, labelWords}
-use Rattle.query.specs.Shape.{Shape, shapeOf, maxColumns, narrow}
+use Rattle.query.specs.Shape.{Shape, shapeOf, maxColumns}
 use Rattle.query.proofs.NodeLists.{read-count-most, write-count-most}
 use Rattle.query.proofs.EncodingLaws.{query-in-length}
 use Rattle.query.proofs.KeyLaws.{plain-bare}
@@ -21,7 +21,7 @@ use Rattle.rules.specs.Answers.{keyIn}
 use Rattle.rules.specs.Table.{target}
 use Rattle.rules.specs.Work.{Ask, readLabels, Write, writeLabels, writeIn, Work, asking, writing, keyOf, stepsInAll}
 use Rattle.rules.specs.Client.{Client, kind, steps, entryOf, queryAt, writeAt, workAt}
-use Rattle.rules.specs.Memory.{shapeIn, clientIn}
+use Rattle.rules.specs.Memory.{current, shapeIn, clientIn}
 use Rattle.rules.specs.Sound.{Busy}
 use Rattle.rules.proofs.WorkLaws.{target-length}
 use Rattle.rules.proofs.ClientLaws.{key-wide, busy-key, writes-at, asked-counts, steps-at, look-count-of, read-label-of, announcement-count-of, write-label-of}
@@ -40,10 +40,10 @@ columns-take (suc k) m (suc n) [] h = refl
 columns-take (suc k) m (suc n) (v ∷ vs) h = ap (λ (q : Query). columnOf (m % 2) v ∷ q) (columns-take k (m / 2) n vs (omega arith))
 
 pub held-query : {h : Held} {s : List ℕ} {d : ℕ} → IsHeld h s d → h .columns ≤ maxColumns
-    → heldQuery h ≡ queryAt (shapeIn s) (clientIn narrow s d)
+    → heldQuery h ≡ queryAt (shapeIn s) (clientIn current s d)
 unfolding queryAt queryIn
 held-query {h} {s} {d} i l =
-    let key : List ℕ = keyIn (entryOf (clientIn narrow s d)) in
+    let key : List ℕ = keyIn (entryOf (clientIn current s d)) in
     let e = i .columns in
     rw (i .columns, i .marks, i .values, ← bare-values key) (columns-take (shapeIn s .columns) (getD (bareKey key) 0 0) maxColumns (drop 1 (bareKey key)) (omega arith))
 
@@ -52,11 +52,11 @@ pub key-marks : (k : ℕ) (key : List ℕ) → k ≤ maxColumns → length key �
 key-marks k key l w e = ltb-true (getD key 0 0) (2 ^ k) (and-left _ _ (sym (key-whole k key l w) ∙ e))
 
 pub held-marks : {h : Held} {s : List ℕ} {d : ℕ} → Fit s d → IsHeld h s d → h .columns ≤ maxColumns
-    → isKey (shapeIn s) (bareKey (keyIn (entryOf (clientIn narrow s d)))) ≡ true → h .marks < 2 ^ h .columns
+    → isKey (shapeIn s) (bareKey (keyIn (entryOf (clientIn current s d)))) ≡ true → h .marks < 2 ^ h .columns
 held-marks {h} {s} {d} f i l e =
     let z = i .columns in
-    let key : List ℕ = keyIn (entryOf (clientIn narrow s d)) in
-    rw (i .marks, i .columns) (key-marks (shapeIn s .columns) (bareKey key) (omega arith) (length-bare key ∙ key-wide (clientIn narrow s d) (length-client s d f)) e)
+    let key : List ℕ = keyIn (entryOf (clientIn current s d)) in
+    rw (i .marks, i .columns) (key-marks (shapeIn s .columns) (bareKey key) (omega arith) (length-bare key ∙ key-wide (clientIn current s d) (length-client s d f)) e)
 
 -- ---- A sound, busy client
 steps-most : (sh : Shape) (c : Client) → sh .columns ≤ maxColumns → stepsInAll (workAt sh c) ≤ lookRoom + 1 + lookRoom
@@ -74,16 +74,16 @@ module _ {h : Held} {s : List ℕ} {d : ℕ} {w : Work} (a : At h s d w) where
   pub at-few : h .columns ≤ maxColumns
   at-few = let e = a .held .columns in let l = a .busy .most in omega arith
 
-  pub at-query : heldQuery h ≡ queryAt (shapeIn s) (clientIn narrow s d)
+  pub at-query : heldQuery h ≡ queryAt (shapeIn s) (clientIn current s d)
   at-query = held-query (a .held) at-few
 
   pub at-marks : h .marks < 2 ^ h .columns
   at-marks = held-marks (a .fit) (a .held) at-few (busy-key (a .busy))
 
   -- it has made few steps
-  pub at-steps : steps (clientIn narrow s d) < lookRoom + 1 + lookRoom
+  pub at-steps : steps (clientIn current s d) < lookRoom + 1 + lookRoom
   at-steps =
-      let m = steps-most (shapeIn s) (clientIn narrow s d) (a .busy .most) in
+      let m = steps-most (shapeIn s) (clientIn current s d) (a .busy .most) in
       let e = ap stepsInAll (a .busy .work) in
       let g = a .busy .going in
       omega arith
@@ -97,7 +97,7 @@ module _ {h : Held} {s : List ℕ} {d : ℕ} {x : Ask} (a : At h s d (asking x))
   reader-looks n e = e (h .values) ∙ ap readCount (at-query a) ∙ sym (look-count-of (a .busy))
 
   pub reader-few : length (readLabels x) ≤ lookRoom
-  reader-few = rw (look-count-of (a .busy)) (unfold queryAt in read-count-most _ (let z = query-in-length (shapeIn s) (bareKey (keyIn (entryOf (clientIn narrow s d)))) in let l = a .busy .most in omega arith))
+  reader-few = rw (look-count-of (a .busy)) (unfold queryAt in read-count-most _ (let z = query-in-length (shapeIn s) (bareKey (keyIn (entryOf (clientIn current s d)))) in let l = a .busy .most in omega arith))
 
   pub reader-label : (i : ℕ) → i < length (readLabels x) → labelWords (readNode (heldQuery h) i) ≡ getD (readLabels x) i []
   reader-label i l = ap (λ (q : Query). labelWords (readNode q i)) (at-query a) ∙ sym (read-label-of (a .busy) i l)
@@ -105,21 +105,21 @@ module _ {h : Held} {s : List ℕ} {d : ℕ} {x : Ask} (a : At h s d (asking x))
 -- a writer's
 module _ {h : Held} {s : List ℕ} {d : ℕ} {w : Write} (a : At h s d (writing w)) where
   -- its key does not say "count"
-  pub writer-bare : bareKey (keyIn (entryOf (clientIn narrow s d))) ≡ keyIn (entryOf (clientIn narrow s d))
+  pub writer-bare : bareKey (keyIn (entryOf (clientIn current s d))) ≡ keyIn (entryOf (clientIn current s d))
   unfolding keyOf writeAt writeIn
   writer-bare =
-      let c : Client = clientIn narrow s d in
+      let c : Client = clientIn current s d in
       let l : length (target (w .change)) ≡ shapeIn s .columns = rw (← writes-at (a .busy)) (target-length (shapeIn s) (kind c) (keyIn (entryOf c))) in
       ap bareKey (a .busy .key) ∙ plain-bare (target (w .change)) (let z = a .busy .most in omega arith) ∙ sym (a .busy .key)
 
   pub writer-announcements : (p : ℕ) → p ≡ 2 ^ h .columns → p ≡ length (writeLabels w)
   unfolding queryAt writeCount
   writer-announcements p e =
-      e ∙ ap (λ (n : ℕ). 2 ^ n) (a .held .columns ∙ sym (query-in-length (shapeIn s) (bareKey (keyIn (entryOf (clientIn narrow s d))))))
+      e ∙ ap (λ (n : ℕ). 2 ^ n) (a .held .columns ∙ sym (query-in-length (shapeIn s) (bareKey (keyIn (entryOf (clientIn current s d))))))
       ∙ sym (announcement-count-of (a .busy))
 
   pub writer-few : length (writeLabels w) ≤ lookRoom
-  writer-few = rw (announcement-count-of (a .busy)) (unfold queryAt in write-count-most _ (let z = query-in-length (shapeIn s) (bareKey (keyIn (entryOf (clientIn narrow s d)))) in let l = a .busy .most in omega arith))
+  writer-few = rw (announcement-count-of (a .busy)) (unfold queryAt in write-count-most _ (let z = query-in-length (shapeIn s) (bareKey (keyIn (entryOf (clientIn current s d)))) in let l = a .busy .most in omega arith))
 
   pub writer-label : (i : ℕ) → i < length (writeLabels w) → labelWords (writeNode (heldQuery h) i) ≡ getD (writeLabels w) i []
   writer-label i l = ap (λ (q : Query). labelWords (writeNode q i)) (at-query a) ∙ sym (write-label-of (a .busy) i l)

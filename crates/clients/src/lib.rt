@@ -11,11 +11,11 @@ ghost use lib.ListN.{length, getD, set};
 ghost use Rattle.lists.specs.Lists.{allBelow};
 ghost use Rattle.query.specs.Encoding.{columnsIn, isKey, keyWidth, namesAll};
 ghost use Rattle.query.specs.Range.{isRanged};
-ghost use Rattle.query.specs.Shape.{Shape, shapeOf, maxColumns, narrow};
+ghost use Rattle.query.specs.Shape.{Shape, shapeOf, maxColumns};
 ghost use Rattle.rules.specs.Answers.{keyIn, isCount, isLong};
 ghost use Rattle.rules.specs.Client.{steps, sawPending, didChange, foundFull, entryOf, idle, isIdle, rangeAt, isBad, stepped, flag, noted, wrote};
 ghost use Rattle.rules.specs.Layout.{maxRecords, maxClients, maxWord, lookRoom, listRoom, clientWidth, clientOffset, clientsEnd, heldListOffset, reads, inserts};
-ghost use Rattle.rules.specs.Memory.{shapeIn, clientIn, withClient};
+ghost use Rattle.rules.specs.Memory.{current, shapeIn, clientIn, withClient};
 ghost use Rattle.clients.specs.ClientContracts.{Fit, IsHeld, plainKey, idleAt, begunWith, stepsOfKind, valueSet};
 
 // How many clients there are.
@@ -36,15 +36,15 @@ pub struct Held {
 // ---- Reading
 // Number j of client d.
 fn word(clients: &[u32], d: usize, j: usize) -> u32
-    requires { ⌜ Fit (now clients) d × (j < clientWidth narrow) ⌝ }
-    ensures { λ r. ⌜ r ≡ getD (clientIn narrow (now (clients .entry)) d) j 0 ⌝ }
+    requires { ⌜ Fit (now clients) d × (j < clientWidth) ⌝ }
+    ensures { λ r. ⌜ r ≡ getD (clientIn current (now (clients .entry)) d) j 0 ⌝ }
 {
     clients[Hall::HEADER + d * Hall::CLIENT_WIDTH + j]
 }
 
 fn steps_of(clients: &[u32], d: usize) -> u32
     requires { ⌜ Fit (now clients) d ⌝ }
-    ensures { λ r. ⌜ r ≡ steps (clientIn narrow (now (clients .entry)) d) ⌝ }
+    ensures { λ r. ⌜ r ≡ steps (clientIn current (now (clients .entry)) d) ⌝ }
 {
     word(clients, d, Hall::STEPS_OFFSET)
 }
@@ -52,7 +52,7 @@ fn steps_of(clients: &[u32], d: usize) -> u32
 // Whether a look saw a mark.
 pub fn saw_pending(clients: &[u32], d: usize) -> bool
     requires { ⌜ Fit (now clients) d ⌝ }
-    ensures { λ r. ⌜ r ≡ sawPending (clientIn narrow (now (clients .entry)) d) ⌝ }
+    ensures { λ r. ⌜ r ≡ sawPending (clientIn current (now (clients .entry)) d) ⌝ }
 {
     word(clients, d, Hall::SAW_OFFSET) != 0
 }
@@ -60,7 +60,7 @@ pub fn saw_pending(clients: &[u32], d: usize) -> bool
 // Whether the write changed the table.
 pub fn did_change(clients: &[u32], d: usize) -> bool
     requires { ⌜ Fit (now clients) d ⌝ }
-    ensures { λ r. ⌜ r ≡ didChange (clientIn narrow (now (clients .entry)) d) ⌝ }
+    ensures { λ r. ⌜ r ≡ didChange (clientIn current (now (clients .entry)) d) ⌝ }
 {
     word(clients, d, Hall::CHANGED_OFFSET) != 0
 }
@@ -68,7 +68,7 @@ pub fn did_change(clients: &[u32], d: usize) -> bool
 // Whether the insert found the table full.
 pub fn found_full(clients: &[u32], d: usize) -> bool
     requires { ⌜ Fit (now clients) d ⌝ }
-    ensures { λ r. ⌜ r ≡ foundFull (clientIn narrow (now (clients .entry)) d) ⌝ }
+    ensures { λ r. ⌜ r ≡ foundFull (clientIn current (now (clients .entry)) d) ⌝ }
 {
     word(clients, d, Hall::FULL_OFFSET) != 0
 }
@@ -76,7 +76,7 @@ pub fn found_full(clients: &[u32], d: usize) -> bool
 // Whether all of a client's numbers are 0.
 fn is_idle(clients: &[u32], d: usize) -> bool
     requires { ⌜ Fit (now clients) d ⌝ }
-    ensures { λ r. ⌜ r ≡ isIdle narrow (clientIn narrow (now (clients .entry)) d) ⌝ }
+    ensures { λ r. ⌜ r ≡ isIdle (clientIn current (now (clients .entry)) d) ⌝ }
 {
     let at = Hall::HEADER + d * Hall::CLIENT_WIDTH;
     let stop = at + Hall::CLIENT_WIDTH;
@@ -85,7 +85,7 @@ fn is_idle(clients: &[u32], d: usize) -> bool
 
 // Whether no client is busy; ends at the first that is.
 pub fn all_idle(clients: &[u32]) -> bool
-    requires { ⌜ clientsEnd narrow ≤ length (now clients) ⌝ }
+    requires { ⌜ clientsEnd current ≤ length (now clients) ⌝ }
     ensures { λ r. ⌜ r ≡ allBelow maxClients (idleAt (now (clients .entry))) ⌝ }
 {
     let mut d = 0;
@@ -125,7 +125,7 @@ pub fn read(clients: &[u32], d: usize) -> Held
 // The range of client d.
 pub fn range(clients: &[u32], d: usize) -> Range
     requires { ⌜ Fit (now clients) d ⌝ }
-    ensures { λ r. ⌜ r ≡ rangeAt (clientIn narrow (now (clients .entry)) d) ⌝ }
+    ensures { λ r. ⌜ r ≡ rangeAt (clientIn current (now (clients .entry)) d) ⌝ }
 {
     let first = word(clients, d, Hall::ENTRY_OFFSET);
     let lowest = word(clients, d, Hall::ENTRY_OFFSET + Hall::LOWEST_OFFSET);
@@ -136,7 +136,7 @@ pub fn range(clients: &[u32], d: usize) -> Range
 // A client's own entry: its query's key with what it wants and its range, the list's length or the count, the revisions noted, the list.
 pub fn entry<'a>(clients: &'a [u32], d: usize) -> &'a [u32]
     requires { ⌜ Fit (now clients) d ⌝ }
-    ensures { λ r. ⌜ now r ≡ entryOf (clientIn narrow (now (clients .entry)) d) ⌝ }
+    ensures { λ r. ⌜ now r ≡ entryOf (clientIn current (now (clients .entry)) d) ⌝ }
 {
     let at = Hall::HEADER + d * Hall::CLIENT_WIDTH + Hall::ENTRY_OFFSET;
     let end = at + Hall::ENTRY_WIDTH;
@@ -146,7 +146,7 @@ pub fn entry<'a>(clients: &'a [u32], d: usize) -> &'a [u32]
 // Where a client's list stands in the memory of a hall of k columns: at the same place for every k.
 pub fn list_at(d: usize, k: usize) -> usize
     requires { ⌜ d < maxClients ⌝ }
-    ensures { λ r. ⌜ r ≡ clientOffset narrow d + heldListOffset narrow (shapeOf k) ⌝ }
+    ensures { λ r. ⌜ r ≡ clientOffset current d + heldListOffset (shapeOf k) ⌝ }
 {
     Hall::HEADER + d * Hall::CLIENT_WIDTH + Hall::HELD_LIST_OFFSET
 }
@@ -154,8 +154,8 @@ pub fn list_at(d: usize, k: usize) -> usize
 // ---- Changes
 // Stores x as number j of client d.
 fn put(clients: &mut [u32], d: usize, j: usize, x: u32)
-    requires { ⌜ Fit (now clients) d × (j < clientWidth narrow) ⌝ }
-    ensures { λ _. ⌜ now (clients .exit) ≡ withClient narrow (now (clients .entry)) d (set (clientIn narrow (now (clients .entry)) d) j x) ⌝ }
+    requires { ⌜ Fit (now clients) d × (j < clientWidth) ⌝ }
+    ensures { λ _. ⌜ now (clients .exit) ≡ withClient current (now (clients .entry)) d (set (clientIn current (now (clients .entry)) d) j x) ⌝ }
 {
     clients[Hall::HEADER + d * Hall::CLIENT_WIDTH + j] = x;
 }
@@ -163,7 +163,7 @@ fn put(clients: &mut [u32], d: usize, j: usize, x: u32)
 // Leaves client d idle: all 0.
 pub fn set_idle(clients: &mut [u32], d: usize)
     requires { ⌜ Fit (now clients) d ⌝ }
-    ensures { λ _. ⌜ now (clients .exit) ≡ withClient narrow (now (clients .entry)) d (idle narrow) ⌝ }
+    ensures { λ _. ⌜ now (clients .exit) ≡ withClient current (now (clients .entry)) d idle ⌝ }
 {
     let at = Hall::HEADER + d * Hall::CLIENT_WIDTH;
     let end = at + Hall::CLIENT_WIDTH;
@@ -173,7 +173,7 @@ pub fn set_idle(clients: &mut [u32], d: usize)
 // Begins a read or a write at client d: its kind and its query's key, all the rest 0.
 pub fn begin(clients: &mut [u32], d: usize, kind: u32, key: &[u32])
     requires { ⌜ Fit (now clients) d × (length (now key) ≡ keyWidth) ⌝ }
-    ensures { λ _. ⌜ now (clients .exit) ≡ withClient narrow (now (clients .entry)) d (begunWith kind (now (key .entry))) ⌝ }
+    ensures { λ _. ⌜ now (clients .exit) ≡ withClient current (now (clients .entry)) d (begunWith kind (now (key .entry))) ⌝ }
 {
     set_idle(clients, d);
     let head = [kind, 0, 0, 0, 0];
@@ -184,8 +184,8 @@ pub fn begin(clients: &mut [u32], d: usize, kind: u32, key: &[u32])
 
 // Counts one step more.
 pub fn advance(clients: &mut [u32], d: usize)
-    requires { ⌜ Fit (now clients) d × (steps (clientIn narrow (now clients) d) < maxWord) ⌝ }
-    ensures { λ _. ⌜ now (clients .exit) ≡ withClient narrow (now (clients .entry)) d (stepped (clientIn narrow (now (clients .entry)) d)) ⌝ }
+    requires { ⌜ Fit (now clients) d × (steps (clientIn current (now clients) d) < maxWord) ⌝ }
+    ensures { λ _. ⌜ now (clients .exit) ≡ withClient current (now (clients .entry)) d (stepped (clientIn current (now (clients .entry)) d)) ⌝ }
 {
     let made = steps_of(clients, d);
     put(clients, d, Hall::STEPS_OFFSET, made + 1);
@@ -193,8 +193,8 @@ pub fn advance(clients: &mut [u32], d: usize)
 
 // Look j: notes a node's revision and whether writes are pending there, and counts the step.
 pub fn note(clients: &mut [u32], d: usize, j: usize, revision: u32, pending: u32)
-    requires { ⌜ Fit (now clients) d × ((j < lookRoom) × (steps (clientIn narrow (now clients) d) < maxWord)) ⌝ }
-    ensures { λ _. ⌜ now (clients .exit) ≡ withClient narrow (now (clients .entry)) d (noted narrow j revision pending (clientIn narrow (now (clients .entry)) d)) ⌝ }
+    requires { ⌜ Fit (now clients) d × ((j < lookRoom) × (steps (clientIn current (now clients) d) < maxWord)) ⌝ }
+    ensures { λ _. ⌜ now (clients .exit) ≡ withClient current (now (clients .entry)) d (noted j revision pending (clientIn current (now (clients .entry)) d)) ⌝ }
 {
     advance(clients, d);
     put(clients, d, Hall::NOTED_OFFSET + j, revision);
@@ -212,8 +212,8 @@ fn flag(b: bool) -> u32
 
 // A write's table step: whether the table changed, whether it was full, and the step counted.
 pub fn set_wrote(clients: &mut [u32], d: usize, changed: bool, full: bool)
-    requires { ⌜ Fit (now clients) d × (steps (clientIn narrow (now clients) d) < maxWord) ⌝ }
-    ensures { λ _. ⌜ now (clients .exit) ≡ withClient narrow (now (clients .entry)) d (wrote changed full (clientIn narrow (now (clients .entry)) d)) ⌝ }
+    requires { ⌜ Fit (now clients) d × (steps (clientIn current (now clients) d) < maxWord) ⌝ }
+    ensures { λ _. ⌜ now (clients .exit) ≡ withClient current (now (clients .entry)) d (wrote changed full (clientIn current (now (clients .entry)) d)) ⌝ }
 {
     advance(clients, d);
     put(clients, d, Hall::CHANGED_OFFSET, flag(changed));
@@ -223,8 +223,8 @@ pub fn set_wrote(clients: &mut [u32], d: usize, changed: bool, full: bool)
 // A read's table step, a list's numbers being in their place already: sets the list's length or the count, clears what is behind the first
 // `used` numbers of the list's place (of a count all of it), and counts the step.
 pub fn set_value(clients: &mut [u32], d: usize, n: usize, used: usize)
-    requires { ⌜ Fit (now clients) d × ((n ≤ maxRecords) × ((used ≤ listRoom) × (steps (clientIn narrow (now clients) d) < maxWord))) ⌝ }
-    ensures { λ _. ⌜ ((sh : Shape) → now (clients .exit) ≡ withClient narrow (now (clients .entry)) d (valueSet n used sh (clientIn narrow (now (clients .entry)) d))) ⌝ }
+    requires { ⌜ Fit (now clients) d × ((n ≤ maxRecords) × ((used ≤ listRoom) × (steps (clientIn current (now clients) d) < maxWord))) ⌝ }
+    ensures { λ _. ⌜ ((sh : Shape) → now (clients .exit) ≡ withClient current (now (clients .entry)) d (valueSet n used sh (clientIn current (now (clients .entry)) d))) ⌝ }
 {
     advance(clients, d);
     put(clients, d, Hall::HELD_LENGTH_OFFSET, n as u32);
@@ -250,7 +250,7 @@ fn steps_in_all(kind: u32, k: usize, marks: u32) -> usize
 // Whether a client's key, with these marks in place of its first number and without its range, is that of no query of k columns.
 fn bad_key(clients: &[u32], d: usize, k: usize, marks: u32, range: Range) -> bool
     requires { ⌜ Fit (now clients) d × (k ≤ maxColumns) ⌝ }
-    ensures { λ r. ⌜ r ≡ not (isKey (shapeOf k) (plainKey marks range (keyIn (entryOf (clientIn narrow (now (clients .entry)) d))))) ⌝ }
+    ensures { λ r. ⌜ r ≡ not (isKey (shapeOf k) (plainKey marks range (keyIn (entryOf (clientIn current (now (clients .entry)) d))))) ⌝ }
 {
     let at = Hall::HEADER + d * Hall::CLIENT_WIDTH + Hall::HELD_VALUES_OFFSET;
     let end = at + columns::keys::query_width(range);
@@ -283,8 +283,8 @@ fn bad_insert(kind: u32, k: usize, marks: u32) -> bool
 
 // Whether a client's list is longer than any, or its count above any.
 fn bad_length(clients: &[u32], d: usize, counts: bool) -> bool
-    requires { ⌜ Fit (now clients) d × (counts ≡ isCount (entryOf (clientIn narrow (now clients) d))) ⌝ }
-    ensures { λ r. ⌜ r ≡ isLong (entryOf (clientIn narrow (now (clients .entry)) d)) ⌝ }
+    requires { ⌜ Fit (now clients) d × (counts ≡ isCount (entryOf (clientIn current (now clients) d))) ⌝ }
+    ensures { λ r. ⌜ r ≡ isLong (entryOf (clientIn current (now (clients .entry)) d)) ⌝ }
 {
     let n = word(clients, d, Hall::HELD_LENGTH_OFFSET);
     if counts {
@@ -297,7 +297,7 @@ fn bad_length(clients: &[u32], d: usize, counts: bool) -> bool
 // a begin would refuse. Only where the kind is 0 are all its numbers read.
 pub fn is_bad(clients: &[u32], d: usize, h: Held) -> bool
     requires { ⌜ Fit (now clients) d × (IsHeld h (now clients) d × (h .columns ≤ maxColumns)) ⌝ }
-    ensures { λ r. ⌜ r ≡ isBad narrow (shapeIn (now (clients .entry))) (clientIn narrow (now (clients .entry)) d) ⌝ }
+    ensures { λ r. ⌜ r ≡ isBad (shapeIn (now (clients .entry))) (clientIn current (now (clients .entry)) d) ⌝ }
 {
     if h.kind == 0 {
         return !is_idle(clients, d);

@@ -15,7 +15,7 @@ use Rattle.rules.specs.declared.Count.{Count}
 use Rattle.rules.specs.declared.Count.the-variants.{NoCount, ReadBegun, FromFile, FromTable, EndedLong, ReadAbandoned}
 use Rattle.rules.specs.declared.Count.the-variants.{WriteBegun, EndedChanged, EndedUnchanged, WriteAbandoned}
 use Rattle.rules.specs.Layout.{refusedTallyFull}
-use Rattle.query.specs.Shape.{narrow, shapeOf}
+use Rattle.query.specs.Shape.{shapeOf}
 use Rattle.rules.specs.Memory.{Mem, opened}
 use Rattle.rules.specs.Refusals.{openCode, evictAnswerCode, evictNodeCode, renewCode}
 use Rattle.rules.specs.Calls.{unless, evictAnswerResult, evictNodeResult, renewResult}
@@ -225,7 +225,7 @@ length-lent (c ∷ cs) m t = ap suc (length-lent cs (madeResult m (made c (some 
 
 module _ (m : Mem) (k : ℕ) (a : openCode m k ≡ 0) (cs : List Call) where
   abbrev start : Mem
-  start = opened narrow (shapeOf k) m
+  start = opened (shapeOf k) m
 
   abbrev lent : History
   lent = record { lent = m; k = k; accepted = a; calls = lentOn start clearedTally cs }

@@ -8,19 +8,19 @@ use mathlib.Core.Option.{Option, none, some}
 use Prim.Native.Nat.{ℕ, _+_, _*_, _≤_, _<_}
 use native.Mathlib.Omega.{arith}
 use lib.Dec.{eqb, ltb, leb}
-use lib.ListN.{length, getD, length-take, length-drop}
+use lib.ListN.{length, getD}
 use borrow.Author.Tests.{ltb-true, eqb-true, eqb-false, leb-true}
 use Rattle.laws.proofs.TestLaws.{byTest, clash}
 use Rattle.laws.proofs.ListLaws.{length-without, and-right}
 use Rattle.laws.proofs.RowLaws.{wide-nil, wide-without, wide-at}
 use Rattle.query.specs.Query.{Record}
-use Rattle.query.specs.Shape.{narrow, Shape, shapeOf}
+use Rattle.query.specs.Shape.{Shape, shapeOf}
 use Rattle.rules.specs.Layout.{maxClients, listRoom, trayLeast, entryWidth, clientWidth, maxList, refusedShort, refusedOccupied, refusedReversed, refusedTallyFull}
 use Rattle.rules.specs.declared.Outcome.{Outcome}
 use Rattle.rules.specs.declared.Outcome.the-variants.{Refused, Accepted, Answered, Long, Ended, Full}
 use Rattle.rules.specs.Work.{Ask, Value, ofRecords, valueOf, mayAnswer, readLabels, Write, writeLabels, Work, asking, writing, Request, workOf, ofNumber, valueFor, listWithin}
 use Rattle.rules.specs.Nodes.{Words, Store, store}
-use Rattle.rules.specs.Answers.{Entry, valueIn, listIn, isCount}
+use Rattle.rules.specs.Answers.{Entry, valueIn}
 use Rattle.rules.specs.Client.{Client, steps, sawPending, foundFull, entryOf}
 use Rattle.rules.specs.Memory.{Mem, storeIn, answersIn, opened, renewed, recordsIn}
 use Rattle.rules.specs.Outcome.{Result, resultWith, number}
@@ -35,19 +35,20 @@ use Rattle.rules.specs.Sound.{Sound, Busy}
 use Rattle.rules.proofs.PassedChecks.{open-passed, begin-passed, step-passed, abandon-passed, evict-answer-passed, evict-node-passed, renew-passed}
 use Rattle.rules.proofs.WorkLaws.{read-label-wide, write-label-wide}
 use Rattle.rules.proofs.TallyLaws.{raised-none}
-use Rattle.rules.proofs.ClientLaws.{list-room, wrote-wide}
+use Rattle.rules.proofs.NodeSizes.{AllSized, sized-none, sized-evict, sized-ensured, sized-announced, sized-retired}
+use Rattle.rules.proofs.ClientLaws.{list-room, wrote-wide, idle-wide}
 use Rattle.records.proofs.RecordLists.{list-numbers}
 use Rattle.records.proofs.RecordWrites.{of-width, effect-wide, effect-few}
 use Rattle.refinement.proofs.ClientPhases.{fits-at, begun-left}
 use Rattle.refinement.proofs.OthersRefined.{request-fits}
-use Rattle.refinement.proofs.ClientParts.{length-entry}
-use Rattle.refinement.proofs.MemoryReads.{length-nodes, length-answers}
+use Rattle.rules.proofs.ClientParts.{length-entry, stepped-next, noted-wide, holding-wide}
+use Rattle.rules.proofs.AnswerLaws.{value-room as entry-room}
+use Rattle.rules.proofs.MemoryLaws.{length-nodes, length-answers}
 use Rattle.refinement.proofs.AnswersRefined.{wide-filed, length-filed}
 use Rattle.refinement.proofs.RefusedCalls.{IsCode, begin-coded, step-low, abandon-low, evict-answer-low, evict-node-low, renew-low}
 use Rattle.demands.specs.Demand1.{Unaltered, Leaves, Demand1}
-use Rattle.demands.proofs.UnalteredMemories.{unaltered-same, unaltered-then, unaltered-written, unaltered-set, unaltered-cleared, unaltered-store, unaltered-answers}
-use Rattle.demands.proofs.UnalteredMemories.{AllUnaltered, all-same, all-now, all-store, all-filed, all-table, sized-in, wide-held, wide-filed-in}
-use Rattle.demands.proofs.UnalteredMemories.{AllSized, sized-evict, sized-ensured, sized-announced, sized-retired, stepped-wide, noted-wide, holding-wide, idle-wide}
+use Rattle.demands.proofs.UnalteredMemories.{unaltered-same, unaltered-written, unaltered-store, unaltered-answers}
+use Rattle.demands.proofs.UnalteredMemories.{AllUnaltered, all-same, all-now, all-store, all-filed, all-table, all-opened, sized-in, wide-held, wide-filed-in}
 use Rattle.lists.specs.Lists.{flat}
 use Rattle.demands.proofs.CountTray.{made-tray}
 
@@ -57,7 +58,7 @@ refusal : (n : ℕ) → IsCode n → (n ≡ 0 → ⊥) → ((refusedShort ≤ n)
 refusal n (inl l) ne = inl (omega arith, l)
 refusal n (inr e) ne = inr e
 
-pub refused-leaves : (sh : Shape) (m : Mem) (tray : List ℕ) (n : ℕ) → IsCode n → (n ≡ 0 → ⊥) → Leaves narrow sh m tray (resultWith (Refused n) m tray)
+pub refused-leaves : (sh : Shape) (m : Mem) (tray : List ℕ) (n : ℕ) → IsCode n → (n ≡ 0 → ⊥) → Leaves sh m tray (resultWith (Refused n) m tray)
 unfolding number
 refused-leaves sh m tray n h ne = record {
   table = unaltered-same _ _;
@@ -86,7 +87,7 @@ is-refused : (o : Outcome) (n : ℕ) → o ≡ Refused n → isRefused o ≡ tru
 unfolding isRefused
 is-refused o n e = rw e
 
-went-leaves : (sh : Shape) (m n : Mem) (tray t : List ℕ) (o : Outcome) → Went o → AllUnaltered sh m n → Unaltered trayLeast tray t → Leaves narrow sh m tray (resultWith o n t)
+went-leaves : (sh : Shape) (m n : Mem) (tray t : List ℕ) (o : Outcome) → Went o → AllUnaltered sh m n → Unaltered trayLeast tray t → Leaves sh m tray (resultWith o n t)
 went-leaves sh m n tray t o w a b = record {
   table = a .table;
   nodes = a .nodes;
@@ -105,10 +106,10 @@ end-went : (c : Client) → Went (endOf c)
 unfolding endOf isAccepted number isRefused
 end-went c = byTest (foundFull c) (λ e. rw e (refl, refl)) (λ e. rw e (refl, refl))
 
-accepted-leaves : (sh : Shape) (m n : Mem) (tray : List ℕ) → AllUnaltered sh m n → Leaves narrow sh m tray (resultWith Accepted n tray)
+accepted-leaves : (sh : Shape) (m n : Mem) (tray : List ℕ) → AllUnaltered sh m n → Leaves sh m tray (resultWith Accepted n tray)
 accepted-leaves sh m n tray a = went-leaves sh m n tray tray Accepted accepted-went a (unaltered-same _ _)
 
-unless-leaves : (sh : Shape) (m : Mem) (code : ℕ) (x : Result) → IsCode code → (code ≡ 0 → Leaves narrow sh m [] (untrayed x)) → Leaves narrow sh m [] (untrayed (unless code m x))
+unless-leaves : (sh : Shape) (m : Mem) (code : ℕ) (x : Result) → IsCode code → (code ≡ 0 → Leaves sh m [] (untrayed x)) → Leaves sh m [] (untrayed (unless code m x))
 unfolding unless untrayed
 unless-leaves sh m code x l g =
     byTest (eqb code 0)
@@ -121,19 +122,13 @@ open-low true bad = inl (omega arith)
 open-low false true = inl (omega arith)
 open-low false false = inl (omega arith)
 
-pub open-leaves : (m : Mem) (k : ℕ) → Leaves narrow (shapeOf k) m [] (untrayed (openResult m k))
-unfolding openResult openCode untrayed opened
-open-leaves m k = unless-leaves (shapeOf k) m (openCode m k) _ (open-low (isShort narrow (shapeOf k) m) (badColumns k)) (λ e.
-    let l = open-passed m k e .0 in
-    accepted-leaves (shapeOf k) m _ [] (record {
-      table = unaltered-cleared 8200 (m .table) (l .table);
-      nodes = unaltered-then (unaltered-cleared 8200 (m .nodes) (l .nodes)) (unaltered-set 8200 _ 0 1 (omega arith));
-      answers = unaltered-cleared 10000 (m .answers) (l .answers);
-      clients = unaltered-then (unaltered-cleared 2000 (m .clients) (l .clients)) (unaltered-set 2000 _ 0 k (omega arith));
-    }))
+pub open-leaves : (m : Mem) (k : ℕ) → Leaves (shapeOf k) m [] (untrayed (openResult m k))
+unfolding openResult openCode untrayed
+open-leaves m k = unless-leaves (shapeOf k) m (openCode m k) _ (open-low (isShort (shapeOf k) m) (badColumns k)) (λ e.
+    accepted-leaves (shapeOf k) m _ [] (all-opened m (shapeOf k) (open-passed m k e .0)))
 
 -- ---- Begins
-pub begin-leaves : (m : Mem) (d : ℕ) (r : Request) → Leaves narrow (shape m) m [] (untrayed (beginResult m d r))
+pub begin-leaves : (m : Mem) (d : ℕ) (r : Request) → Leaves (shape m) m [] (untrayed (beginResult m d r))
 unfolding beginResult untrayed
 begin-leaves m d r = unless-leaves (shape m) m (beginCode m d r) _ (begin-coded m d r) (λ e.
     let b = begin-passed m d r e in
@@ -143,39 +138,34 @@ begin-leaves m d r = unless-leaves (shape m) m (beginCode m d r) _ (begin-coded 
 -- ---- A step of a busy client
 module _ (m : Mem) (s : Sound m) (tray : List ℕ) (room : trayLeast ≤ length tray) (d : ℕ) (low : d < maxClients) where
   -- the client becomes c after another change
-  now : (n : Mem) (c : List ℕ) → AllUnaltered (shape m) m n → length c ≡ clientWidth narrow → AllUnaltered (shape m) m (nowAt n d c)
+  now : (n : Mem) (c : List ℕ) → AllUnaltered (shape m) m n → length c ≡ clientWidth → AllUnaltered (shape m) m (nowAt n d c)
   now n c a w = all-now (shape m) m n d c a (s .long .clients) low w
 
-  unsound-leaves : Leaves narrow (shape m) m tray (resultWith (Refused 3) m tray)
+  unsound-leaves : Leaves (shape m) m tray (resultWith (Refused 3) m tray)
   unsound-leaves = refused-leaves (shape m) m tray 3 (inl (omega arith)) (λ e. omega arith)
 
-  answered-leaves : (n : Mem) (v : Value) (cached : Bool) → AllUnaltered (shape m) m n → length (v .numbers) ≤ listRoom → Leaves narrow (shape m) m tray (answered n tray d v cached)
+  answered-leaves : (n : Mem) (v : Value) (cached : Bool) → AllUnaltered (shape m) m n → length (v .numbers) ≤ listRoom → Leaves (shape m) m tray (answered n tray d v cached)
   unfolding answered isAccepted number isRefused
   answered-leaves n v cached a h =
       went-leaves (shape m) m _ tray _ (Answered (v .count) cached) (refl, refl) (now n _ a idle-wide) (unaltered-written 128 tray 0 (v .numbers) (omega arith) room)
 
-  -- what an entry keeps has no more numbers than it has room for
-  entry-list : (e : Entry) → length e ≡ entryWidth narrow → length (valueIn narrow (shape m) e .numbers) ≤ listRoom
-  unfolding valueIn listIn
-  entry-list e w = byTest (isCount e) (λ t. rw t (omega arith)) (λ t. rw (t, length-take, length-drop) (omega arith))
-
-  module _ {w : Work} (b : Busy narrow (shape m) (client m d) w) where
-    look-leaves : (j : ℕ) (p : Words) (o : Option Store) → AllSized o → Leaves narrow (shape m) m tray (lookResult m tray d j p o)
+  module _ {w : Work} (b : Busy (shape m) (client m d) w) where
+    look-leaves : (j : ℕ) (p : Words) (o : Option Store) → AllSized o → Leaves (shape m) m tray (lookResult m tray d j p o)
     unfolding lookResult
     look-leaves j p none z = unsound-leaves
     look-leaves j p (some t) z = accepted-leaves (shape m) m _ tray (now _ _ (all-store m t s z) (noted-wide (client m d) (b .wide) j _ _))
 
-    fetch-leaves : (i : ℕ) → Leaves narrow (shape m) m tray (fetchResult m tray d i)
+    fetch-leaves : (i : ℕ) → Leaves (shape m) m tray (fetchResult m tray d i)
     unfolding fetchResult
     fetch-leaves i =
-        let es : List Entry = answersIn narrow (m .answers) in
+        let es : List Entry = answersIn (form m) (m .answers) in
         byTest (not (sawPending (client m d)) && ltb i (length es))
         (λ e. rw e (answered-leaves m _ true (all-same (shape m) m)
-        (entry-list (getD es i []) (wide-at (entryWidth narrow) es i (wide-filed-in m s .0) (ltb-true i (length es) (and-right (not (sawPending (client m d))) _ e))))))
-        (λ e. rw e (accepted-leaves (shape m) m _ tray (now m _ (all-same (shape m) m) (stepped-wide (client m d) (b .wide)))))
+        (entry-room (shape m) (getD es i []) (wide-at entryWidth es i (wide-filed-in m s .0) (ltb-true i (length es) (and-right (not (sawPending (client m d))) _ e))))))
+        (λ e. rw e (accepted-leaves (shape m) m _ tray (now m _ (all-same (shape m) m) (stepped-next (client m d) (b .wide) .wide))))
 
     -- what may be answered has no more numbers than there is room for
-    table-leaves : (x : Ask) (v : Value) → (mayAnswer x v ≡ true → length (v .numbers) ≤ listRoom) → Leaves narrow (shape m) m tray (tableResult m tray d x v)
+    table-leaves : (x : Ask) (v : Value) → (mayAnswer x v ≡ true → length (v .numbers) ≤ listRoom) → Leaves (shape m) m tray (tableResult m tray d x v)
     unfolding tableResult isAccepted number isRefused
     table-leaves x v l =
         byTest (mayAnswer x v)
@@ -184,23 +174,23 @@ module _ (m : Mem) (s : Sound m) (tray : List ℕ) (room : trayLeast ≤ length 
         (λ u. rw u (accepted-leaves (shape m) m _ tray (now m _ (all-same (shape m) m) (holding-wide (client m d) (b .wide) (shape m) v (l t)))))))
         (λ t. rw t (went-leaves (shape m) m _ tray tray Long (refl, refl) (now m _ (all-same (shape m) m) idle-wide) (unaltered-same _ _)))
 
-    file-leaves : Leaves narrow (shape m) m tray (fileResult m tray d (entryOf (client m d)))
+    file-leaves : Leaves (shape m) m tray (fileResult m tray d (entryOf (client m d)))
     unfolding fileResult
     file-leaves =
         let e : Entry = entryOf (client m d) in
         let wide = length-entry (client m d) (b .wide) in
         let es = wide-filed-in m s in
-        answered-leaves _ _ false (all-filed m _ s (wide-filed e _ (es .0) wide) (length-filed e _ (es .1))) (entry-list e wide)
+        answered-leaves _ _ false (all-filed m _ s (wide-filed e _ (es .0) wide) (length-filed e _ (es .1))) (entry-room (shape m) e wide)
 
-    announce-leaves : (o : Option Store) → AllSized o → Leaves narrow (shape m) m tray (announceResult m tray d o)
+    announce-leaves : (o : Option Store) → AllSized o → Leaves (shape m) m tray (announceResult m tray d o)
     unfolding announceResult
     announce-leaves none z = unsound-leaves
-    announce-leaves (some t) z = accepted-leaves (shape m) m _ tray (now _ _ (all-store m t s z) (stepped-wide (client m d) (b .wide)))
+    announce-leaves (some t) z = accepted-leaves (shape m) m _ tray (now _ _ (all-store m t s z) (stepped-next (client m d) (b .wide) .wide))
 
-    raise-leaves : (isLast : Bool) (o : Option Store) → AllSized o → Leaves narrow (shape m) m tray (raiseResult m tray d isLast o)
+    raise-leaves : (isLast : Bool) (o : Option Store) → AllSized o → Leaves (shape m) m tray (raiseResult m tray d isLast o)
     unfolding raiseResult
     raise-leaves isLast none z = unsound-leaves
-    raise-leaves false (some t) z = accepted-leaves (shape m) m _ tray (now _ _ (all-store m t s z) (stepped-wide (client m d) (b .wide)))
+    raise-leaves false (some t) z = accepted-leaves (shape m) m _ tray (now _ _ (all-store m t s z) (stepped-next (client m d) (b .wide) .wide))
     raise-leaves true (some t) z = went-leaves (shape m) m _ tray tray (endOf (client m d)) (end-went (client m d)) (now _ _ (all-store m t s z) idle-wide) (unaltered-same _ _)
 
   -- the numbers of a value that may be answered
@@ -216,7 +206,7 @@ module _ (m : Mem) (s : Sound m) (tray : List ℕ) (room : trayLeast ≤ length 
       let t = recordsIn (columns m) (m .table) in
       value-room (x .counts) (listWithin (x .range) (x .query) t) (list-numbers (x .range) (x .query) t (columns m) (wide-held m s .0)) e
 
-  read-leaves : {x : Ask} → Busy narrow (shape m) (client m d) (asking x) → Leaves narrow (shape m) m tray (readResult m tray d x (steps (client m d)))
+  read-leaves : {x : Ask} → Busy (shape m) (client m d) (asking x) → Leaves (shape m) m tray (readResult m tray d x (steps (client m d)))
   unfolding readResult
   read-leaves {x} b =
       let i : ℕ = steps (client m d) in
@@ -231,7 +221,7 @@ module _ (m : Mem) (s : Sound m) (tray : List ℕ) (room : trayLeast ≤ length 
       (λ v. rw v (table-leaves b x (valueOf x (recordsIn (columns m) (m .table))) (taken-room x)))
       (λ v. rw v (file-leaves b))))))
 
-  write-table-leaves : {w : Write} → Busy narrow (shape m) (client m d) (writing w) → Leaves narrow (shape m) m tray (writeTableResult m tray d (w .change))
+  write-table-leaves : {w : Write} → Busy (shape m) (client m d) (writing w) → Leaves (shape m) m tray (writeTableResult m tray d (w .change))
   unfolding writeTableResult
   write-table-leaves {w} b =
       let f = fits-at b in
@@ -241,7 +231,7 @@ module _ (m : Mem) (s : Sound m) (tray : List ℕ) (room : trayLeast ≤ length 
       (all-table m _ s (effect-wide (columns m) (w .change) _ (of-width (columns m) (w .change) (f .columns)) (r .0)) (effect-few (w .change) _ (r .1)))
       (wrote-wide (client m d) (b .wide) _ _))
 
-  write-leaves : {w : Write} → Busy narrow (shape m) (client m d) (writing w) → Leaves narrow (shape m) m tray (writeResult m tray d w (steps (client m d)))
+  write-leaves : {w : Write} → Busy (shape m) (client m d) (writing w) → Leaves (shape m) m tray (writeResult m tray d w (steps (client m d)))
   unfolding writeResult
   write-leaves {w} b =
       let i : ℕ = steps (client m d) in
@@ -251,14 +241,14 @@ module _ (m : Mem) (s : Sound m) (tray : List ℕ) (room : trayLeast ≤ length 
       (λ t. rw t (announce-leaves b _ (sized-announced _ _ (write-label-wide w i (let a = f .columns in let c = s .most in omega arith) (ltb-true i n t)) (sized-in m s))))
       (λ t. rw t (byTest (eqb i n)
       (λ u. rw u (write-table-leaves b))
-      (λ u. rw u (raise-leaves b _ _ (sized-retired _ _ _ (sized-in m s))))))
+      (λ u. rw u (raise-leaves b _ _ (sized-retired _ _ _ _ (sized-in m s))))))
 
-  progress-leaves : (w : Work) → Busy narrow (shape m) (client m d) w → Leaves narrow (shape m) m tray (progressOf m tray d w)
+  progress-leaves : (w : Work) → Busy (shape m) (client m d) w → Leaves (shape m) m tray (progressOf m tray d w)
   unfolding progressOf
   progress-leaves (asking x) b = read-leaves b
   progress-leaves (writing w) b = write-leaves b
 
-pub step-leaves : (m : Mem) (tray : List ℕ) (d : ℕ) → Leaves narrow (shape m) m tray (stepResult m tray d)
+pub step-leaves : (m : Mem) (tray : List ℕ) (d : ℕ) → Leaves (shape m) m tray (stepResult m tray d)
 unfolding stepResult progress
 step-leaves m tray d =
     byTest (eqb (stepCode m tray d) 0)
@@ -266,59 +256,60 @@ step-leaves m tray d =
     (λ e. rw e (refused-leaves (shape m) m tray (stepCode m tray d) (inl (step-low m tray d)) (eqb-false (stepCode m tray d) 0 e)))
 
 -- ---- Abandonings
-retire-leaves : (m : Mem) (d : ℕ) (out : Outcome) (o : Option Store) → Went out → Sound m → d < maxClients → AllSized o → Leaves narrow (shape m) m [] (untrayed (retireResult m d out o))
+retire-leaves : (m : Mem) (d : ℕ) (out : Outcome) (o : Option Store) → Went out → Sound m → d < maxClients → AllSized o → Leaves (shape m) m [] (untrayed (retireResult m d out o))
 unfolding retireResult untrayed
 retire-leaves m d out none w s h z = refused-leaves (shape m) m [] 3 (inl (omega arith)) (λ e. omega arith)
 retire-leaves m d out (some t) w s h z =
     went-leaves (shape m) m _ [] [] out w (all-now (shape m) m _ d _ (all-store m t s z) (s .long .clients) h idle-wide) (unaltered-same _ _)
 
-abandoned-leaves : (m : Mem) (d : ℕ) (w : Work) → Sound m → d < maxClients → Leaves narrow (shape m) m [] (untrayed (abandonedOf m d w))
+abandoned-leaves : (m : Mem) (d : ℕ) (w : Work) → Sound m → d < maxClients → Leaves (shape m) m [] (untrayed (abandonedOf m d w))
 unfolding abandonedOf abandonedWrite untrayed
 abandoned-leaves m d (asking x) s h = accepted-leaves (shape m) m _ [] (all-now (shape m) m m d _ (all-same (shape m) m) (s .long .clients) h idle-wide)
 abandoned-leaves m d (writing w) s h =
     byTest (pastTable w (steps (client m d)))
-    (λ t. rw t (retire-leaves m d _ _ (end-went (client m d)) s h (sized-retired _ _ _ (sized-in m s))))
-    (λ t. rw t (retire-leaves m d _ _ accepted-went s h (sized-retired false _ _ (sized-in m s))))
+    (λ t. rw t (retire-leaves m d _ _ (end-went (client m d)) s h (sized-retired _ _ _ _ (sized-in m s))))
+    (λ t. rw t (retire-leaves m d _ _ accepted-went s h (sized-retired _ false _ _ (sized-in m s))))
 
-pub abandon-leaves : (m : Mem) (d : ℕ) → Leaves narrow (shape m) m [] (untrayed (abandonResult m d))
+pub abandon-leaves : (m : Mem) (d : ℕ) → Leaves (shape m) m [] (untrayed (abandonResult m d))
 unfolding abandonResult abandoned
 abandon-leaves m d = unless-leaves (shape m) m (abandonCode m d) _ (inl (abandon-low m d)) (λ e.
     let p = abandon-passed m d e in abandoned-leaves m d _ (p .0) (p .1))
 
 -- ---- Evictions and renewals
-pub evict-answer-leaves : (m : Mem) (i : ℕ) → Leaves narrow (shape m) m [] (untrayed (evictAnswerResult m i))
+pub evict-answer-leaves : (m : Mem) (i : ℕ) → Leaves (shape m) m [] (untrayed (evictAnswerResult m i))
 unfolding evictAnswerResult untrayed
 evict-answer-leaves m i = unless-leaves (shape m) m (evictAnswerCode m i) _ (inl (evict-answer-low m i)) (λ e.
     let p = evict-answer-passed m i e in
-    let es : List Entry = answersIn narrow (m .answers) in
+    let es : List Entry = answersIn (form m) (m .answers) in
     let w = wide-filed-in m (p .0) in
-    let n = length-answers (m .answers) in
+    let n = length-answers (form m) (m .answers) in
     let h = p .1 in
     let k = w .1 in
     let l = length-without i es (omega arith) in
-    accepted-leaves (shape m) m _ [] (all-filed m _ (p .0) (wide-without (entryWidth narrow) i es (w .0)) (omega arith)))
+    accepted-leaves (shape m) m _ [] (all-filed m _ (p .0) (wide-without entryWidth i es (w .0)) (omega arith)))
 
-pub evict-node-leaves : (m : Mem) (i : ℕ) → Leaves narrow (shape m) m [] (untrayed (evictNodeResult m i))
+pub evict-node-leaves : (m : Mem) (i : ℕ) → Leaves (shape m) m [] (untrayed (evictNodeResult m i))
 unfolding evictNodeResult untrayed
 evict-node-leaves m i = unless-leaves (shape m) m (evictNodeCode m i) _ (inl (evict-node-low m i)) (λ e.
     let p = evict-node-passed m i e in
-    let n = length-nodes (m .nodes) in
+    let n = length-nodes (form m) (m .nodes) in
     let h = p .1 in
-    accepted-leaves (shape m) m _ [] (all-store m _ (p .0) (sized-evict i (storeIn narrow (m .nodes)) (omega arith) (sized-in m (p .0)) .0)))
+    accepted-leaves (shape m) m _ [] (all-store m _ (p .0) (sized-evict i (storeIn (form m) (m .nodes)) (sized-in m (p .0)))))
 
-pub renew-leaves : (m : Mem) → Leaves narrow (shape m) m [] (untrayed (renewResult m))
+pub renew-leaves : (m : Mem) → Leaves (shape m) m [] (untrayed (renewResult m))
 unfolding renewResult untrayed renewed
 renew-leaves m = unless-leaves (shape m) m (renewCode m) _ (inl (renew-low m)) (λ e.
     let s = renew-passed m e .0 in
     accepted-leaves (shape m) m _ [] (record {
+      kept = refl;
       table = unaltered-same _ _;
-      nodes = unaltered-store (m .nodes) (store 1 []) (s .long .nodes) (s .nodes) (record { wide = wide-nil 8; few = omega arith });
-      answers = unaltered-answers m [] s (wide-nil (entryWidth narrow)) (omega arith);
+      nodes = unaltered-store m (store 1 []) s (sized-none 1);
+      answers = unaltered-answers m [] s (wide-nil entryWidth) (omega arith);
       clients = unaltered-same _ _;
     }))
 
 -- ---- All calls
-call-leaves : (m : Mem) (c : Call) → Leaves (form m) (shape m) m (trayOf c) (callResult m c)
+call-leaves : (m : Mem) (c : Call) → Leaves (shape m) m (trayOf c) (callResult m c)
 unfolding callResult trayOf
 call-leaves m (begin d r) = begin-leaves m d r
 call-leaves m (step d tray) = step-leaves m tray d
@@ -328,7 +319,7 @@ call-leaves m (evictNode i) = evict-node-leaves m i
 call-leaves m renew = renew-leaves m
 
 -- with a tally a call is the call, or refused by 15
-made-leaves : (m : Mem) (x : Made) → Leaves (form m) (shape m) m (trayOf (x .call)) (madeResult m x)
+made-leaves : (m : Mem) (x : Made) → Leaves (shape m) m (trayOf (x .call)) (madeResult m x)
 unfolding madeResult
 made-leaves m x = byTest (isTallyFull m x)
     (λ t. rw t (refused-leaves (shape m) m (trayOf (x .call)) refusedTallyFull (inr (inr refl)) (λ e. omega arith)))

@@ -11,6 +11,7 @@ use lib.Dec.{eqb, leb}
 use borrow.Author.Tests.{eqb-true, eq-eqb, ne-eqb, lt-leb, not-true}
 use lib.ListN.{length, getD, replicate}
 use Rattle.lists.specs.Lists.{same, keep, place, without, allBelow, listed, padded, written, rows, flat, entriesIn, withEntries}
+use Rattle.lists.specs.Lists.{stretch, withStretch, joined, partsIn, withParts, keptIn, withKept, wholes, halves, wholesAt, halvesAt}
 use Rattle.laws.proofs.ListLaws.{and-left, and-right, same-eq}
 use Rattle.query.specs.declared.Column.the-variants.{Is}
 use Rattle.query.specs.declared.Range.the-variants.{None}
@@ -21,14 +22,16 @@ use Rattle.query.specs.Encoding.{columnsIn, queryIn}
 use Rattle.rules.specs.declared.Outcome.the-variants.{Answered}
 use Rattle.rules.specs.Table.{listOf}
 use Rattle.rules.specs.Nodes.{labelIn, pending, revision, withPending, withRevision, hasLabel, nodePlace, isPresent, nodeOf, withNode, evictNode}
-use Rattle.rules.specs.Nodes.{added, isFree, oldestFree, makeRoom, addedIn, ensured, isHigh, isWorn}
+use Rattle.rules.specs.Nodes.{newNode, added, isFree, oldestFree, makeRoom, addedIn, ensured, isHigh, isWorn}
 use Rattle.rules.specs.Answers.{Entry, keyIn, lengthIn, revisionIn, listIn, valueIn, hasKeyOf, atLeast, serves, fetchPlace, keyPlace, filed, isLong, someLong, isCount, mostIn}
 use Rattle.rules.specs.Client.{kind, steps, sawPending, entryOf, idle, isIdle, begun, askAt, workAt, isBad, stepped, noted, holding}
-use Rattle.query.specs.Shape.{shapeOf, narrow}
+use Rattle.query.specs.Shape.{shapeOf}
 use Rattle.rules.specs.Layout.{tableLeast, nodesLeast, answersLeast, clientsLeast, trayLeast, reads}
 use Rattle.rules.specs.Memory.{Mem, mem, recordsIn, storeIn, withStore, answersIn, withAnswers, clientIn, withClient, cleared, opened}
+use Rattle.rules.specs.Memory.{current, wideFloor, withWideFloor, nodeFrom, nodeTo, entryFrom, entryTo, told}
+use Rattle.rules.specs.Checks.{checkOf, misfit, labelled, bared, checkFor}
 use Rattle.rules.specs.Outcome.{number}
-use Rattle.rules.specs.Refusals.{client, isShort, badColumns, isUnsound, noClient, openCode, beginCode, atClient, stepCode, shape}
+use Rattle.rules.specs.Refusals.{form, client, isShort, badColumns, isUnsound, noClient, openCode, beginCode, atClient, stepCode, shape}
 use Rattle.rules.specs.Steps.{nowAt, storeBack, answered, lookResult, fetchResult, tableResult, fileResult, readResult, progressOf, progress}
 use Rattle.rules.specs.Calls.{unless, beginResult, stepResult}
 use Rattle.rules.specs.History.{Call, begin, step, abandon, evictAnswer, evictNode as dropNode, renew, untrayed}
@@ -59,7 +62,7 @@ played =
     ∷ begin 0 (readOf false None asked) ∷ step 0 tray ∷ step 0 tray ∷ step 0 tray ∷ []
 
 abbrev pub lent : Mem
-lent = mem (replicate tableLeast 7) (replicate (nodesLeast narrow) 7) (replicate (answersLeast narrow (shapeOf 1)) 7) (replicate (clientsLeast narrow (shapeOf 1)) 7)
+lent = mem (replicate tableLeast 7) (replicate (nodesLeast current) 7) (replicate (answersLeast current (shapeOf 1)) 7) (replicate (clientsLeast current (shapeOf 1)) 7)
 
 pub may-open : openCode lent 1 ≡ 0
 unfolding openCode isShort badColumns
@@ -76,13 +79,13 @@ q = record { shape = shapeOf 1; query = Is 5 ∷ []; counts = false; range = Non
 ready : Mem → ℕ → Bool
 ready m n =
     eqb (stepCode m tray 0) 0
-    && (not (isIdle narrow (client m 0)) && (eqb (kind (client m 0)) reads && (sameAsk (askAt (shape m) (client m 0)) q && eqb (steps (client m 0)) n)))
+    && (not (isIdle (client m 0)) && (eqb (kind (client m 0)) reads && (sameAsk (askAt (shape m) (client m 0)) q && eqb (steps (client m 0)) n)))
 
 -- an answer of no records to q is on file, at place 0
 onFile : Mem → Bool
 onFile m =
-    eqb (length (answersIn narrow (m .answers))) 1
-    && (same (keyIn (getD (answersIn narrow (m .answers)) 0 [])) (askKey q) && eqb (lengthIn (getD (answersIn narrow (m .answers)) 0 [])) 0)
+    eqb (length (answersIn (form m) (m .answers))) 1
+    && (same (keyIn (getD (answersIn (form m) (m .answers)) 0 [])) (askKey q) && eqb (lengthIn (getD (answersIn (form m) (m .answers)) 0 [])) 0)
 
 quiescentAt : Mem → Call → Bool
 quiescentAt m c = isQuiet q m && keepsNodes q m (callResult m c .mem)
@@ -110,8 +113,8 @@ tests i m c =
     && ((not (eqb i 5) || ready m (length (readLabels q) + 2))
     && (not (eqb i 9) || (ready m (length (readLabels q)) && onFile m)))))))
 
-computed : allPass tests 0 (opened narrow (shapeOf 1) lent) played ≡ true
-unfolding same keep place without allBelow listed padded written rows flat entriesIn withEntries pick readNode named readCount columnOf queryOf wellMarked isQuery namesAll termValue columnValue tag tags labelWords marks keyWords columnsIn queryIn countsIn countKey rangeOf rangeIn rangeKey wantedKey unranged bareKey within isRange isReversed listOf labelIn pending revision withPending withRevision hasLabel nodePlace isPresent nodeOf withNode evictNode added isFree oldestFree makeRoom addedIn ensured isHigh isWorn keyIn lengthIn revisionIn isCount mostIn listIn valueIn hasKeyOf atLeast serves fetchPlace keyPlace filed isLong someLong kind steps sawPending entryOf idle isIdle begun workAt askAt isBad stepped noted holding recordsIn storeIn withStore answersIn withAnswers clientIn withClient cleared opened client isShort badColumns isUnsound noClient openCode beginCode atClient stepCode nowAt storeBack answered lookResult fetchResult tableResult fileResult readResult progressOf progress unless beginResult stepResult untrayed callResult isAccepted endsWork endsAt isOpen noneOpen isQuiet stillThere keepsNodes number lies admits sameAsk sameWanted sameRange sameQuery sameColumn readNodes ofRecords ofNumber askFault listWithin valueOf mayAnswer readLabels askKey askIn kindOf keyOf workIn workFault stepsInAll isWrite askOf workOf faultOf sameShape ready onFile quiescentAt mayFile goes tests allPass
+computed : allPass tests 0 (opened (shapeOf 1) lent) played ≡ true
+unfolding same keep place without allBelow listed padded written rows flat entriesIn withEntries stretch withStretch joined partsIn withParts keptIn withKept wholes halves wholesAt halvesAt checkOf misfit labelled bared checkFor wideFloor withWideFloor nodeFrom nodeTo entryFrom entryTo told pick readNode named readCount columnOf queryOf wellMarked isQuery namesAll termValue columnValue tag tags labelWords marks keyWords columnsIn queryIn countsIn countKey rangeOf rangeIn rangeKey wantedKey unranged bareKey within isRange isReversed listOf labelIn pending revision withPending withRevision hasLabel nodePlace isPresent nodeOf withNode evictNode newNode added isFree oldestFree makeRoom addedIn ensured isHigh isWorn keyIn lengthIn revisionIn isCount mostIn listIn valueIn hasKeyOf atLeast serves fetchPlace keyPlace filed isLong someLong kind steps sawPending entryOf idle isIdle begun workAt askAt isBad stepped noted holding recordsIn storeIn withStore answersIn withAnswers clientIn withClient cleared opened client isShort badColumns isUnsound noClient openCode beginCode atClient stepCode nowAt storeBack answered lookResult fetchResult tableResult fileResult readResult progressOf progress unless beginResult stepResult untrayed callResult isAccepted endsWork endsAt isOpen noneOpen isQuiet stillThere keepsNodes number lies admits sameAsk sameWanted sameRange sameQuery sameColumn readNodes ofRecords ofNumber askFault listWithin valueOf mayAnswer readLabels askKey askIn kindOf keyOf workIn workFault stepsInAll isWrite askOf workOf faultOf sameShape ready onFile quiescentAt mayFile goes tests allPass
 computed = refl
 
 -- ---- What they say of each call
@@ -154,13 +157,13 @@ is-ready : (m : Mem) (n : ℕ) → ready m n ≡ true → (stepCode m tray 0 ≡
 unfolding ready
 is-ready m n e =
     let a = and-right (eqb (stepCode m tray 0) 0) _ e in
-    let b = and-right (not (isIdle narrow (client m 0))) _ a in
+    let b = and-right (not (isIdle (client m 0))) _ a in
     let c = and-right (eqb (kind (client m 0)) reads) _ b in
     let k = sameAsk (askAt (shape m) (client m 0)) q in (
       eqb-true (stepCode m tray 0) 0 (and-left (eqb (stepCode m tray 0) 0) _ e),
       record {
         below = omega arith;
-        busy = not-true (isIdle narrow (client m 0)) (and-left (not (isIdle narrow (client m 0))) _ a);
+        busy = not-true (isIdle (client m 0)) (and-left (not (isIdle (client m 0))) _ a);
         works = asking-at (shape m) (client m 0) (eqb-true (kind (client m 0)) reads (and-left (eqb (kind (client m 0)) reads) _ b))
             ∙ ap asking (sameAsk-eq (askAt (shape m) (client m 0)) q (and-left k _ c));
         made = eqb-true (steps (client m 0)) n (and-right k _ c);
@@ -219,20 +222,20 @@ was-filed =
     }
 
 abbrev e : Entry
-e = getD (answersIn narrow (memAt example 9 .answers)) 0 []
+e = getD (answersIn (form (memAt example 9)) (memAt example 9 .answers)) 0 []
 
 record OnFile (m : Mem) : Type 0 where
-  one : length (answersIn narrow (m .answers)) ≡ 1
-  key : keyIn (getD (answersIn narrow (m .answers)) 0 []) ≡ askKey q
-  none : lengthIn (getD (answersIn narrow (m .answers)) 0 []) ≡ 0
+  one : length (answersIn (form m) (m .answers)) ≡ 1
+  key : keyIn (getD (answersIn (form m) (m .answers)) 0 []) ≡ askKey q
+  none : lengthIn (getD (answersIn (form m) (m .answers)) 0 []) ≡ 0
 
 is-filed : (m : Mem) → onFile m ≡ true → OnFile m
 unfolding onFile
 is-filed m e =
-    let x = getD (answersIn narrow (m .answers)) 0 [] in
-    let a = and-right (eqb (length (answersIn narrow (m .answers))) 1) _ e in
+    let x = getD (answersIn (form m) (m .answers)) 0 [] in
+    let a = and-right (eqb (length (answersIn (form m) (m .answers))) 1) _ e in
     record {
-      one = eqb-true (length (answersIn narrow (m .answers))) 1 (and-left (eqb (length (answersIn narrow (m .answers))) 1) _ e);
+      one = eqb-true (length (answersIn (form m) (m .answers))) 1 (and-left (eqb (length (answersIn (form m) (m .answers))) 1) _ e);
       key = same-eq (keyIn x) (askKey q) (and-left (same (keyIn x) (askKey q)) _ a);
       none = eqb-true (lengthIn x) 0 (and-right (same (keyIn x) (askKey q)) _ a);
     }

@@ -11,6 +11,7 @@ use lib.Dec.{eqb, leb, ltb}
 use borrow.Author.Tests.{eqb-true, eq-eqb, ne-eqb, lt-leb, le-ltb, not-true}
 use lib.ListN.{length, getD, replicate}
 use Rattle.lists.specs.Lists.{same, before, keep, place, without, allBelow, listed, padded, written, rows, flat, entriesIn, withEntries}
+use Rattle.lists.specs.Lists.{stretch, withStretch, joined, partsIn, withParts, keptIn, withKept, wholes, halves, wholesAt, halvesAt}
 use Rattle.laws.proofs.ListLaws.{and-left, and-right, same-eq}
 use Rattle.query.specs.declared.Column.the-variants.{Is, Wildcard}
 use Rattle.query.specs.declared.Range.the-variants.{None}
@@ -21,14 +22,16 @@ use Rattle.query.specs.Encoding.{columnsIn, queryIn}
 use Rattle.rules.specs.declared.Outcome.the-variants.{Answered}
 use Rattle.rules.specs.Table.{listOf, has, putIn, target, isFull, effect, noRoom, changes}
 use Rattle.rules.specs.Nodes.{labelIn, pending, revision, withPending, withRevision, hasLabel, nodePlace, isPresent, nodeOf, withNode, evictNode}
-use Rattle.rules.specs.Nodes.{added, isFree, oldestFree, makeRoom, addedIn, ensured, announcedIn, announced, isPending, released, lifted, mayRetire, retired, isHigh, isWorn}
+use Rattle.rules.specs.Nodes.{newNode, added, isFree, oldestFree, makeRoom, addedIn, ensured, announcedIn, announced, isPending, released, lifted, mayRetire, retired, isHigh, isWorn}
 use Rattle.rules.specs.Answers.{Entry, keyIn, lengthIn, revisionIn, listIn, valueIn, hasKeyOf, atLeast, serves, fetchPlace, keyPlace, filed, isLong, someLong, isCount, mostIn}
 use Rattle.rules.specs.Client.{kind, steps, sawPending, didChange, foundFull, entryOf, idle, isIdle, begun, askAt, writeAt, workAt, isBad, stepped, flag, noted, holding, wrote}
-use Rattle.query.specs.Shape.{shapeOf, narrow}
+use Rattle.query.specs.Shape.{shapeOf}
 use Rattle.rules.specs.Layout.{tableLeast, nodesLeast, answersLeast, clientsLeast, trayLeast, reads}
 use Rattle.rules.specs.Memory.{Mem, mem, recordsIn, withRecords, storeIn, withStore, answersIn, withAnswers, clientIn, withClient, cleared, opened}
+use Rattle.rules.specs.Memory.{current, wideFloor, withWideFloor, nodeFrom, nodeTo, entryFrom, entryTo, told}
+use Rattle.rules.specs.Checks.{checkOf, misfit, labelled, bared, checkFor}
 use Rattle.rules.specs.Outcome.{number}
-use Rattle.rules.specs.Refusals.{client, isShort, badColumns, isUnsound, noClient, openCode, beginCode, atClient, stepCode, evictNodeCode, shape}
+use Rattle.rules.specs.Refusals.{form, client, isShort, badColumns, isUnsound, noClient, openCode, beginCode, atClient, stepCode, evictNodeCode, shape}
 use Rattle.rules.specs.Steps.{nowAt, storeBack, answered, lookResult, fetchResult, tableResult, fileResult, readResult, announceResult, writeTableResult}
 use Rattle.rules.specs.Steps.{endOf, raiseResult, writeResult, progressOf, progress}
 use Rattle.rules.specs.Calls.{unless, beginResult, stepResult, evictNodeResult}
@@ -63,7 +66,7 @@ played =
     ∷ dropNode 1 ∷ step 0 tray ∷ step 0 tray ∷ step 1 tray ∷ step 1 tray ∷ []
 
 abbrev pub lent : Mem
-lent = mem (replicate tableLeast 7) (replicate (nodesLeast narrow) 7) (replicate (answersLeast narrow (shapeOf 2)) 7) (replicate (clientsLeast narrow (shapeOf 2)) 7)
+lent = mem (replicate tableLeast 7) (replicate (nodesLeast current) 7) (replicate (answersLeast current (shapeOf 2)) 7) (replicate (clientsLeast current (shapeOf 2)) 7)
 
 pub may-open : openCode lent 2 ≡ 0
 unfolding openCode isShort badColumns
@@ -80,14 +83,14 @@ q = record { shape = shapeOf 2; query = Is 5 ∷ Wildcard ∷ []; counts = false
 ready : Mem → ℕ → ℕ → Bool
 ready m d n =
     eqb (stepCode m tray d) 0
-    && (not (isIdle narrow (client m d)) && (eqb (kind (client m d)) reads && (sameAsk (askAt (shape m) (client m d)) q && eqb (steps (client m d)) n)))
+    && (not (isIdle (client m d)) && (eqb (kind (client m d)) reads && (sameAsk (askAt (shape m) (client m d)) q && eqb (steps (client m d)) n)))
 
 -- the answer (5,7) to q is on file, at place 0
 onFile : Mem → Bool
 onFile m =
-    eqb (length (answersIn narrow (m .answers))) 1
-    && (same (keyIn (getD (answersIn narrow (m .answers)) 0 [])) (askKey q)
-    && (eqb (lengthIn (getD (answersIn narrow (m .answers)) 0 [])) 1 && same (listIn narrow (shapeOf 2) (getD (answersIn narrow (m .answers)) 0 [])) (5 ∷ 7 ∷ [])))
+    eqb (length (answersIn (form m) (m .answers))) 1
+    && (same (keyIn (getD (answersIn (form m) (m .answers)) 0 [])) (askKey q)
+    && (eqb (lengthIn (getD (answersIn (form m) (m .answers)) 0 [])) 1 && same (listIn (shapeOf 2) (getD (answersIn (form m) (m .answers)) 0 [])) (5 ∷ 7 ∷ [])))
 
 quiescentAt : Mem → Call → Bool
 quiescentAt m c = isQuiet q m && keepsNodes q m (callResult m c .mem)
@@ -116,8 +119,8 @@ tests i m c =
     && ((not (eqb i 11) || accepts m c)
     && ((not (eqb i 18) || ready m 0 (length (readLabels q) + 2)) && (not (eqb i 20) || (ready m 1 (length (readLabels q)) && onFile m)))))
 
-computed : allPass tests 0 (opened narrow (shapeOf 2) lent) played ≡ true
-unfolding same before keep place without allBelow listed padded written rows flat entriesIn withEntries admits lies naming pick readNode writeNode named readNodes writeNodes readCount writeCount columnOf queryOf wellMarked isQuery namesAll recordOf termValue columnValue tag tags labelWords marks keyWords columnsIn queryIn countsIn countKey rangeOf rangeIn rangeKey wantedKey unranged bareKey within isRange isReversed listOf has putIn target isFull effect noRoom changes labelIn pending revision withPending withRevision hasLabel nodePlace isPresent nodeOf withNode evictNode added isFree oldestFree makeRoom addedIn ensured announcedIn announced isPending released lifted mayRetire retired isHigh isWorn keyIn lengthIn revisionIn isCount mostIn listIn valueIn hasKeyOf atLeast serves fetchPlace keyPlace filed isLong someLong kind steps sawPending didChange foundFull entryOf idle isIdle begun askAt writeAt workAt isBad stepped flag noted holding wrote recordsIn withRecords storeIn withStore answersIn withAnswers clientIn withClient cleared opened client isShort badColumns isUnsound noClient openCode beginCode atClient stepCode evictNodeCode nowAt storeBack answered lookResult fetchResult tableResult fileResult readResult announceResult writeTableResult endOf raiseResult writeResult progressOf progress unless beginResult stepResult evictNodeResult untrayed callResult isAccepted endsWork endsAt isOpen noneOpen isQuiet stillThere keepsNodes number sameAsk sameWanted sameRange sameQuery sameColumn sameShape ofRecords ofNumber askFault listWithin valueOf mayAnswer readLabels writeLabels askKey askIn changeKind kindOf keyOf changeIn writeIn workIn workFault stepsInAll isWrite askOf workOf faultOf ready onFile quiescentAt mayFile goes accepts tests allPass
+computed : allPass tests 0 (opened (shapeOf 2) lent) played ≡ true
+unfolding same before keep place without allBelow listed padded written rows flat entriesIn withEntries stretch withStretch joined partsIn withParts keptIn withKept wholes halves wholesAt halvesAt checkOf misfit labelled bared checkFor wideFloor withWideFloor nodeFrom nodeTo entryFrom entryTo told admits lies naming pick readNode writeNode named readNodes writeNodes readCount writeCount columnOf queryOf wellMarked isQuery namesAll recordOf termValue columnValue tag tags labelWords marks keyWords columnsIn queryIn countsIn countKey rangeOf rangeIn rangeKey wantedKey unranged bareKey within isRange isReversed listOf has putIn target isFull effect noRoom changes labelIn pending revision withPending withRevision hasLabel nodePlace isPresent nodeOf withNode evictNode newNode added isFree oldestFree makeRoom addedIn ensured announcedIn announced isPending released lifted mayRetire retired isHigh isWorn keyIn lengthIn revisionIn isCount mostIn listIn valueIn hasKeyOf atLeast serves fetchPlace keyPlace filed isLong someLong kind steps sawPending didChange foundFull entryOf idle isIdle begun askAt writeAt workAt isBad stepped flag noted holding wrote recordsIn withRecords storeIn withStore answersIn withAnswers clientIn withClient cleared opened client isShort badColumns isUnsound noClient openCode beginCode atClient stepCode evictNodeCode nowAt storeBack answered lookResult fetchResult tableResult fileResult readResult announceResult writeTableResult endOf raiseResult writeResult progressOf progress unless beginResult stepResult evictNodeResult untrayed callResult isAccepted endsWork endsAt isOpen noneOpen isQuiet stillThere keepsNodes number sameAsk sameWanted sameRange sameQuery sameColumn sameShape ofRecords ofNumber askFault listWithin valueOf mayAnswer readLabels writeLabels askKey askIn changeKind kindOf keyOf changeIn writeIn workIn workFault stepsInAll isWrite askOf workOf faultOf ready onFile quiescentAt mayFile goes accepts tests allPass
 computed = refl
 
 -- ---- What they say of each call
@@ -166,13 +169,13 @@ is-ready : (m : Mem) (d n : ℕ) → d < 12 → ready m d n ≡ true → (stepCo
 unfolding ready
 is-ready m d n l e =
     let a = and-right (eqb (stepCode m tray d) 0) _ e in
-    let b = and-right (not (isIdle narrow (client m d))) _ a in
+    let b = and-right (not (isIdle (client m d))) _ a in
     let c = and-right (eqb (kind (client m d)) reads) _ b in
     let k = sameAsk (askAt (shape m) (client m d)) q in (
       eqb-true (stepCode m tray d) 0 (and-left (eqb (stepCode m tray d) 0) _ e),
       record {
         below = l;
-        busy = not-true (isIdle narrow (client m d)) (and-left (not (isIdle narrow (client m d))) _ a);
+        busy = not-true (isIdle (client m d)) (and-left (not (isIdle (client m d))) _ a);
         works = asking-at (shape m) (client m d) (eqb-true (kind (client m d)) reads (and-left (eqb (kind (client m d)) reads) _ b))
             ∙ ap asking (sameAsk-eq (askAt (shape m) (client m d)) q (and-left k _ c));
         made = eqb-true (steps (client m d)) n (and-right k _ c);
@@ -231,18 +234,18 @@ was-filed =
     record { client = 0; request = readOf false None asked; tray = tray; calls = file-call; takes = r .0; room = room-unlent example played refl 18; files = r .1; runs = filing-runs }
 
 abbrev e : Entry
-e = getD (answersIn narrow (memAt example 20 .answers)) 0 []
+e = getD (answersIn (form (memAt example 20)) (memAt example 20 .answers)) 0 []
 
 record OnFile (m : Mem) : Type 0 where
-  one : length (answersIn narrow (m .answers)) ≡ 1
-  key : keyIn (getD (answersIn narrow (m .answers)) 0 []) ≡ askKey q
-  count : lengthIn (getD (answersIn narrow (m .answers)) 0 []) ≡ 1
-  list : listIn narrow (shapeOf 2) (getD (answersIn narrow (m .answers)) 0 []) ≡ 5 ∷ 7 ∷ []
+  one : length (answersIn (form m) (m .answers)) ≡ 1
+  key : keyIn (getD (answersIn (form m) (m .answers)) 0 []) ≡ askKey q
+  count : lengthIn (getD (answersIn (form m) (m .answers)) 0 []) ≡ 1
+  list : listIn (shapeOf 2) (getD (answersIn (form m) (m .answers)) 0 []) ≡ 5 ∷ 7 ∷ []
 
 is-filed : (m : Mem) → onFile m ≡ true → OnFile m
 unfolding onFile
 is-filed m e =
-    let es = answersIn narrow (m .answers) in
+    let es = answersIn (form m) (m .answers) in
     let x = getD es 0 [] in
     let a = and-right (eqb (length es) 1) _ e in
     let b = and-right (same (keyIn x) (askKey q)) _ a in
@@ -250,7 +253,7 @@ is-filed m e =
       one = eqb-true (length es) 1 (and-left (eqb (length es) 1) _ e);
       key = same-eq (keyIn x) (askKey q) (and-left (same (keyIn x) (askKey q)) _ a);
       count = eqb-true (lengthIn x) 1 (and-left (eqb (lengthIn x) 1) _ b);
-      list = same-eq (listIn narrow (shapeOf 2) x) (5 ∷ 7 ∷ []) (and-right (eqb (lengthIn x) 1) _ b);
+      list = same-eq (listIn (shapeOf 2) x) (5 ∷ 7 ∷ []) (and-right (eqb (lengthIn x) 1) _ b);
     }
 
 filed-there : OnFile (memAt example 20)

@@ -13,6 +13,7 @@ use lib.Dec.{eqb, leb}
 use borrow.Author.Tests.{eqb-true, eq-eqb, lt-leb, not-true}
 use lib.ListN.{length, getD}
 use Rattle.lists.specs.Lists.{same, keep, place, allBelow, listed, padded, written, rows, flat, entriesIn, withEntries, isIn, someIn}
+use Rattle.lists.specs.Lists.{stretch, withStretch, joined, partsIn, withParts, keptIn, withKept, wholes, halves, wholesAt, halvesAt}
 use Rattle.laws.proofs.ListLaws.{and-left, and-right, same-eq, below-at}
 use Rattle.laws.proofs.TestLaws.{byTest, clash}
 use Rattle.query.specs.declared.Range.the-variants.{None}
@@ -20,17 +21,19 @@ use Rattle.query.specs.Query.{admits, lies, naming, pick, readNode, writeNode, 
 use Rattle.query.specs.Range.{within, isRange, isReversed}
 use Rattle.query.specs.Encoding.{columnOf, queryOf, wellMarked, isQuery, namesAll, recordOf, termValue, columnValue, tag, tags, labelWords, marks, keyWords, countsIn, countKey, rangeOf, rangeIn, rangeKey, wantedKey, unranged, bareKey}
 use Rattle.query.specs.Encoding.{columnsIn, queryIn}
-use Rattle.query.specs.Shape.{shapeOf, narrow}
+use Rattle.query.specs.Shape.{shapeOf}
 use Rattle.rules.specs.declared.Outcome.the-variants.{Answered}
 use Rattle.rules.specs.Table.{listOf, has, putIn, target, isFull, effect, noRoom, changes}
 use Rattle.rules.specs.Nodes.{labelIn, pending, revision, withPending, withRevision, hasLabel, nodePlace, isPresent, nodeOf, withNode}
-use Rattle.rules.specs.Nodes.{added, makeRoom, addedIn, ensured, announcedIn, announced, isPending, released, lifted, mayRetire, retired, isHigh, isWorn}
+use Rattle.rules.specs.Nodes.{newNode, added, makeRoom, addedIn, ensured, announcedIn, announced, isPending, released, lifted, mayRetire, retired, isHigh, isWorn}
 use Rattle.rules.specs.Answers.{Entry, keyIn, lengthIn, revisionIn, valueIn, hasKeyOf, atLeast, serves, fetchPlace, keyPlace, filed, isLong, someLong, isCount, mostIn}
 use Rattle.rules.specs.Client.{kind, steps, sawPending, didChange, foundFull, entryOf, idle, isIdle, begun, writeAt, workAt, isBad, stepped, flag, noted, holding, wrote}
 use Rattle.rules.specs.Layout.{maxClients}
 use Rattle.rules.specs.Memory.{Mem, recordsIn, withRecords, storeIn, withStore, answersIn, withAnswers, clientIn, withClient, cleared, opened}
+use Rattle.rules.specs.Memory.{current, wideFloor, withWideFloor, nodeFrom, nodeTo, entryFrom, entryTo, told}
+use Rattle.rules.specs.Checks.{checkOf, misfit, labelled, bared, checkFor}
 use Rattle.rules.specs.Outcome.{number}
-use Rattle.rules.specs.Refusals.{client, isShort, badColumns, isUnsound, noClient, beginCode, atClient, stepCode}
+use Rattle.rules.specs.Refusals.{form, client, isShort, badColumns, isUnsound, noClient, beginCode, atClient, stepCode}
 use Rattle.rules.specs.Steps.{nowAt, storeBack, answered, lookResult, fetchResult, tableResult, fileResult, readResult, announceResult, writeTableResult}
 use Rattle.rules.specs.Steps.{endOf, raiseResult, writeResult, progressOf, progress}
 use Rattle.rules.specs.Calls.{unless, beginResult, stepResult}
@@ -78,10 +81,10 @@ x = askOf (shapeOf 1) false None asked
 -- ---- The tests of a call: its number, the memories that it finds, and the call
 -- what is on file: how many answers, and of the first how many records and its key; for x there is one, of one record
 abbrev answerIn : Mem → Entry
-answerIn m = getD (answersIn narrow (m .answers)) 0 []
+answerIn m = getD (answersIn (form m) (m .answers)) 0 []
 
 abbrev onFile : Mem → List ℕ
-onFile m = length (answersIn narrow (m .answers)) ∷ lengthIn (answerIn m) ∷ keyIn (answerIn m)
+onFile m = length (answersIn (form m) (m .answers)) ∷ lengthIn (answerIn m) ∷ keyIn (answerIn m)
 
 -- the calls that may end what is under way at desk 0, and at desk 1: whether call 21 does is for the theorem to say
 abbrev mayEnd : ℕ → ℕ → Bool
@@ -119,8 +122,8 @@ tests i m c j =
 six : ℕ → Mem → Call → Bool
 six i m c = allBelow 6 (tests i m c)
 
-computed : allPass six 0 (opened narrow (shapeOf 1) lent) played ≡ true
-unfolding same keep place allBelow listed padded written rows flat entriesIn withEntries admits lies naming pick readNode writeNode named readNodes writeNodes readCount writeCount columnOf queryOf wellMarked isQuery namesAll recordOf termValue columnValue tag tags labelWords marks keyWords columnsIn queryIn countsIn countKey rangeOf rangeIn rangeKey wantedKey unranged bareKey within isRange isReversed listOf has putIn target isFull effect noRoom changes labelIn pending revision withPending withRevision hasLabel nodePlace isPresent nodeOf withNode added makeRoom addedIn ensured announcedIn announced isPending released lifted mayRetire retired isHigh isWorn keyIn lengthIn revisionIn isCount mostIn hasKeyOf atLeast serves fetchPlace keyPlace filed isLong someLong kind steps sawPending didChange foundFull entryOf idle isIdle begun writeAt workAt isBad stepped flag noted holding wrote recordsIn withRecords storeIn withStore answersIn withAnswers clientIn withClient cleared opened client isShort badColumns isUnsound noClient beginCode atClient stepCode nowAt storeBack answered lookResult fetchResult tableResult fileResult readResult announceResult writeTableResult endOf raiseResult writeResult progressOf progress unless beginResult stepResult untrayed callResult isAccepted number endsWork endsAt stillThere keepsNodes isOpen noneOpen isQuiet shares someIn isIn isUnchanged ofRecords askFault listWithin valueOf mayAnswer readLabels writeLabels askKey askIn changeKind kindOf keyOf changeIn writeIn workIn workFault stepsInAll isWrite askOf workOf faultOf writes single tests six allPass
+computed : allPass six 0 (opened (shapeOf 1) lent) played ≡ true
+unfolding same keep place allBelow listed padded written rows flat entriesIn withEntries stretch withStretch joined partsIn withParts keptIn withKept wholes halves wholesAt halvesAt checkOf misfit labelled bared checkFor wideFloor withWideFloor nodeFrom nodeTo entryFrom entryTo told admits lies naming pick readNode writeNode named readNodes writeNodes readCount writeCount columnOf queryOf wellMarked isQuery namesAll recordOf termValue columnValue tag tags labelWords marks keyWords columnsIn queryIn countsIn countKey rangeOf rangeIn rangeKey wantedKey unranged bareKey within isRange isReversed listOf has putIn target isFull effect noRoom changes labelIn pending revision withPending withRevision hasLabel nodePlace isPresent nodeOf withNode newNode added makeRoom addedIn ensured announcedIn announced isPending released lifted mayRetire retired isHigh isWorn keyIn lengthIn revisionIn isCount mostIn hasKeyOf atLeast serves fetchPlace keyPlace filed isLong someLong kind steps sawPending didChange foundFull entryOf idle isIdle begun writeAt workAt isBad stepped flag noted holding wrote recordsIn withRecords storeIn withStore answersIn withAnswers clientIn withClient cleared opened client isShort badColumns isUnsound noClient beginCode atClient stepCode nowAt storeBack answered lookResult fetchResult tableResult fileResult readResult announceResult writeTableResult endOf raiseResult writeResult progressOf progress unless beginResult stepResult untrayed callResult isAccepted number endsWork endsAt stillThere keepsNodes isOpen noneOpen isQuiet shares someIn isIn isUnchanged ofRecords askFault listWithin valueOf mayAnswer readLabels writeLabels askKey askIn changeKind kindOf keyOf changeIn writeIn workIn workFault stepsInAll isWrite askOf workOf faultOf writes single tests six allPass
 computed = refl
 
 -- ---- What they say of each call
@@ -197,7 +200,7 @@ fetched b n m l f c s e t =
     let u = runs reading 0 b n (omega arith) (omega arith) l f c in
     let z = stands b n 2 m u s in
     let o = same-eq (onFile (memAt example n)) (1 ∷ 1 ∷ askKey x) t in
-    let k : length (answersIn narrow (memAt example n .answers)) ≡ 1 = cc in
+    let k : length (answersIn (form (memAt example n)) (memAt example n .answers)) ≡ 1 = cc in
     record { client = 0; request = reading; tray = tray; within = omega arith; calls = e; takes = z .1; room = room-unlent example played refl n; fetches = rw looks (z .0); runs = u; place = 0; there = omega arith; is = refl; key = cc }
 
 fetch-21 : Fetches example x 18 21 (answerIn (memAt example 21))
@@ -279,7 +282,7 @@ pub record NeverCounts (h : History) (x : Ask) (c n : ℕ) : Type 0 where
 abbrev pub NeverCountsGets : History → Type 0
 NeverCountsGets h = (x : Ask) (b n : ℕ) (e : Entry) (y : Fetches h x b n e) (b′ f : ℕ) → Filed h x b′ f → LastFiled h x f n
     → (c : ℕ) → c ≤ b → c ≤ b′ → (c ≡ b) ⊎ (c ≡ b′) → NeverCounts h x c n
-    → (resultAt h n .out ≡ Answered (valueAt h n e .count) true) × (resultAt h n .tray ≡ written (y .tray) 0 (valueAt h n e .numbers))
+    → (resultAt h n .out ≡ Answered (valueAt h e .count) true) × (resultAt h n .tray ≡ written (y .tray) 0 (valueAt h e .numbers))
 
 -- both inserts end unchanged, and the read of calls 24 to 27 finds the answer on file; but its fetch does not answer
 pub never-would-fail : NeverCountsGets example → ⊥

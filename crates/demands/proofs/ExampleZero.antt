@@ -9,6 +9,7 @@ use Prim.Native.Nat.{ℕ, _+_}
 use lib.Dec.{eqb, leb}
 use lib.ListN.{length, getD}
 use Rattle.lists.specs.Lists.{same, before, keep, place, without, allBelow, listed, padded, written, rows, flat, entriesIn, withEntries, isIn, someIn}
+use Rattle.lists.specs.Lists.{stretch, withStretch, joined, partsIn, withParts, keptIn, withKept, wholes, halves, wholesAt, halvesAt}
 use Rattle.query.specs.declared.Range.the-variants.{None}
 use Rattle.query.specs.Query.{admits, lies, isZero, namesZero, naming, pick, readNode, writeNode, named, readNodes, writeNodes, readCount, writeCount}
 use Rattle.query.specs.Range.{within, isRange, isReversed}
@@ -19,12 +20,14 @@ use Rattle.rules.specs.declared.Outcome.{Outcome}
 use Rattle.rules.specs.declared.Outcome.the-variants.{Refused, Accepted, Answered, Long, Ended, Full}
 use Rattle.rules.specs.Table.{listOf, has, putIn, target, isFull, effect, noRoom, changes, meetsWrite}
 use Rattle.rules.specs.Nodes.{labelIn, pending, revision, withPending, withRevision, hasLabel, nodePlace, isPresent, nodeOf, withNode, evictNode}
-use Rattle.rules.specs.Nodes.{added, isFree, oldestFree, makeRoom, addedIn, ensured, announcedIn, announced, isPending, released, lifted, mayRetire, retired, isHigh, isWorn}
+use Rattle.rules.specs.Nodes.{newNode, added, isFree, oldestFree, makeRoom, addedIn, ensured, announcedIn, announced, isPending, released, lifted, mayRetire, retired, isHigh, isWorn}
 use Rattle.rules.specs.Answers.{keyIn, lengthIn, revisionIn, listIn, valueIn, hasKeyOf, atLeast, serves, fetchPlace, keyPlace, filed, isLong, someLong, isCount, mostIn}
 use Rattle.rules.specs.Client.{kind, steps, sawPending, didChange, foundFull, entryOf, idle, isIdle, begun, askAt, writeAt, workAt, isBad, stepped, flag, noted, holding, wrote}
-use Rattle.query.specs.Shape.{shapeOf, narrow}
+use Rattle.query.specs.Shape.{shapeOf}
 use Rattle.rules.specs.Memory.{Mem, mem, recordsIn, withRecords, storeIn, withStore, answersIn, withAnswers, clientIn, withClient, cleared, opened}
-use Rattle.rules.specs.Refusals.{client, isShort, badColumns, isUnsound, noClient, openCode, beginCode, atClient, stepCode, shape}
+use Rattle.rules.specs.Memory.{current, wideFloor, withWideFloor, nodeFrom, nodeTo, entryFrom, entryTo, told}
+use Rattle.rules.specs.Checks.{checkOf, misfit, labelled, bared, checkFor}
+use Rattle.rules.specs.Refusals.{form, client, isShort, badColumns, isUnsound, noClient, openCode, beginCode, atClient, stepCode, shape}
 use Rattle.rules.specs.Steps.{nowAt, storeBack, answered, lookResult, fetchResult, tableResult, fileResult, readResult, announceResult, writeTableResult}
 use Rattle.rules.specs.Steps.{endOf, raiseResult, writeResult, progressOf, progress}
 use Rattle.rules.specs.Calls.{unless, beginResult, stepResult}
@@ -54,11 +57,11 @@ x = askOf (shapeOf 1) false None asked
 -- the client at desk 0 is a reader that asks x and has made so many steps
 abbrev pub reading : Mem → ℕ → Bool
 reading m n =
-    not (isIdle narrow (client m 0)) && (eqb (kind (client m 0)) reads && (sameAsk (askAt (shape m) (client m 0)) x && eqb (steps (client m 0)) n))
+    not (isIdle (client m 0)) && (eqb (kind (client m 0)) reads && (sameAsk (askAt (shape m) (client m 0)) x && eqb (steps (client m 0)) n))
 
 -- one answer is on file, to x
 abbrev pub onFile : Mem → Bool
-onFile m = eqb (length (answersIn narrow (m .answers))) 1 && same (keyIn (getD (answersIn narrow (m .answers)) 0 [])) (askKey x)
+onFile m = eqb (length (answersIn (form m) (m .answers))) 1 && same (keyIn (getD (answersIn (form m) (m .answers)) 0 [])) (askKey x)
 
 -- nothing is ended
 abbrev pub goes : Outcome → Bool
@@ -85,6 +88,6 @@ holds i m c =
 abbrev pub all : ℕ → Mem → List Call → Bool
 all i m cs = allPass holds i m cs
 
-pub meeting-would-fail : all 0 (opened narrow (shapeOf 1) lent) played ≡ true
-unfolding same before keep place without allBelow listed padded written rows flat entriesIn withEntries admits lies naming pick readNode writeNode named readNodes writeNodes readCount writeCount columnOf queryOf wellMarked isQuery namesAll recordOf termValue columnValue tag tags labelWords marks keyWords columnsIn queryIn countsIn countKey rangeOf rangeIn rangeKey wantedKey unranged bareKey within isRange isReversed listOf has putIn target isFull effect noRoom changes labelIn pending revision withPending withRevision hasLabel nodePlace isPresent nodeOf withNode added isFree oldestFree makeRoom addedIn ensured announcedIn announced isPending released lifted mayRetire retired isHigh isWorn keyIn lengthIn revisionIn isCount mostIn listIn valueIn hasKeyOf atLeast serves fetchPlace keyPlace filed isLong someLong kind steps sawPending didChange foundFull entryOf idle isIdle begun askAt writeAt workAt isBad stepped flag noted holding wrote recordsIn withRecords storeIn withStore answersIn withAnswers clientIn withClient cleared opened client isShort badColumns isUnsound noClient openCode beginCode atClient stepCode nowAt storeBack answered lookResult fetchResult tableResult fileResult readResult announceResult writeTableResult endOf raiseResult writeResult progressOf progress unless beginResult stepResult untrayed callResult isOpen noneOpen isQuiet stillThere keepsNodes ofRecords ofNumber askFault listWithin valueOf mayAnswer readLabels writeLabels askKey askIn changeKind kindOf keyOf changeIn writeIn workIn workFault stepsInAll isWrite askOf workOf faultOf agreeIn agree meets isZero namesZero meetsWrite someIn isIn shares isUnmet evictNode sameAsk sameShape sameQuery sameColumn sameWanted sameRange allPass
+pub meeting-would-fail : all 0 (opened (shapeOf 1) lent) played ≡ true
+unfolding same before keep place without allBelow listed padded written rows flat entriesIn withEntries stretch withStretch joined partsIn withParts keptIn withKept wholes halves wholesAt halvesAt checkOf misfit labelled bared checkFor wideFloor withWideFloor nodeFrom nodeTo entryFrom entryTo told admits lies naming pick readNode writeNode named readNodes writeNodes readCount writeCount columnOf queryOf wellMarked isQuery namesAll recordOf termValue columnValue tag tags labelWords marks keyWords columnsIn queryIn countsIn countKey rangeOf rangeIn rangeKey wantedKey unranged bareKey within isRange isReversed listOf has putIn target isFull effect noRoom changes labelIn pending revision withPending withRevision hasLabel nodePlace isPresent nodeOf withNode newNode added isFree oldestFree makeRoom addedIn ensured announcedIn announced isPending released lifted mayRetire retired isHigh isWorn keyIn lengthIn revisionIn isCount mostIn listIn valueIn hasKeyOf atLeast serves fetchPlace keyPlace filed isLong someLong kind steps sawPending didChange foundFull entryOf idle isIdle begun askAt writeAt workAt isBad stepped flag noted holding wrote recordsIn withRecords storeIn withStore answersIn withAnswers clientIn withClient cleared opened client isShort badColumns isUnsound noClient openCode beginCode atClient stepCode nowAt storeBack answered lookResult fetchResult tableResult fileResult readResult announceResult writeTableResult endOf raiseResult writeResult progressOf progress unless beginResult stepResult untrayed callResult isOpen noneOpen isQuiet stillThere keepsNodes ofRecords ofNumber askFault listWithin valueOf mayAnswer readLabels writeLabels askKey askIn changeKind kindOf keyOf changeIn writeIn workIn workFault stepsInAll isWrite askOf workOf faultOf agreeIn agree meets isZero namesZero meetsWrite someIn isIn shares isUnmet evictNode sameAsk sameShape sameQuery sameColumn sameWanted sameRange allPass
 meeting-would-fail = refl

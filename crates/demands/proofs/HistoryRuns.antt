@@ -9,7 +9,7 @@ use native.Mathlib.Omega.{arith}
 use lib.ListN.{length, getD, take}
 use Rattle.rules.specs.Memory.{Mem, storeIn, opened}
 use Rattle.rules.specs.Outcome.{number}
-use Rattle.rules.specs.Refusals.{shape}
+use Rattle.rules.specs.Refusals.{form, shape}
 use Rattle.rules.specs.History.{Call, begin, step, abandon, evictAnswer, evictNode, renew, callResult, isAccepted, Note, nothing, doing, noteAt}
 use Rattle.rules.specs.History.{oneStep, plainAtOpening, fed, fedAccepted}
 use Rattle.rules.specs.Tally.{Made, made, isTallyFull, madeResult, memAfter, plainAfter}
@@ -27,7 +27,7 @@ use Rattle.refinement.proofs.Abstraction.{stateOf, callOf, responseIn, response
 use Rattle.refinement.proofs.Refinement.{refines, shape-stays, number-is}
 use Rattle.refinement.proofs.Opening.{opened-fits}
 use Rattle.demands.specs.WholeHistory.{History, shapeAt, memAt, plainAt, madeAt, callAt, resultAt, acceptedAt, HasRoom}
-use Rattle.query.specs.Shape.{Shape, maxColumns, narrow}
+use Rattle.query.specs.Shape.{Shape, maxColumns}
 use Rattle.machine.specs.Machine as machine
 use Rattle.machine.proofs.Plain as plain
 use Rattle.rules.specs.History.{Plain}
@@ -48,11 +48,11 @@ plain-more (x ∷ xs) m p (suc n) l = plain-more xs (madeResult m x .mem) (fed p
 
 pub next-mem : (h : History) (n : ℕ) → n < length (h .calls) → memAt h (suc n) ≡ resultAt h n .mem
 unfolding memAt resultAt madeAt
-next-mem h n l = mem-more (h .calls) (opened narrow (shapeAt h) (h .lent)) n l
+next-mem h n l = mem-more (h .calls) (opened (shapeAt h) (h .lent)) n l
 
 next-plain : (h : History) (n : ℕ) → n < length (h .calls) → plainAt h (suc n) ≡ fed (plainAt h n) (callAt h n) (number (resultAt h n .out))
 unfolding memAt plainAt resultAt callAt madeAt
-next-plain h n l = plain-more (h .calls) (opened narrow (shapeAt h) (h .lent)) (plainAtOpening (shapeAt h)) n l
+next-plain h n l = plain-more (h .calls) (opened (shapeAt h) (h .lent)) (plainAtOpening (shapeAt h)) n l
 
 -- ---- With a tally and without
 -- where 15 does not apply a call does what it does without a tally
@@ -104,7 +104,7 @@ pub record Sound (h : History) (n : ℕ) : Type 0 where
   pub good : Good (stateOf (memAt h n)) (after (fresh (shapeAt h)) (logTo h n))
   pub run : Run (machine.opened (shapeAt h)) (logTo h n) (stateOf (memAt h n))
 
-once : (m : Mem) → StateInv (stateOf m) → NoDup (storeIn narrow (m .nodes) .nodes)
+once : (m : Mem) → StateInv (stateOf m) → NoDup (storeIn (form m) (m .nodes) .nodes)
 unfolding stateOf
 once m t = t .once
 
@@ -118,10 +118,10 @@ unfolding machine.opened
 opened-is sh = refl
 
 -- as the opening has left it
-opened-shape : (h : History) → shape (opened narrow (shapeAt h) (h .lent)) ≡ shapeAt h
+opened-shape : (h : History) → shape (opened (shapeAt h) (h .lent)) ≡ shapeAt h
 opened-shape h =
     let z = opened-fits (h .lent) (h .k) (h .accepted) in
-    sym (shape-is (opened narrow (shapeAt h) (h .lent))) ∙ ap (λ (s : State). s .shape) (z .1) ∙ opened-is (shapeAt h)
+    sym (shape-is (opened (shapeAt h) (h .lent))) ∙ ap (λ (s : State). s .shape) (z .1) ∙ opened-is (shapeAt h)
 
 pub few-columns : (h : History) → h .k ≤ maxColumns
 few-columns h =

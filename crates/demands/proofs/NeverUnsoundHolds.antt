@@ -12,13 +12,12 @@ use lib.Dec.{eqb, ltb}
 use borrow.Author.Tests.{not-true, eqb-true, eqb-false, eq-eqb, ltb-true, ltb-false, lt-ltb, le-ltb}
 use Rattle.laws.proofs.ListLaws.{getD-map}
 use Rattle.laws.proofs.TestLaws.{byTest, clash}
-use Rattle.query.specs.Shape.{narrow}
 use Rattle.rules.specs.Layout.{maxClients, trayLeast}
 use Rattle.rules.specs.Client.{isIdle}
 use Rattle.rules.specs.Work.{Work, asking, writing, Request, workOf, stepsInAll}
 use Rattle.rules.specs.Memory.{opened}
 use Rattle.rules.specs.Outcome.{number}
-use Rattle.rules.specs.Refusals.{client}
+use Rattle.rules.specs.Refusals.{form, client}
 use Rattle.rules.specs.History.{step, abandon, renew, untrayed, callResult, isAccepted}
 use Rattle.rules.specs.Tally.{Made, made, isFullFor, isTallyFull, unlent, memAfter}
 use Rattle.machine.specs.Machine as machine
@@ -50,7 +49,7 @@ lasting-opened : (h : History) → Lasting (memAt h 0)
 unfolding memAt memAfter
 lasting-opened h =
     let z = opened-fits (h .lent) (h .k) (h .accepted) in
-    record { fits = z .0; inv = rw (z .1) (opened-inv (shapeAt h) (few-columns h)); room = rw (z .1) (opened-headroom (shapeAt h)) }
+    record { fits = z .0; inv = rw (z .1) (opened-inv (shapeAt h) (few-columns h)); room = rw (z .1) (opened-headroom (form (opened (shapeAt h) (h .lent))) (shapeAt h)) }
 
 lasting-more : (h : History) (n : ℕ) → n < length (h .calls) → Lasting (memAt h n) → Lasting (memAt h (suc n))
 unfolding resultAt
@@ -111,10 +110,10 @@ abbrev NextSteps : History → ℕ → ℕ → ℕ → Type 0
 NextSteps h n d most = (i : ℕ) → i < most → (tray : List ℕ) × (callAt h (n + i) ≡ step d tray) × (trayLeast ≤ length tray) × HasRoom h (n + i)
 
 module _ (h : History) (n d most : ℕ) (within : n + most ≤ length (h .calls)) (below : d < maxClients) (next : NextSteps h n d most) where
-  idle-after : (i : ℕ) → i < most → rests (stateOf (memAt h (suc (n + i))) .clients d) ≡ isIdle narrow (client (memAt h (suc (n + i))) d)
+  idle-after : (i : ℕ) → i < most → rests (stateOf (memAt h (suc (n + i))) .clients d) ≡ isIdle (client (memAt h (suc (n + i))) d)
   idle-after i l = rests-at (memAt h (suc (n + i))) (lasting-at h (suc (n + i)) (omega arith) .fits) d below
 
-  ends-from : (fuel i : ℕ) → i + fuel ≡ most → isIdle narrow (client (memAt h (n + i)) d) ≡ false → toGo (stateOf (memAt h (n + i)) .clients d) ≤ fuel → EndsWithin h n d most
+  ends-from : (fuel i : ℕ) → i + fuel ≡ most → isIdle (client (memAt h (n + i)) d) ≡ false → toGo (stateOf (memAt h (n + i)) .clients d) ≤ fuel → EndsWithin h n d most
   ends-from zero i l b g =
       let a = some-to-go (memAt h (n + i)) (lasting-at h (n + i) (omega arith) .fits) d below b in absurd (omega arith)
   ends-from (suc fuel) i l b g =
@@ -122,9 +121,9 @@ module _ (h : History) (n d most : ℕ) (within : n + most ≤ length (h .calls)
       let k = nearer-at h (n + i) d (t .0) (omega arith) (t .1) (record { below = below; busy = b }) (t .2) (t .3) in
       let f = k .fewer in
       let z : n + suc i ≡ suc (n + i) = omega arith in
-      let e : endsAt d (callAt h (n + i)) (resultAt h (n + i) .out) ≡ isIdle narrow (client (memAt h (suc (n + i))) d) =
+      let e : endsAt d (callAt h (n + i)) (resultAt h (n + i) .out) ≡ isIdle (client (memAt h (suc (n + i))) d) =
       step-ends h (n + i) d (t .0) (t .1) ∙ k .ends ∙ idle-after i (omega arith) in
-      byTest (isIdle narrow (client (memAt h (suc (n + i))) d))
+      byTest (isIdle (client (memAt h (suc (n + i))) d))
       (λ y. record { before = i; few = omega arith; ends = e ∙ y; idle = rw z y })
       (λ y. ends-from fuel (suc i) (omega arith) (rw z y) (rw z (omega arith)))
 
@@ -141,7 +140,7 @@ module _ (h : History) (n d : ℕ) (trays : List (List ℕ)) (l : n ≤ length (
 
   on-mem : memAt (steppedOn h n d trays) n ≡ memAt h n
   unfolding steppedOn memAt
-  on-mem = ap (memAfter (opened narrow (shapeAt h) (h .lent))) (take-at (take n (h .calls)) (unlent (map (step d) trays)) n first-calls)
+  on-mem = ap (memAfter (opened (shapeAt h) (h .lent))) (take-at (take n (h .calls)) (unlent (map (step d) trays)) n first-calls)
 
   on-made : (i : ℕ) → i < length trays → madeAt (steppedOn h n d trays) (n + i) ≡ made (step d (getD trays i [])) none
   unfolding steppedOn madeAt
@@ -205,7 +204,7 @@ unfolding at-client isRefused toGo stepsInAll
 begun-to-go s d (asking q) (Transition.nothing e) r = absurd (true≢false r)
 begun-to-go s d (asking q) (Transition.began l i k) r = rw (upd-same (s .clients) d (looking q [] false)) (omega arith)
 begun-to-go s d (writing w) (Transition.nothing e) r = absurd (true≢false r)
-begun-to-go s d (writing w) (Transition.began-write l i k o) r = rw (upd-same (s .clients) d (announcing w 0)) (omega arith)
+begun-to-go s d (writing w) (Transition.began-write l i k) r = rw (upd-same (s .clients) d (announcing w 0)) (omega arith)
 
 none-made : (h : History) (d b n : ℕ) → n ≤ suc b → stepsIn h d b n ≡ 0
 unfolding stepsIn

@@ -16,7 +16,7 @@ use Rattle.laws.proofs.TestLaws.{byTest, clash, or-false, or-false-l, or-false-
 use Rattle.laws.proofs.ListLaws.{and-left, and-right}
 use Rattle.query.specs.Encoding.{isQuery, namesAll, queryOf}
 use Rattle.query.specs.Range.{isRange, isReversed}
-use Rattle.query.specs.Shape.{Shape, narrow, maxColumns}
+use Rattle.query.specs.Shape.{Shape, maxColumns}
 use Rattle.rules.specs.Layout.{trayLeast, reads, notGiven, refusedColumns, refusedReversed, refusedTallyFull}
 use Rattle.rules.specs.Work.{Ask, Value, readLabels, mayAnswer, Write, writeLabels, Work, asking, writing, Request, readOf, insertOf, deleteOf, isWrite, askFault, askOf, faultOf, writeIn, workIn}
 use Rattle.rules.specs.Table.{target}
@@ -26,7 +26,7 @@ use Rattle.rules.specs.Client.{Client, kind, steps, sawPending, didChange, foun
 use Rattle.rules.specs.Memory.{Mem, storeIn, answersIn}
 use Rattle.rules.specs.declared.Outcome.{Outcome}
 use Rattle.rules.specs.Outcome.{Result, number}
-use Rattle.rules.specs.Refusals.{shape, columns, client, isShort, badColumns, isUnsound, noClient}
+use Rattle.rules.specs.Refusals.{form, shape, columns, client, isShort, badColumns, isUnsound, noClient}
 use Rattle.rules.specs.Refusals.{openCode, beginCode, atClient, stepCode, abandonCode, evictAnswerCode, evictNodeCode, renewCode}
 use Rattle.rules.specs.Steps.{answered, lookResult, fetchResult, tableResult, fileResult, readResult, announceResult, writeTableResult, endOf, raiseResult, writeResult, progressOf, progress}
 use Rattle.rules.specs.Calls.{unless, openResult, beginResult, stepResult, pastTable, announcedLabels, labelsLeft, retireResult, abandonedWrite, abandonedOf, abandoned, abandonResult, evictAnswerResult, evictNodeResult, renewResult}
@@ -176,8 +176,8 @@ begin-first : (m : Mem) (d : ℕ) (r : Request) → number (beginResult m d r .o
 unfolding beginResult beginCode beginRows firstOf number
 begin-first m d r =
     unless-number (beginCode m d r) m _ refl
-    ∙ rw (at-called (noClient d) (isBad narrow (shape m) (client m d)) (not (isIdle narrow (client m d))) 5 (cond (isWrite r && isWorn narrow (shape m) (storeIn narrow (m .nodes))) 10 0))
-    (ap (λ (n : ℕ). cond (isShort narrow (shape m) m) 1 n) (after-fault (shape m) r _))
+    ∙ rw (at-called (noClient d) (isBad (shape m) (client m d)) (not (isIdle (client m d))) 5 (cond (isWrite r && isWorn (form m) (shape m) (storeIn (form m) (m .nodes))) 10 0))
+    (ap (λ (n : ℕ). cond (isShort (shape m) m) 1 n) (after-fault (shape m) r _))
 
 -- two rows that do not apply together
 not-there : {A : Type 0} (gone x : Bool) → gone ≡ true → not gone && x ≡ true → A
@@ -250,7 +250,7 @@ look-number m tray d j p (some s) = refl
 fetch-number : (m : Mem) (tray : List ℕ) (d i : ℕ) → number (fetchResult m tray d i .out) ≡ 0
 unfolding fetchResult answered number
 fetch-number m tray d i =
-    byTest (not (sawPending (client m d)) && ltb i (length (answersIn narrow (m .answers)))) (λ e. rw e) (λ e. rw e)
+    byTest (not (sawPending (client m d)) && ltb i (length (answersIn (form m) (m .answers)))) (λ e. rw e) (λ e. rw e)
 
 table-number : (m : Mem) (tray : List ℕ) (d : ℕ) (x : Ask) (v : Value) → number (tableResult m tray d x v .out) ≡ cond (not (mayAnswer x v)) 12 0
 unfolding tableResult answered number
@@ -269,7 +269,7 @@ read-number m tray d x i =
     let n : ℕ = length (readLabels x) in
     byTest (ltb i n)
     (λ t. let l = ltb-true i n t in
-    rw (t, ne-eqb i (n + 1) (λ e. omega arith), ← look-none (getD (readLabels x) i []) (storeIn narrow (m .nodes))) (look-number m tray d i _ _))
+    rw (t, ne-eqb i (n + 1) (λ e. omega arith), ← look-none (getD (readLabels x) i []) (storeIn (form m) (m .nodes))) (look-number m tray d i _ _))
     (λ t. rw t (byTest (eqb i n)
     (λ u. let l = eqb-true i n u in rw (u, ne-eqb i (n + 1) (λ e. omega arith)) (fetch-number m tray d _))
     (λ u. rw u (byTest (eqb i (n + 1)) (λ v. rw v (table-number m tray d x _)) (λ v. rw v)))))
@@ -292,7 +292,7 @@ write-number : (m : Mem) (tray : List ℕ) (d : ℕ) (w : Write) (i : ℕ) → l
 unfolding writeResult isUnsoundAt isLongAt isFullAt writeTableResult number
 write-number m tray d w i k =
     let n : ℕ = length (writeLabels w) in
-    let s : Store = storeIn narrow (m .nodes) in
+    let s : Store = storeIn (form m) (m .nodes) in
     let some-nodes = write-labels-some w in
     byTest (ltb i n)
     (λ t. let l = ltb-true i n t in
@@ -300,7 +300,7 @@ write-number m tray d w i k =
     (λ t. let g = ltb-false i n t in rw t (byTest (eqb i n)
     (λ u. let l = eqb-true i n u in rw (u, ne-eqb i (n + n) (λ e. omega arith), le-ltb n i (omega arith)))
     (λ u. let o : i ≡ n → ⊥ = eqb-false i n u in
-    rw (u, lt-ltb n i (omega arith), ← raise-none (didChange (client m d)) (getD (writeLabels w) (i - (n + 1)) []) s) (raise-number m tray d (eqb i (n + n)) _))))
+    rw (u, lt-ltb n i (omega arith), ← raise-none (form m) (didChange (client m d)) (getD (writeLabels w) (i - (n + 1)) []) s) (raise-number m tray d (eqb i (n + n)) _))))
 
 -- a write's target has the hall's columns
 abbrev OfHall : Shape → Work → Type 0
@@ -343,7 +343,7 @@ step-first : (m : Mem) (tray : List ℕ) (d : ℕ) → number (stepResult m tray
 unfolding stepCode atClient progress stepRows endRows firstOf
 step-first m tray d =
     step-number m tray d
-    ∙ stepping (isShort narrow (shape m) m || ltb (length tray) trayLeast) (isUnsound m) (noClient d) (isBad narrow (shape m) (client m d)) (isIdle narrow (client m d)) _ _ _ _
+    ∙ stepping (isShort (shape m) m || ltb (length tray) trayLeast) (isUnsound m) (noClient d) (isBad (shape m) (client m d)) (isIdle (client m d)) _ _ _ _
     (λ u. progress-number m tray d (workAt (shape m) (client m d)) (of-hall (shape m) (client m d)) (columns-most m u))
 
 step-rising : (m : Mem) (tray : List ℕ) (d : ℕ) → Rising (stepRows m tray d ++ endRows m d)
@@ -355,7 +355,7 @@ step-rising m tray d =
     (rise (λ e. more (λ a. not-there (noClient d) _ e a) (over _ _ _ refl (more (λ a. not-there (noClient d) _ e (and-left _ _ a)) (from _ _ refl))))
     (rise (λ e. from _ _ refl)
     -- 6, and 3 of a node
-    (rise (λ e. more (λ a. not-busy (noClient d) (isIdle narrow (client m d)) _ (and-right (isThere d) _ e) a) (from _ _ refl))
+    (rise (λ e. more (λ a. not-busy (noClient d) (isIdle (client m d)) _ (and-right (isThere d) _ e) a) (from _ _ refl))
     (rise (λ e. from _ _ refl)
     (rise (λ e. from _ _ refl)
     (rise (λ e. from _ _ refl) done)))))))
@@ -395,10 +395,10 @@ unfolding abandonedOf abandonedWrite isUnsoundAbandoned isFullAbandoned number
 abandoned-number m d (asking x) = refl
 abandoned-number m d (writing w) =
     let i : ℕ = steps (client m d) in
-    let s : Store = storeIn narrow (m .nodes) in
+    let s : Store = storeIn (form m) (m .nodes) in
     byTest (pastTable w i)
-    (λ e. rw (e, ← retired-none (didChange (client m d)) (labelsLeft w i) s (raises-apart w i), ← end-number (client m d)) (retire-number m d _ _))
-    (λ e. rw (e, ← released-none (announcedLabels w i) s (marks-apart w i)) (retire-number m d _ _))
+    (λ e. rw (e, ← retired-none (form m) (didChange (client m d)) (labelsLeft w i) s (raises-apart w i), ← end-number (client m d)) (retire-number m d _ _))
+    (λ e. rw (e, ← released-none (form m) (announcedLabels w i) s (marks-apart w i)) (retire-number m d _ _))
 
 abandon-number : (m : Mem) (d : ℕ) → number (abandonResult m d .out) ≡ cond (eqb (abandonCode m d) 0) (number (abandoned m d .out)) (abandonCode m d)
 unfolding abandonResult unless number
@@ -411,7 +411,7 @@ abandon-first m d =
     let w : Work = workAt (shape m) (client m d) in
     let i : ℕ = steps (client m d) in
     abandon-number m d
-    ∙ stepping (isShort narrow (shape m) m) (isUnsound m) (noClient d) (isBad narrow (shape m) (client m d)) (isIdle narrow (client m d))
+    ∙ stepping (isShort (shape m) m) (isUnsound m) (noClient d) (isBad (shape m) (client m d)) (isIdle (client m d))
     (isUnsoundAbandoned m (client m d) w i) false (isFullAbandoned (client m d) w i) (number (abandoned m d .out)) (λ u. abandoned-number m d w)
     ∙ rw (and-false (isBusy m d)) refl
 
@@ -424,7 +424,7 @@ abandon-rising m d =
     (rise (λ e. more (λ a. not-there (noClient d) _ e a) (over _ _ _ refl (more (λ a. not-there (noClient d) _ e (and-left _ _ a)) (from _ _ refl))))
     (rise (λ e. from _ _ refl)
     -- 6, and 3 of a node
-    (rise (λ e. more (λ a. not-busy (noClient d) (isIdle narrow (client m d)) _ (and-right (isThere d) _ e) a) (from _ _ refl))
+    (rise (λ e. more (λ a. not-busy (noClient d) (isIdle (client m d)) _ (and-right (isThere d) _ e) a) (from _ _ refl))
     (rise (λ e. from _ _ refl)
     (rise (λ e. from _ _ refl) done))))))
 

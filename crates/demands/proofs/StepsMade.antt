@@ -13,7 +13,7 @@ use Rattle.laws.proofs.ListLaws.{and-left, and-right}
 use Rattle.laws.proofs.TestLaws.{byTest, clash}
 use Rattle.query.specs.declared.Range.{Range}
 use Rattle.query.specs.Query.{writeCount}
-use Rattle.query.specs.Shape.{Shape, narrow}
+use Rattle.query.specs.Shape.{Shape}
 use Rattle.rules.specs.declared.Outcome.the-variants.{Refused}
 use Rattle.rules.specs.Layout.{maxClients, maxNodes, clientWidth, refusedUnsound}
 use Rattle.rules.specs.Table.{target}
@@ -21,14 +21,14 @@ use Rattle.rules.specs.Nodes.{Store}
 use Rattle.rules.specs.Answers.{Entry}
 use Rattle.rules.specs.Client.{Client, steps, entryOf, isIdle, workAt, sawPending, didChange, foundFull}
 use Rattle.rules.specs.Memory.{Mem, storeIn}
-use Rattle.rules.specs.Refusals.{shape, client, stepCode}
+use Rattle.rules.specs.Refusals.{form, shape, client, stepCode}
 use Rattle.rules.specs.Steps.{nowAt, storeBack, progress, progressOf, readResult, writeResult}
 use Rattle.rules.specs.Calls.{stepResult}
 use Rattle.rules.specs.History.{callResult, isAccepted}
 use Rattle.rules.specs.Outcome.{StepResult, resultWith, number}
 use Rattle.rules.specs.Sound.{Busy}
 use Rattle.rules.specs.Work.{Ask, readLabels, Write, writeLabels, Work, asking, writing, Request, readOf, askOf, workOf, stepsInAll}
-use Rattle.rules.proofs.ClientLaws.{client-same}
+use Rattle.rules.proofs.ClientLaws.{client-same, client-room}
 use Rattle.rules.proofs.WorkLaws.{length-writeLabels}
 use Rattle.revisions.specs.EffectiveRevision.{NoDup}
 use Rattle.revisions.proofs.NodeRows.{AllRows}
@@ -42,7 +42,7 @@ use Rattle.machine.proofs.Claims.{fresh}
 use Rattle.machine.proofs.Log.{after, stepsOf, JobFrom, linked}
 use Rattle.refinement.proofs.Abstraction.{readerOf, writerOf, busyPhase, phasesOf, stateOf, Fits}
 use Rattle.refinement.proofs.ClientPhases.{idle-at, busy-phase, fits-at}
-use Rattle.refinement.proofs.MemoryReads.{store-with, length-nodes}
+use Rattle.rules.proofs.MemoryLaws.{store-with, length-nodes}
 use Rattle.refinement.proofs.PhaseSteps.{noted-count}
 use Rattle.refinement.proofs.StepFrame.{busy-at, client-at}
 use Rattle.demands.specs.WholeHistory.{History, shapeAt, memAt, callAt, resultAt, acceptedAt, isStepAt, UnderWay, stepsIn, StepOf, AbandonOf}
@@ -74,9 +74,9 @@ busy-work sh c (asking x) = reader-work sh x (entryOf c) (steps c) (sawPending c
 busy-work sh c (writing w) = writer-work w (steps c) (didChange c) (foundFull c)
 
 -- it does not rest
-pub at-work : {sh : Shape} {c : Client} {w : Work} → Busy narrow sh c w → isIdle narrow c ≡ false
+pub at-work : {sh : Shape} {c : Client} {w : Work} → Busy sh c w → isIdle c ≡ false
 unfolding phaseWork
-at-work {sh} {c} {w} b = byTest (isIdle narrow c)
+at-work {sh} {c} {w} b = byTest (isIdle c)
     (λ e. none-some (ap phaseWork (sym (idle-at sh c e) ∙ busy-phase b) ∙ busy-work sh c w))
     (λ e. e)
 
@@ -89,7 +89,7 @@ madeIn (filing q ns l) = length (readLabels q) + 2
 madeIn (announcing w i) = i
 madeIn (raising w j c f) = length (writeLabels w) + 1 + j
 
-reader-made : {sh : Shape} {c : Client} {x : Ask} → Busy narrow sh c (asking x) → madeIn (busyPhase sh c (asking x)) ≡ steps c
+reader-made : {sh : Shape} {c : Client} {x : Ask} → Busy sh c (asking x) → madeIn (busyPhase sh c (asking x)) ≡ steps c
 unfolding busyPhase readerOf madeIn stepsInAll
 reader-made {sh} {c} {x} b =
     let late = b .going in
@@ -99,14 +99,14 @@ reader-made {sh} {c} {x} b =
     (λ u. rw u (let z = eqb-true (steps c) (length (readLabels x) + 1) u in omega arith))
     (λ u. rw u (let z = leb-false (steps c) (length (readLabels x)) t in let y = eqb-false (steps c) (length (readLabels x) + 1) u in omega arith))))
 
-writer-made : {sh : Shape} {c : Client} {w : Write} → Busy narrow sh c (writing w) → madeIn (busyPhase sh c (writing w)) ≡ steps c
+writer-made : {sh : Shape} {c : Client} {w : Write} → Busy sh c (writing w) → madeIn (busyPhase sh c (writing w)) ≡ steps c
 unfolding busyPhase writerOf madeIn
 writer-made {sh} {c} {w} b =
     byTest (leb (steps c) (length (writeLabels w)))
     (λ t. rw t refl)
     (λ t. rw t (let z = leb-false (steps c) (length (writeLabels w)) t in omega arith))
 
-busy-made : {sh : Shape} {c : Client} (w : Work) → Busy narrow sh c w → madeIn (busyPhase sh c w) ≡ steps c
+busy-made : {sh : Shape} {c : Client} (w : Work) → Busy sh c w → madeIn (busyPhase sh c w) ≡ steps c
 busy-made (asking x) b = reader-made b
 busy-made (writing w) b = writer-made b
 
@@ -150,7 +150,7 @@ made-since h x d b n s =
 -- ---- The client of a step
 pub record Standing (m : Mem) (tray : List ℕ) (d : ℕ) (x : Work) (i : ℕ) : Type 0 where
   pub low : d < maxClients
-  pub busy : Busy narrow (shape m) (client m d) x
+  pub busy : Busy (shape m) (client m d) x
   pub made : steps (client m d) ≡ i
   pub takes : stepCode m tray d ≡ 0
 
@@ -164,7 +164,7 @@ same-work e = cc
 -- that client by itself
 pub record Keeps (m : Mem) (d : ℕ) (x : Work) (i : ℕ) : Type 0 where
   pub low : d < maxClients
-  pub busy : Busy narrow (shape m) (client m d) x
+  pub busy : Busy (shape m) (client m d) x
   pub made : steps (client m d) ≡ i
 
 keeps-at : (m : Mem) (d : ℕ) (x : Work) (i : ℕ) → Fits m → phaseWork (stateOf m .clients d) ≡ some x → madeIn (stateOf m .clients d) ≡ i → Keeps m d x i
@@ -173,7 +173,7 @@ keeps-at m d x i f e made =
     let low = low-phase m d x e in
     let at = client-at m d low in
     let c = client m d in
-    let busy : isIdle narrow c ≡ false = byTest (isIdle narrow c)
+    let busy : isIdle c ≡ false = byTest (isIdle c)
     (λ t. none-some (sym (ap phaseWork (at ∙ idle-at (shape m) c t)) ∙ e))
     (λ t. t) in
     let b = busy-at m f d low busy in
@@ -182,7 +182,7 @@ keeps-at m d x i f e made =
     let k : w ≡ x = same-work (sym (busy-work (shape m) c w) ∙ sym (ap phaseWork p) ∙ e) in
     record {
       low = low;
-      busy = subst (λ y. Busy narrow (shape m) c y) k b;
+      busy = subst (λ y. Busy (shape m) c y) k b;
       made = sym (busy-made w b) ∙ sym (ap madeIn p) ∙ made;
     }
 
@@ -314,10 +314,10 @@ pub step-before : (h : History) (r : Request) (d b n i k : ℕ) → StepOf h r d
 step-before h r d b n i k s l = let e = s .made in step-made h r d b n k (under-step s) (omega arith)
 
 -- ---- Memories after a step
-pub no-twice : (h : History) (n : ℕ) → n ≤ length (h .calls) → NoDup (storeIn narrow (memAt h n .nodes) .nodes)
+pub no-twice : (h : History) (n : ℕ) → n ≤ length (h .calls) → NoDup (storeIn (form (memAt h n)) (memAt h n .nodes) .nodes)
 no-twice h n l = go (memAt h n) (sound h n l .good .inv)
   where
-    go : (m : Mem) → StateInv (stateOf m) → NoDup (storeIn narrow (m .nodes) .nodes)
+    go : (m : Mem) → StateInv (stateOf m) → NoDup (storeIn (form m) (m .nodes) .nodes)
     go m v = unfold stateOf in v .once
 
 pub not-refused : {A : Type 0} (h : History) (n : ℕ) (m : Mem) (tray : List ℕ) → acceptedAt h n ≡ true → resultAt h n ≡ resultWith (Refused refusedUnsound) m tray → A
@@ -325,23 +325,23 @@ unfolding acceptedAt isAccepted number
 not-refused h n m tray a e = absurd (false≢true (sym (ap (λ (x : StepResult). isAccepted (number (x .out))) e) ∙ a))
 
 pub nodes-after : (m : Mem) (t : Store) (d : ℕ) (c : Client) → Fits m → AllRows (t .nodes) → length (t .nodes) ≤ maxNodes
-    → storeIn narrow (nowAt (storeBack m t) d c .nodes) ≡ t
+    → storeIn (form (nowAt (storeBack m t) d c)) (nowAt (storeBack m t) d c .nodes) ≡ t
 unfolding nowAt storeBack
-nodes-after m t d c f r l = store-with (m .nodes) (f .long .nodes) (f .nodes) t r l
+nodes-after m t d c f r l = store-with (form m) (m .nodes) (f .long .nodes) (f .nodes) t (record { wide = r; few = l })
 
-pub client-after : (m : Mem) (t : Store) (d : ℕ) (c : Client) → Fits m → d < maxClients → length c ≡ clientWidth narrow → client (nowAt (storeBack m t) d c) d ≡ c
+pub client-after : (m : Mem) (t : Store) (d : ℕ) (c : Client) → Fits m → d < maxClients → length c ≡ clientWidth → client (nowAt (storeBack m t) d c) d ≡ c
 unfolding client nowAt storeBack
-client-after m t d c f l w = client-same (m .clients) d c w (let z = f .long .clients in omega arith)
+client-after m t d c f l w = client-same (form m) (m .clients) d c w (client-room (form m) (shape m) (m .clients) d l (f .long .clients))
 
-pub client-now : (m : Mem) (d : ℕ) (c : Client) → Fits m → d < maxClients → length c ≡ clientWidth narrow → client (nowAt m d c) d ≡ c
+pub client-now : (m : Mem) (d : ℕ) (c : Client) → Fits m → d < maxClients → length c ≡ clientWidth → client (nowAt m d c) d ≡ c
 unfolding client nowAt
-client-now m d c f l w = client-same (m .clients) d c w (let z = f .long .clients in omega arith)
+client-now m d c f l w = client-same (form m) (m .clients) d c w (client-room (form m) (shape m) (m .clients) d l (f .long .clients))
 
-pub few-nodes : (m : Mem) → Fits m → length (storeIn narrow (m .nodes) .nodes) ≤ maxNodes
-few-nodes m f = let n = length-nodes (m .nodes) in let y = f .nodes in omega arith
+pub few-nodes : (m : Mem) → Fits m → length (storeIn (form m) (m .nodes) .nodes) ≤ maxNodes
+few-nodes m f = let n = length-nodes (form m) (m .nodes) in let y = f .nodes in omega arith
 
 -- a write has 2^k nodes
-pub nodes-count : (h : History) (w : Write) (d n : ℕ) → n ≤ length (h .calls) → Busy narrow (shape (memAt h n)) (client (memAt h n) d) (writing w)
+pub nodes-count : (h : History) (w : Write) (d n : ℕ) → n ≤ length (h .calls) → Busy (shape (memAt h n)) (client (memAt h n) d) (writing w)
     → (length (writeLabels w) ≡ 2 ^ shapeAt h .columns) × (length (target (w .change)) ≡ shapeAt h .columns)
 unfolding writeCount
 nodes-count h w d n l b =

@@ -17,17 +17,17 @@ use Rattle.query.specs.declared.Range.{Range}
 use Rattle.query.specs.Query.{Query, Record, Label, readNode, readCount}
 use Rattle.query.specs.Encoding.{queryOf, labelWords, labelWidth}
 use Rattle.query.specs.Graph.{E″}
-use Rattle.query.specs.Shape.{Shape, narrow}
+use Rattle.query.specs.Shape.{Shape}
 use Rattle.query.proofs.Agreement.{read-node-edge, read-edge-node}
 use Rattle.rules.specs.declared.Outcome.the-variants.{Accepted, Answered, Long}
 use Rattle.rules.specs.Layout.{maxList, maxClients, lookRoom, maxRecords}
 use Rattle.rules.specs.Table.{Table}
 use Rattle.rules.specs.Nodes.{Store, isPresent, nodeOf, revision, pending, ensured}
-use Rattle.rules.specs.Answers.{Entry, revisionIn, valueIn, isCount}
+use Rattle.rules.specs.Answers.{revisionsIn, Entry, revisionIn, valueIn, isCount}
 use Rattle.rules.specs.Client.{Client, steps, entryOf, sawPending, noted, holding}
 use Rattle.rules.specs.Memory.{Mem, recordsIn, storeIn}
 use Rattle.rules.specs.Outcome.{StepResult, resultWith}
-use Rattle.rules.specs.Refusals.{shape, columns, client}
+use Rattle.rules.specs.Refusals.{form, shape, columns, client}
 use Rattle.rules.specs.Steps.{nowAt, answered, lookResult, tableResult, fileResult, readResult}
 use Rattle.query.specs.Range.{starred}
 use Rattle.query.proofs.RangeLaws.{starred-same}
@@ -35,13 +35,14 @@ use Rattle.rules.specs.Sound.{Busy}
 use Rattle.rules.specs.Work.{Ask, Value, ofRecords, valueOf, mayAnswer, readLabels, Work, asking, Request, readOf, askOf, workOf, ofNumber, valueFor, listWithin, workFault}
 use Rattle.rules.proofs.WorkLaws.{length-readLabels, read-label-at, read-label-wide, read-labels-most, fault-none}
 use Rattle.records.proofs.RecordLists.{has-list, list-numbers, list-few}
-use Rattle.refinement.proofs.Abstraction.{revisionsIn, notedOf, stateOf}
+use Rattle.refinement.proofs.Abstraction.{notedOf, stateOf}
 use Rattle.rules.proofs.HoldingLaws.{holding-value, Whole}
-use Rattle.refinement.proofs.ClientParts.{noted-revisions, noted-saw}
+use Rattle.rules.proofs.ClientParts.{noted-revisions, noted-saw}
+use Rattle.rules.proofs.AnswerLaws.{revision-at}
 use Rattle.machine.specs.Machine.{looking, filing}
 use Rattle.refinement.proofs.ClientPhases.{Left, fits-at, looking-phase, filing-phase}
 use Rattle.refinement.proofs.StepFrame.{client-at}
-use Rattle.refinement.proofs.MemoryReads.{records-held, rows-held}
+use Rattle.refinement.proofs.Abstraction.{records-held, rows-held}
 use Rattle.refinement.proofs.PhaseSteps.{noted-count, noted-left, holding-left}
 use Rattle.demands.specs.WholeHistory.{History, shapeAt, memAt, resultAt, acceptedAt, endsWork, endsAt, UnderWay, stepsIn, StepOf, callAt}
 use Rattle.demands.specs.Demand2.{valueAt}
@@ -59,7 +60,7 @@ use Rattle.rules.proofs.ClientLaws.{asked-counts}
 
 -- ---- The reader
 reader : (h : History) (counts : Bool) (range : Range) (a : List ℕ) (d b n i : ℕ) → StepOf h (readOf counts range a) d b n i
-    → Busy narrow (shape (memAt h n)) (client (memAt h n) d) (asking (askOf (shapeAt h) counts range a))
+    → Busy (shape (memAt h n)) (client (memAt h n) d) (asking (askOf (shapeAt h) counts range a))
 unfolding workOf
 reader h counts range a d b n i s = standing h (readOf counts range a) d b n i s .busy
 
@@ -120,7 +121,7 @@ module _ (m : Mem) (tray : List ℕ) (d : ℕ) (x : Ask) (v : Value) where
   goes-answer e s = rw (e, s) (refl, refl)
 
   goes-on : mayAnswer x v ≡ true → sawPending (client m d) ≡ false
-      → tableResult m tray d x v ≡ resultWith Accepted (nowAt m d (holding narrow (shape m) v (client m d))) tray
+      → tableResult m tray d x v ≡ resultWith Accepted (nowAt m d (holding (shape m) v (client m d))) tray
   unfolding tableResult
   goes-on e s = rw (e, s) refl
 
@@ -174,7 +175,7 @@ short-list h range q n l = let a = list-few range q (tableAt h n) in let b = goo
 
 holding-read : (h : History) (counts : Bool) (range : Range) (a : List ℕ) (d b n i : ℕ) → StepOf h (readOf counts range a) d b n i → (v : Value) → Whole (shape (memAt h n)) counts v
     → v .count ≤ cond counts maxRecords maxList → steps (client (memAt h n) d) ≡ length (readLabels (askOf (shapeAt h) counts range a)) + 1
-    → Left (shape (memAt h n)) (holding narrow (shape (memAt h n)) v (client (memAt h n) d))
+    → Left (shape (memAt h n)) (holding (shape (memAt h n)) v (client (memAt h n) d))
     (filing (askOf (shapeAt h) counts range a) (notedOf (askOf (shapeAt h) counts range a) (entryOf (client (memAt h n) d))) v)
 unfolding askOf
 holding-read h counts range a d b n i s v w m e = holding-left (reader h counts range a d b n i s) v w m e
@@ -205,13 +206,13 @@ list-goes h counts range a d b n s =
     answers few p (length l) (out-of R ∙ z .0 ∙ ap (λ i. Answered i false) (count-of counts l))
     (rw (step-lent h (readOf counts range a) d b n _ s) (answered-value counts l (h .k) (s .tray) _ W (tray-of R ∙ z .1))))
     (λ p. let z = goes-on m (s .tray) d x v t p in
-    let H = holding narrow (shape m) v (client m d) in
+    let H = holding (shape m) v (client m d) in
     let made = st .made in
     let L = holding-read h counts range a d b n _ s v W′ (most-of counts l few most) (omega arith) in
     let after : client (memAt h (suc n)) d ≡ H =
     ap (λ (t : Mem). client t d) (next-mem h n low ∙ ap (λ (r : StepResult). r .mem) (R ∙ z)) ∙ client-now m d H (S .fits) (st .low) (L .wide) in
     holds few p (out-of (R ∙ z))
-    (ap (λ t. valueIn narrow (shapeAt h) (entryOf t)) after ∙ ap (λ sh. valueIn narrow sh (entryOf H)) (sym (S .shape)) ∙ holding-value (client m d) (B .wide) (shape m) v (rw I W′))))
+    (ap (λ t. valueIn (shapeAt h) (entryOf t)) after ∙ ap (λ sh. valueIn sh (entryOf H)) (sym (S .shape)) ∙ holding-value (client m d) (B .wide) (shape m) v (rw I W′))))
     (λ t. let f = may-not counts l (may-is (shapeAt h) counts range a l false t) in long (f .0) (f .1) (out-of R ∙ goes-long m (s .tray) d x v t))
 
 pub lists-taken : (h : History) → ListsTaken h
@@ -242,7 +243,7 @@ on-way h r d b n t i u l s e =
     clash (ap (λ c. endsAt d c (resultAt h t .out)) (s .calls) ∙ rw (eq-eqb d d refl, e) refl) (unfold endsAt in u .still t (s .runs .earlier) l)
 
 goes-held : (h : History) (counts : Bool) (r : Request) (d b n t i : ℕ) (l : List Record) → UnderWay h r d b n → t < n → StepOf h r d b t i → Disposes h counts d t l
-    → valueAt h (suc t) (entryAt h (suc t) d) ≡ valueFor counts l
+    → valueAt h (entryAt h (suc t) d) ≡ valueFor counts l
 unfolding endsWork
 goes-held h counts r d b n t i l u k s (long g f o) = on-way h r d b n t i u k s (unfold endsWork in ap endsWork o)
 goes-held h counts r d b n t i l u k s (answers f p c o w) = on-way h r d b n t i u k s (unfold endsWork in ap endsWork o)
@@ -268,17 +269,17 @@ since-read-step h counts range a d b n i s = since-step h (readOf counts range a
 -- a read at its file step
 filing-at : (h : History) (counts : Bool) (range : Range) (a : List ℕ) (d b n : ℕ) → Since h (asking (askOf (shapeAt h) counts range a)) d b n
     → stepsIn h d b n ≡ readCount (queryOf a) + 2
-    → stateOf (memAt h n) .clients d ≡ filing (askOf (shapeAt h) counts range a) (notedOf (askOf (shapeAt h) counts range a) (entryAt h n d)) (valueAt h n (entryAt h n d))
+    → stateOf (memAt h n) .clients d ≡ filing (askOf (shapeAt h) counts range a) (notedOf (askOf (shapeAt h) counts range a) (entryAt h n d)) (valueAt h (entryAt h n d))
 filing-at h counts range a d b n s e =
     let x = askOf (shapeAt h) counts range a in
     let k = keeps-since h (asking x) d b n _ s e in
     let c = looks-are h counts range a in
     let made = k .made in
     client-at (memAt h n) d (k .low) ∙ filing-phase (k .busy) (omega arith)
-    ∙ ap (λ sh. filing x (notedOf x (entryAt h n d)) (valueIn narrow sh (entryAt h n d))) (sound h n (s .within) .shape)
+    ∙ ap (λ sh. filing x (notedOf x (entryAt h n d)) (valueIn sh (entryAt h n d))) (sound h n (s .within) .shape)
 
 held-from : (h : History) (counts : Bool) (range : Range) (a : List ℕ) (d b n t : ℕ) → StepOf h (readOf counts range a) d b n (readCount (queryOf a) + 2) → t < n
-    → StepOf h (readOf counts range a) d b t (readCount (queryOf a) + 1) → valueAt h n (entryAt h n d) ≡ valueFor counts (listWithin range (queryOf a) (tableAt h t))
+    → StepOf h (readOf counts range a) d b t (readCount (queryOf a) + 1) → valueAt h (entryAt h n d) ≡ valueFor counts (listWithin range (queryOf a) (tableAt h t))
 held-from h counts range a d b n t s l u =
     let x = askOf (shapeAt h) counts range a in
     let since = since-read-step h counts range a d b n _ s in
@@ -291,32 +292,28 @@ held-from h counts range a d b n t s l u =
     ∙ goes-held h counts (readOf counts range a) d b n t _ _ (s .runs) l u (list-goes h counts range a d b t u)
 
 file-says : (m : Mem) (tray : List ℕ) (d : ℕ) (e : Entry)
-    → (fileResult m tray d e .out ≡ Answered (valueIn narrow (shape m) e .count) false) × (fileResult m tray d e .tray ≡ written tray 0 (valueIn narrow (shape m) e .numbers))
+    → (fileResult m tray d e .out ≡ Answered (valueIn (shape m) e .count) false) × (fileResult m tray d e .tray ≡ written tray 0 (valueIn (shape m) e .numbers))
 unfolding fileResult answered
 file-says m tray d e = (refl, refl)
 
 -- ---- The looks
 look-of : (m : Mem) (tray : List ℕ) (d : ℕ) (x : Ask) (i : ℕ) → i < length (readLabels x)
-    → readResult m tray d x i ≡ lookResult m tray d i (getD (readLabels x) i []) (ensured narrow (getD (readLabels x) i []) (storeIn narrow (m .nodes)))
+    → readResult m tray d x i ≡ lookResult m tray d i (getD (readLabels x) i []) (ensured (getD (readLabels x) i []) (storeIn (form m) (m .nodes)))
 unfolding readResult
 look-of m tray d x i l = rw (lt-ltb i (length (readLabels x)) l) refl
 
-revision-at : (n : ℕ) (e : Entry) (j : ℕ) → j < n → getD (revisionsIn n e) j 0 ≡ revisionIn narrow e j
-unfolding revisionsIn revisionIn
-revision-at n e j h = getD-take n (drop 8 e) j 0 h ∙ getD-drop 8 e j 0
-
 -- what it notes
-noted-there : {sh : Shape} {c : Client} {x : Ask} → Busy narrow sh c (asking x) → (j r p : ℕ) → j < length (readLabels x) → j < lookRoom
-    → (revisionIn narrow (entryOf (noted narrow j r p c)) j ≡ r) × (sawPending (noted narrow j r p c) ≡ (sawPending c || ltb 0 p))
+noted-there : {sh : Shape} {c : Client} {x : Ask} → Busy sh c (asking x) → (j r p : ℕ) → j < length (readLabels x) → j < lookRoom
+    → (revisionIn (entryOf (noted j r p c)) j ≡ r) × (sawPending (noted j r p c) ≡ (sawPending c || ltb 0 p))
 noted-there {sh} {c} {x} b j r p l g = (
-  sym (revision-at (suc j) (entryOf (noted narrow j r p c)) j (omega arith)) ∙ ap (λ e. getD e j 0) (noted-revisions c (b .wide) j r p g)
+  sym (revision-at (suc j) (entryOf (noted j r p c)) j (omega arith)) ∙ ap (λ e. getD e j 0) (noted-revisions c (b .wide) j r p g)
       ∙ getD-at (revisionsIn j (entryOf c)) r [] 0 j (noted-count b j (omega arith)),
   noted-saw c (b .wide) j r p g,
 )
 
 look-some : (h : History) (p : Label) (x : Ask) (d n i : ℕ) (tray : List ℕ) (t : Store) → n < length (h .calls) → d < maxClients
-    → Busy narrow (shape (memAt h n)) (client (memAt h n) d) (asking x) → steps (client (memAt h n) d) ≡ i → i < length (readLabels x)
-    → length (labelWords p) ≡ labelWidth → ensured narrow (labelWords p) (nodesAt h n) ≡ some t
+    → Busy (shape (memAt h n)) (client (memAt h n) d) (asking x) → steps (client (memAt h n) d) ≡ i → i < length (readLabels x)
+    → length (labelWords p) ≡ labelWidth → ensured (labelWords p) (nodesAt h n) ≡ some t
     → resultAt h n ≡ lookResult (memAt h n) tray d i (labelWords p) (some t) → LooksAt h p d n i
 unfolding lookResult
 look-some h p x d n i tray t low dl B made il five e R =
@@ -324,27 +321,27 @@ look-some h p x d n i tray t low dl B made il five e R =
     let S = sound h n (omega arith) in
     let c = client m d in
     let w = labelWords p in
-    let r = revision narrow (nodeOf w t) in
+    let r = revision (nodeOf w t) in
     let q = pending (nodeOf w t) in
-    let N = noted narrow i r q c in
+    let N = noted i r q c in
     let L = looked w (nodesAt h n) t five (no-twice h n (omega arith)) (rows-held m (S .fits)) e in
     let room : i < lookRoom = let a = read-labels-most x (let f = fits-at B .columns in let y = B .most in omega arith) in omega arith in
     let mem = next-mem h n low ∙ ap (λ (k : StepResult). k .mem) R in
-    let st : nodesAt h (suc n) ≡ t = ap (λ (k : Mem). storeIn narrow (k .nodes)) mem ∙ nodes-after m t d N (S .fits) (L .ensured .2) (L .ensured .3 (few-nodes m (S .fits))) in
-    let left = subst (λ j. Left (shape m) (noted narrow j r q c) (looking x (revisionsIn (steps c) (entryOf c) ++ (r ∷ [])) (sawPending c || ltb 0 q))) made (noted-left B r q (omega arith)) in
+    let st : nodesAt h (suc n) ≡ t = ap (λ (k : Mem). storeIn (form k) (k .nodes)) mem ∙ nodes-after m t d N (S .fits) (L .ensured .2) (L .ensured .3 (few-nodes m (S .fits))) in
+    let left = subst (λ j. Left (shape m) (noted j r q c) (looking x (revisionsIn (steps c) (entryOf c) ++ (r ∷ [])) (sawPending c || ltb 0 q))) made (noted-left B r q (omega arith)) in
     let cl : client (memAt h (suc n)) d ≡ N = ap (λ (k : Mem). client k d) mem ∙ client-after m t d N (S .fits) dl (left .wide) in
     let y = noted-there B i r q il room in
     record {
       there = ap (isPresent w) st ∙ L .there;
       kept = λ j. st ∙ L .kept j;
-      added = λ j. (ap (λ (k : Store). revision narrow (nodeOf w k)) st ∙ L .added j .0 ∙ ap (λ (k : Store). k .floor) (sym st), ap (λ (k : Store). pending (nodeOf w k)) st ∙ L .added j .1);
-      notes = ap (λ k. revisionIn narrow (entryOf k) i) cl ∙ y .0 ∙ ap (λ (k : Store). revision narrow (nodeOf w k)) (sym st);
+      added = λ j. (ap (λ (k : Store). revision (nodeOf w k)) st ∙ L .added j .0 ∙ ap (λ (k : Store). k .floor) (sym st), ap (λ (k : Store). pending (nodeOf w k)) st ∙ L .added j .1);
+      notes = ap (λ k. revisionIn (entryOf k) i) cl ∙ y .0 ∙ ap (λ (k : Store). revision (nodeOf w k)) (sym st);
       sees = ap sawPending cl ∙ y .1 ∙ ap (λ (k : Store). sawPending c || ltb 0 (pending (nodeOf w k))) (sym st);
     }
 
 look-case : (h : History) (p : Label) (x : Ask) (d n i : ℕ) (tray : List ℕ) (o : Option Store) → n < length (h .calls) → d < maxClients
-    → Busy narrow (shape (memAt h n)) (client (memAt h n) d) (asking x) → steps (client (memAt h n) d) ≡ i → i < length (readLabels x)
-    → length (labelWords p) ≡ labelWidth → acceptedAt h n ≡ true → ensured narrow (labelWords p) (nodesAt h n) ≡ o
+    → Busy (shape (memAt h n)) (client (memAt h n) d) (asking x) → steps (client (memAt h n) d) ≡ i → i < length (readLabels x)
+    → length (labelWords p) ≡ labelWidth → acceptedAt h n ≡ true → ensured (labelWords p) (nodesAt h n) ≡ o
     → resultAt h n ≡ lookResult (memAt h n) tray d i (labelWords p) o → LooksAt h p d n i
 unfolding lookResult
 look-case h p x d n i tray none low dl B made il five a e R = not-refused h n (memAt h n) tray a R
@@ -366,8 +363,8 @@ looks h counts range a d b n i il s =
     let g = getD (readLabels x) i [] in
     let is : g ≡ labelWords p = read-label-at x i (omega arith) ∙ ap (λ q. labelWords (readNode q i)) (ask-query (shapeAt h) counts range a) in
     let five : length g ≡ labelWidth = read-label-wide x i (let f = fits-at B .columns in let y = B .most in omega arith) (omega arith) in
-    look-case h p x d n i (s .tray) (ensured narrow (labelWords p) (nodesAt h n)) low (st .low) B (st .made) (omega arith) (ap length (sym is) ∙ five) (s .accepted) refl
-    (read-at h counts range a d b n i s ∙ look-of m (s .tray) d x i (omega arith) ∙ ap (λ k. lookResult m (s .tray) d i k (ensured narrow k (nodesAt h n))) is)
+    look-case h p x d n i (s .tray) (ensured (labelWords p) (nodesAt h n)) low (st .low) B (st .made) (omega arith) (ap length (sym is) ∙ five) (s .accepted) refl
+    (read-at h counts range a d b n i s ∙ look-of m (s .tray) d x i (omega arith) ∙ ap (λ k. lookResult m (s .tray) d i k (ensured k (nodesAt h n))) is)
 
 -- ---- The list filed, under what the looks noted
 looking-at : (h : History) (counts : Bool) (range : Range) (a : List ℕ) (d b n i : ℕ) → Since h (asking (askOf (shapeAt h) counts range a)) d b n → stepsIn h d b n ≡ i
@@ -390,7 +387,7 @@ revisions-count h counts range a d b n i s e l =
 
 noted-from : (h : History) (counts : Bool) (range : Range) (a : List ℕ) (d b n t i : ℕ) → StepOf h (readOf counts range a) d b n (readCount (queryOf a) + 2) → t < n
     → i < readCount (queryOf a)
-    → StepOf h (readOf counts range a) d b t i → revisionIn narrow (entryAt h n d) i ≡ revisionIn narrow (entryAt h (suc t) d) i
+    → StepOf h (readOf counts range a) d b t i → revisionIn (entryAt h n d) i ≡ revisionIn (entryAt h (suc t) d) i
 unfolding notesIn
 noted-from h counts range a d b n t i s l k u =
     let x = askOf (shapeAt h) counts range a in
@@ -421,7 +418,7 @@ lists-filed h counts range a d b n s =
     let H = held-from h counts range a d b n t s early (y .2) in
     let R = read-at h counts range a d b n (readCount q + 2) s ∙ file-of m (s .tray) d (askOf (shapeAt h) counts range a) (readCount q + 2) (omega arith) in
     let f = file-says m (s .tray) d (entryAt h n d) in
-    let value : valueIn narrow (shape m) (entryAt h n d) ≡ valueFor counts l = ap (λ sh. valueIn narrow sh (entryAt h n d)) (sound h n (omega arith) .shape) ∙ H in
+    let value : valueIn (shape m) (entryAt h n d) ≡ valueFor counts l = ap (λ sh. valueIn sh (entryAt h n d)) (sound h n (omega arith) .shape) ∙ H in
     record {
       at = t;
       before = early;

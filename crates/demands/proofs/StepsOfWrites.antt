@@ -14,7 +14,7 @@ use Rattle.laws.proofs.TestLaws.{byTest}
 use Rattle.query.specs.Query.{Record, Label, writeNode, writeCount}
 use Rattle.query.specs.Encoding.{queryOf, recordOf, labelWords, labelWidth}
 use Rattle.query.specs.Graph.{E′}
-use Rattle.query.specs.Shape.{Shape, narrow}
+use Rattle.query.specs.Shape.{Shape}
 use Rattle.query.proofs.Agreement.{write-node-edge, write-edge-node}
 use Rattle.rules.specs.Layout.{maxNodes}
 use Rattle.rules.specs.Table.{Table, Change, insert, delete, target, has, effect, isFull, noRoom}
@@ -22,7 +22,7 @@ use Rattle.rules.specs.Nodes.{Words, Store, isPresent, nodeOf, revision, pendin
 use Rattle.rules.specs.Client.{steps, stepped, wrote}
 use Rattle.rules.specs.Memory.{Mem, recordsIn, storeIn}
 use Rattle.rules.specs.Outcome.{StepResult}
-use Rattle.rules.specs.Refusals.{shape, columns, client}
+use Rattle.rules.specs.Refusals.{form, shape, columns, client}
 use Rattle.rules.specs.Steps.{nowAt, announceResult, writeTableResult, writeResult}
 use Rattle.rules.specs.Sound.{Busy}
 use Rattle.rules.specs.Work.{Write, writeLabels, Work, asking, writing, Request, readOf, insertOf, deleteOf, workOf}
@@ -38,7 +38,8 @@ use Rattle.machine.proofs.TraceInv.{JobOk}
 use Rattle.machine.proofs.Claims.{fresh}
 use Rattle.machine.proofs.Log.{after, JobFrom, linked}
 use Rattle.refinement.proofs.Abstraction.{stateOf, callOf, Fits}
-use Rattle.refinement.proofs.MemoryReads.{length-records, records-held, rows-held, records-with}
+use Rattle.rules.proofs.MemoryLaws.{length-records, records-with}
+use Rattle.refinement.proofs.Abstraction.{records-held, rows-held}
 use Rattle.demands.specs.WholeHistory.{History, shapeAt, memAt, callAt, resultAt, acceptedAt, StepOf}
 use Rattle.demands.specs.Corollaries.{tableAt, Begins, inserting, deleting}
 use Rattle.demands.specs.Demand2Whole.{nodesAt, Inserts, Deletes, WritesTable, OnlyWrites, Marks, MarksSet, MarkedNodes, RaisedNodes}
@@ -59,7 +60,7 @@ pub since-under : (h : History) (r : Request) (w : Change) → Begins r w → (d
 since-under h r w B d b n u = record { request = r; is = write-begins h r w B; within = u .0; runs = u .1 }
 
 pub writer : (h : History) (r : Request) (w : Change) → Begins r w → (d b n : ℕ) → Under h r d b n
-    → Busy narrow (shape (memAt h n)) (client (memAt h n) d) (writing (of h w))
+    → Busy (shape (memAt h n)) (client (memAt h n) d) (writing (of h w))
 writer h r w B d b n u = keeps-since h (writing (of h w)) d b n _ (since-under h r w B d b n u) refl .busy
 
 pub count : (h : History) (r : Request) (w : Change) → Begins r w → (d b n : ℕ) → Under h r d b n
@@ -117,12 +118,12 @@ deletes h a d b n s =
 
 -- ---- A mark
 mark-of : (m : Mem) (tray : List ℕ) (d : ℕ) (w : Write) (i : ℕ) → i < length (writeLabels w)
-    → writeResult m tray d w i ≡ announceResult m tray d (announced narrow (getD (writeLabels w) i []) (storeIn narrow (m .nodes)))
+    → writeResult m tray d w i ≡ announceResult m tray d (announced (getD (writeLabels w) i []) (storeIn (form m) (m .nodes)))
 unfolding writeResult
 mark-of m tray d w i l = rw (lt-ltb i (length (writeLabels w)) l) refl
 
 mark-some : (h : History) (p : Label) (d n : ℕ) (tray : List ℕ) (t : Store) → n < length (h .calls) → length (labelWords p) ≡ labelWidth
-    → announced narrow (labelWords p) (nodesAt h n) ≡ some t → resultAt h n ≡ announceResult (memAt h n) tray d (some t) → Marks h p n
+    → announced (labelWords p) (nodesAt h n) ≡ some t → resultAt h n ≡ announceResult (memAt h n) tray d (some t) → Marks h p n
 unfolding announceResult
 mark-some h p d n tray t low five e R =
     let m = memAt h n in
@@ -133,18 +134,18 @@ mark-some h p d n tray t low five e R =
     let A : AnnouncedOk w (nodesAt h n) (some t) = subst (λ o. AnnouncedOk w (nodesAt h n) o) e (announced-ok w (nodesAt h n) five once rows) in
     let L = marked w (nodesAt h n) t (A .0) in
     let st : nodesAt h (suc n) ≡ t =
-    ap (λ (k : Mem). storeIn narrow (k .nodes)) (next-mem h n low ∙ ap (λ (k : StepResult). k .mem) R)
+    ap (λ (k : Mem). storeIn (form k) (k .nodes)) (next-mem h n low ∙ ap (λ (k : StepResult). k .mem) R)
     ∙ nodes-after m t d (stepped (client m d)) (S .fits) (A .1) (A .2 (few-nodes m (S .fits))) in
     record {
       there = ap (isPresent w) st ∙ L .there;
       marked = ap (λ (k : Store). pending (nodeOf w k)) st ∙ L .marked;
-      kept = λ i. ap (λ (k : Store). revision narrow (nodeOf w k)) st ∙ L .kept i;
-      added = λ i. ap (λ (k : Store). revision narrow (nodeOf w k)) st
+      kept = λ i. ap (λ (k : Store). revision (nodeOf w k)) st ∙ L .kept i;
+      added = λ i. ap (λ (k : Store). revision (nodeOf w k)) st
           ∙ marked-new w (nodesAt h n) t five once rows e i (sym (present-has w t) ∙ L .there) ∙ ap (λ (k : Store). k .floor) (sym st);
     }
 
 mark-case : (h : History) (p : Label) (d n : ℕ) (tray : List ℕ) (o : Option Store) → n < length (h .calls) → length (labelWords p) ≡ labelWidth → acceptedAt h n ≡ true
-    → announced narrow (labelWords p) (nodesAt h n) ≡ o → resultAt h n ≡ announceResult (memAt h n) tray d o → Marks h p n
+    → announced (labelWords p) (nodesAt h n) ≡ o → resultAt h n ≡ announceResult (memAt h n) tray d o → Marks h p n
 unfolding announceResult
 mark-case h p d n tray none low five a e R = not-refused h n (memAt h n) tray a R
 mark-case h p d n tray (some t) low five a e R = mark-some h p d n tray t low five e (unfold announceResult in R)
@@ -167,9 +168,9 @@ marks-set h r w B d b n i l s =
     let c = count h r w B d b n (under-step s) .0 in
     let k = node-words h r w B d b n i (under-step s) l in
     let p = writeNode (target w) i in
-    mark-case h p d n (s .tray) (announced narrow (labelWords p) (nodesAt h n)) (s .within) (k .1) (s .accepted) refl
+    mark-case h p d n (s .tray) (announced (labelWords p) (nodesAt h n)) (s .within) (k .1) (s .accepted) refl
     (write-at h r (of h w) d b n i (write-begins h r w B) s ∙ mark-of m (s .tray) d (of h w) i (omega arith)
-    ∙ ap (λ q. announceResult m (s .tray) d (announced narrow q (nodesAt h n))) (k .0))
+    ∙ ap (λ q. announceResult m (s .tray) d (announced q (nodesAt h n))) (k .0))
 
 -- ---- Marks taken off
 -- call n, which takes marks off the nodes of these labels and leaves x with the nodes t, takes one off each that stands there once
@@ -177,18 +178,18 @@ abbrev pub Off : History → ℕ → Bool → List Words → Label → Type 0
 Off h n lift ps p = TakenOff (lifts lift ps (labelWords p)) (labelWords p) (nodesAt h n) (nodesAt h (suc n))
 
 pub off-in : (h : History) (p : Label) (n : ℕ) (lift : Bool) (ps : List Words) (t : Store) (x : StepResult) → n < length (h .calls) → tally (labelWords p) ps ≡ 1
-    → retired narrow lift ps (nodesAt h n) ≡ some t → resultAt h n ≡ x
-    → (Fits (memAt h n) → AllRows (t .nodes) → length (t .nodes) ≤ maxNodes → storeIn narrow (x .mem .nodes) ≡ t) → Off h n lift ps p
+    → retired (form (memAt h n)) lift ps (nodesAt h n) ≡ some t → resultAt h n ≡ x
+    → (Fits (memAt h n) → AllRows (t .nodes) → length (t .nodes) ≤ maxNodes → storeIn (form (x .mem)) (x .mem .nodes) ≡ t) → Off h n lift ps p
 off-in h p n lift ps t x low one e R back =
     let m = memAt h n in
     let S = sound h n (omega arith) in
     let w = labelWords p in
     let A : RetiredTo lift ps (nodesAt h n) t =
-    subst (λ o. RetiredOk lift ps (nodesAt h n) o) e (retired-ok lift ps (nodesAt h n) (no-twice h n (omega arith)) (rows-held m (S .fits))) in
+    subst (λ o. RetiredOk lift ps (nodesAt h n) o) e (retired-ok (form m) lift ps (nodesAt h n) (no-twice h n (omega arith)) (rows-held m (S .fits))) in
     let few = few-nodes m (S .fits) in
     let size = A .2 in
     let st : nodesAt h (suc n) ≡ t =
-    ap (λ (k : Mem). storeIn narrow (k .nodes)) (next-mem h n low ∙ ap (λ (k : StepResult). k .mem) R) ∙ back (S .fits) (A .1) (omega arith) in
+    ap (λ (k : Mem). storeIn (form k) (k .nodes)) (next-mem h n low ∙ ap (λ (k : StepResult). k .mem) R) ∙ back (S .fits) (A .1) (omega arith) in
     subst (λ y. TakenOff (lifts lift ps w) w (nodesAt h n) y) (sym st) (taken-off lift w ps (nodesAt h n) t one (A .0))
 
 -- ---- All of definition 11's nodes, and no others
@@ -238,7 +239,7 @@ table-turn : (s : State) {c : machine.Call} {a : Response} {t : State} → Trans
 unfolding at-client with-store with-filed with-tab isRefused
 table-turn s (Transition.nothing e) = stays refl
 table-turn s (Transition.began l e f) = stays refl
-table-turn s (Transition.began-write l e f o) = stays refl
+table-turn s (Transition.began-write l e f) = stays refl
 table-turn s (Transition.looked l e f g p) = stays refl
 table-turn s (Transition.missed l e f y) = stays refl
 table-turn s (Transition.hit l e f i g) = stays refl

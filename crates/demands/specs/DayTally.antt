@@ -12,7 +12,7 @@ use lib.ListN.{length}
 use Rattle.rules.specs.declared.Outcome.{Outcome}
 use Rattle.rules.specs.declared.Outcome.the-variants.{Refused, Accepted, Answered, Long, Ended, Full}
 use Rattle.rules.specs.declared.Tally.{Tally}
-use Rattle.query.specs.Shape.{narrow, shapeOf}
+use Rattle.query.specs.Shape.{shapeOf}
 use Rattle.rules.specs.Memory.{Mem, opened}
 use Rattle.rules.specs.Refusals.{openCode}
 use Rattle.rules.specs.Work.{Request, isWrite}
@@ -185,7 +185,7 @@ lentOn m t (c ∷ cs) = made c (some t) ∷ lentOn (madeResult m (made c (some t
 
 abbrev pub CanHandOn : Type 0
 CanHandOn = (m : Mem) (k : ℕ) (a : openCode m k ≡ 0) (cs : List Call)
-    → HandedOn (record { lent = m; k = k; accepted = a; calls = lentOn (opened narrow (shapeOf k) m) clearedTally cs })
+    → HandedOn (record { lent = m; k = k; accepted = a; calls = lentOn (opened (shapeOf k) m) clearedTally cs })
 
 -- then each count in the tally is that number of calls
 pub record Counts (h : History) (n : ℕ) (t : Tally) : Type 0 where

@@ -10,7 +10,7 @@ use lib.Dec.{eqb, ltb, leb}
 use lib.ListN.{length, getD}
 use Rattle.lists.specs.Lists.{In}
 use Rattle.query.specs.Range.{isReversed}
-use Rattle.query.specs.Shape.{Form, narrow, shapeOf}
+use Rattle.query.specs.Shape.{Form, shapeOf}
 use Rattle.rules.specs.Layout.{maxNodes, maxPending, maxRevision, trayLeast, nodeCountOffset, answerCountOffset, refusedShort, refusedColumns, refusedUnsound, refusedNoClient}
 use Rattle.rules.specs.Layout.{refusedTaken, refusedIdle, notGiven, refusedNoEntry, refusedPending, refusedWorn, refusedOccupied, refusedReversed, refusedTallyFull, endedLong, endedFull}
 use Rattle.rules.specs.Work.{readLabels, valueOf, mayAnswer, writeLabels, Work, asking, writing, Request, readOf, insertOf, deleteOf, isWrite, faultOf}
@@ -48,7 +48,7 @@ isThere d = not (noClient d)
 
 -- "a busy desk"
 abbrev pub isBusy : Mem → ℕ → Bool
-isBusy m d = isThere d && not (isIdle (form m) (client m d))
+isBusy m d = isThere d && not (isIdle (client m d))
 
 -- ---- 3 at a node
 -- By the label p of the node that a step is about, and the nodes s as the call finds them; a node's pending writes are its marks, its revision
@@ -71,7 +71,7 @@ isFullyPending p s = isPresent p s && leb maxPending (pending (nodeOf p s))
 
 -- "a counter at its largest to raise"
 unfoldable pub isAtLargest : Form → Words → Store → Bool
-isAtLargest f p s = isPresent p s && leb (maxRevision f) (revision f (nodeOf p s))
+isAtLargest f p s = isPresent p s && leb (maxRevision f) (revision (nodeOf p s))
 
 -- "a raise .. finds its node missing or unmarked", or "a counter at its largest to raise": one that "leaves the counter" (S-6) has none to raise
 unfoldable pub cannotRaise : Form → Bool → Words → Store → Bool
@@ -131,14 +131,14 @@ hasReversed (deleteOf a) = false
 unfoldable pub openRows : Mem → ℕ → List Row
 openRows m k =
     -- "a lent memory is below its least length"
-    row refusedShort (isShort narrow (shapeOf k) m)
+    row refusedShort (isShort (shapeOf k) m)
     -- "at opening, k not 1 to 4"
     ∷ row refusedColumns (badColumns k) ∷ []
 
 unfoldable pub beginRows : Mem → ℕ → Request → List Row
 beginRows m d r =
     -- "a lent memory is below its least length"
-    row refusedShort (isShort (form m) (shape m) m)
+    row refusedShort (isShort (shape m) m)
     -- "a query whose columns are not as many as the k in memory, a mark above 1, a star with a value, an insert with a star"; "a ranged
     -- column that is also named, or whose number is not below k, is 2" (S-3)
     ∷ row refusedColumns (eqb (faultOf (shape m) r) refusedColumns)
@@ -150,7 +150,7 @@ beginRows m d r =
     ∷ row refusedNoClient (noClient d)
     -- "the called desk is not idle and its kind, query, step or list length is out of range"; "a .. held count above 2,048 is 3" (S-1);
     -- "a held range that a begin would refuse is 3" (S-3)
-    ∷ row refusedUnsound (isThere d && isBad (form m) (shape m) (client m d))
+    ∷ row refusedUnsound (isThere d && isBad (shape m) (client m d))
     -- "begin at a busy desk"
     ∷ row refusedTaken (isBusy m d)
     -- "a write begins while the floor or a counter is above 4,294,967,103"
@@ -159,16 +159,16 @@ beginRows m d r =
 unfoldable pub stepRows : Mem → List ℕ → ℕ → List Row
 stepRows m tray d =
     -- "a lent memory is below its least length": the tray too
-    row refusedShort (isShort (form m) (shape m) m || ltb (length tray) trayLeast)
+    row refusedShort (isShort (shape m) m || ltb (length tray) trayLeast)
     -- "k, an entry count or a filed list's length in memory out of range"; "a filed .. count above 2,048 is 3" (S-1)
     ∷ row refusedUnsound (isUnsound m)
     -- "desk above 11"
     ∷ row refusedNoClient (noClient d)
     -- "the called desk is not idle and its kind, query, step or list length is out of range"; "a .. held count above 2,048 is 3" (S-1);
     -- "a held range that a begin would refuse is 3" (S-3)
-    ∷ row refusedUnsound (isThere d && isBad (form m) (shape m) (client m d))
+    ∷ row refusedUnsound (isThere d && isBad (shape m) (client m d))
     -- "step or abandon at an idle desk"
-    ∷ row refusedIdle (isThere d && isIdle (form m) (client m d))
+    ∷ row refusedIdle (isThere d && isIdle (client m d))
     -- "a raise .. finds its node missing or unmarked; no unmarked node to put out; a counter at its largest to raise; marks at 12 or more to
     -- add to"
     ∷ row refusedUnsound (isBusy m d && isUnsoundAt m (client m d) (workAt (shape m) (client m d)) (steps (client m d))) ∷ []
@@ -184,16 +184,16 @@ endRows m d =
 unfoldable pub abandonRows : Mem → ℕ → List Row
 abandonRows m d =
     -- "a lent memory is below its least length"
-    row refusedShort (isShort (form m) (shape m) m)
+    row refusedShort (isShort (shape m) m)
     -- "k, an entry count or a filed list's length in memory out of range"; "a filed .. count above 2,048 is 3" (S-1)
     ∷ row refusedUnsound (isUnsound m)
     -- "desk above 11"
     ∷ row refusedNoClient (noClient d)
     -- "the called desk is not idle and its kind, query, step or list length is out of range"; "a .. held count above 2,048 is 3" (S-1);
     -- "a held range that a begin would refuse is 3" (S-3)
-    ∷ row refusedUnsound (isThere d && isBad (form m) (shape m) (client m d))
+    ∷ row refusedUnsound (isThere d && isBad (shape m) (client m d))
     -- "step or abandon at an idle desk"
-    ∷ row refusedIdle (isThere d && isIdle (form m) (client m d))
+    ∷ row refusedIdle (isThere d && isIdle (client m d))
     -- "a raise or the taking back of a mark finds its node missing or unmarked; .. a counter at its largest to raise", at any of those that are
     -- to be raised (S-4) or whose mark is taken back. 7 has no row: it "is given no longer" (S-4)
     ∷ row refusedUnsound (isBusy m d && isUnsoundAbandoned m (client m d) (workAt (shape m) (client m d)) (steps (client m d))) ∷ []
@@ -205,7 +205,7 @@ abandonEndRows m d = row endedFull (isBusy m d && isFullAbandoned (client m d) (
 unfoldable pub evictAnswerRows : Mem → ℕ → List Row
 evictAnswerRows m i =
     -- "a lent memory is below its least length"
-    row refusedShort (isShort (form m) (shape m) m)
+    row refusedShort (isShort (shape m) m)
     -- "k, an entry count or a filed list's length in memory out of range"; "a filed .. count above 2,048 is 3" (S-1)
     ∷ row refusedUnsound (isUnsound m)
     -- "place to put out not below the count"
@@ -214,7 +214,7 @@ evictAnswerRows m i =
 unfoldable pub evictNodeRows : Mem → ℕ → List Row
 evictNodeRows m i =
     -- "a lent memory is below its least length"
-    row refusedShort (isShort (form m) (shape m) m)
+    row refusedShort (isShort (shape m) m)
     -- "k, an entry count or a filed list's length in memory out of range"; "a filed .. count above 2,048 is 3" (S-1)
     ∷ row refusedUnsound (isUnsound m)
     -- "place to put out not below the count"
@@ -225,7 +225,7 @@ evictNodeRows m i =
 unfoldable pub renewRows : Mem → List Row
 renewRows m =
     -- "a lent memory is below its least length"
-    row refusedShort (isShort (form m) (shape m) m)
+    row refusedShort (isShort (shape m) m)
     -- "k, an entry count or a filed list's length in memory out of range"; "a filed .. count above 2,048 is 3" (S-1)
     ∷ row refusedUnsound (isUnsound m)
     -- "renew with a busy desk"

@@ -15,11 +15,12 @@ use Rattle.rules.specs.Refusals.{openCode}
 use Rattle.rules.specs.History.{Call, begin, step, abandon, evictAnswer, evictNode, renew, isAccepted, Plain, plainAtOpening}
 use Rattle.rules.specs.Tally.{Made, made, isTallyFull, madeResult, memAfter, plainAfter}
 use Rattle.rules.specs.Work.{Request}
-use Rattle.query.specs.Shape.{Shape, shapeOf, narrow}
+use Rattle.query.specs.Shape.{Shape, shapeOf}
 
 -- "A history is an accepted opening, with any k, and after it a list of calls, the empty one too"; a call may be lent a tally (S-7), any one each
 -- time
 pub record History : Type 0 where
+  -- the memories, with the form in which they are read: a history is one of either form
   pub lent : Mem
   pub k : ℕ
   pub accepted : openCode lent k ≡ 0
@@ -31,10 +32,10 @@ shapeAt h = shapeOf (h .k)
 
 -- the memories and the plain table after the first n calls; calls are numbered from 0
 unfoldable pub memAt : History → ℕ → Mem
-memAt h n = memAfter (opened narrow (shapeAt h) (h .lent)) (take n (h .calls))
+memAt h n = memAfter (opened (shapeAt h) (h .lent)) (take n (h .calls))
 
 unfoldable pub plainAt : History → ℕ → Plain
-plainAt h n = plainAfter (opened narrow (shapeAt h) (h .lent)) (plainAtOpening (shapeAt h)) (take n (h .calls))
+plainAt h n = plainAfter (opened (shapeAt h) (h .lent)) (plainAtOpening (shapeAt h)) (take n (h .calls))
 
 -- call n, and what it returned and left
 unfoldable pub madeAt : History → ℕ → Made

@@ -4,10 +4,10 @@ ghost use mathlib.Core.Path.{_≡_};
 ghost use mathlib.Core.List.{List, _∷_};
 ghost use Prim.Native.Nat.{ℕ, _≤_};
 ghost use lib.ListN.{length, set};
-ghost use Rattle.query.specs.Shape.{narrow, Shape, shapeOf};
+ghost use Rattle.query.specs.Shape.{Shape, shapeOf};
 ghost use Rattle.query.specs.Encoding.{countsIn};
 ghost use Rattle.rules.specs.Layout.{tableLeast, nodesLeast, answersLeast, clientsLeast, floorOffset, columnsOffset, firstFloor};
-ghost use Rattle.rules.specs.Memory.{mem, cleared};
+ghost use Rattle.rules.specs.Memory.{current, mem, cleared};
 ghost use Rattle.rules.specs.Refusals.{isShort};
 ghost use Rattle.hall.specs.HallContracts.{limitsOf};
 
@@ -202,8 +202,8 @@ impl Hall {
 
     // Empties the nodes and sets the floor to 1.
     pub fn clear_nodes(nodes: &mut [u32])
-        requires { ⌜ nodesLeast narrow ≤ length (now nodes) ⌝ }
-        ensures { λ _. ⌜ now (nodes .exit) ≡ set (cleared (nodesLeast narrow) (now (nodes .entry))) floorOffset firstFloor ⌝ }
+        requires { ⌜ nodesLeast current ≤ length (now nodes) ⌝ }
+        ensures { λ _. ⌜ now (nodes .exit) ≡ set (cleared (nodesLeast current) (now (nodes .entry))) floorOffset firstFloor ⌝ }
     {
         words::clear(nodes, Hall::NODES_LEAST);
         nodes[Hall::FLOOR_OFFSET] = Hall::FIRST_FLOOR;
@@ -211,16 +211,16 @@ impl Hall {
 
     // Empties the answers.
     pub fn clear_answers(answers: &mut [u32])
-        requires { ⌜ ((sh : Shape) → answersLeast narrow sh ≤ length (now answers)) ⌝ }
-        ensures { λ _. ⌜ ((sh : Shape) → now (answers .exit) ≡ cleared (answersLeast narrow sh) (now (answers .entry))) ⌝ }
+        requires { ⌜ ((sh : Shape) → answersLeast current sh ≤ length (now answers)) ⌝ }
+        ensures { λ _. ⌜ ((sh : Shape) → now (answers .exit) ≡ cleared (answersLeast current sh) (now (answers .entry))) ⌝ }
     {
         words::clear(answers, Hall::ANSWERS_LEAST);
     }
 
     // Leaves every client idle and sets the number of columns to k.
     pub fn clear_clients(clients: &mut [u32], k: u32)
-        requires { ⌜ clientsLeast narrow (shapeOf k) ≤ length (now clients) ⌝ }
-        ensures { λ _. ⌜ now (clients .exit) ≡ set (cleared (clientsLeast narrow (shapeOf k)) (now (clients .entry))) columnsOffset k ⌝ }
+        requires { ⌜ clientsLeast current (shapeOf k) ≤ length (now clients) ⌝ }
+        ensures { λ _. ⌜ now (clients .exit) ≡ set (cleared (clientsLeast current (shapeOf k)) (now (clients .entry))) columnsOffset k ⌝ }
     {
         words::clear(clients, Hall::CLIENTS_LEAST);
         clients[Hall::COLUMNS_OFFSET] = k;
@@ -235,7 +235,7 @@ impl Hall {
 
     // Whether a lent memory is below its least length.
     pub fn is_short(table: &[u32], nodes: &[u32], answers: &[u32], clients: &[u32]) -> bool
-        ensures { λ r. ⌜ ((sh : Shape) → r ≡ isShort narrow sh (mem (now (table .entry)) (now (nodes .entry)) (now (answers .entry)) (now (clients .entry)))) ⌝ }
+        ensures { λ r. ⌜ ((sh : Shape) → r ≡ isShort sh (mem (now (table .entry)) (now (nodes .entry)) (now (answers .entry)) (now (clients .entry)))) ⌝ }
     {
         if table.len() < Hall::TABLE_LEAST {
             return true;

@@ -13,16 +13,17 @@ use Rattle.laws.proofs.ListLaws.{same-eq}
 use Rattle.laws.proofs.Members.{in-place}
 use Rattle.laws.proofs.TestLaws.{byTest}
 use Rattle.lists.specs.Lists.{same}
-use Rattle.query.specs.Shape.{Shape, narrow, maxColumns}
+use Rattle.query.specs.Shape.{Form, Shape, maxColumns}
 use Rattle.rules.specs.Layout.{maxClients, maxPending, maxRevision, wornAbove, firstFloor}
-use Rattle.rules.specs.Work.{Write, writeLabels}
-use Rattle.rules.specs.Nodes.{Words, store}
+use Rattle.rules.proofs.NodeLaws.{worn-room}
+use Rattle.rules.specs.Work.{writing, Write, writeLabels}
+use Rattle.rules.specs.Nodes.{Words, store, isWorn}
 use Rattle.rules.proofs.WorkLaws.{write-labels-differ}
 use Rattle.revisions.specs.EffectiveRevision.{effective, pendingOf, one, tally}
 use Rattle.revisions.proofs.NodeRows.{Each}
 use Rattle.revisions.proofs.RevisionBounds.{Below, below-effective, worn-below}
 use Rattle.machine.specs.Machine.{upd, State, Phase, idle, looking, tabling, filing, announcing, raising, opened, at-client, with-store, with-filed, with-tab}
-use Rattle.machine.specs.Machine.{Call, begin, step, abandon, evict-answer, evict-node, renew, Response}
+use Rattle.machine.specs.Machine.{Call, begin, step, abandon, evict-answer, evict-node, renew, Response, went}
 use Rattle.machine.specs.Transition.{Transition}
 use Rattle.machine.specs.Transition
 use Rattle.machine.proofs.Asks.{write-few}
@@ -59,8 +60,12 @@ allToRaise f = sumBelow 12 (λ d. toRaise (f d))
 
 -- "a write begins while the floor or a counter is above 4,294,967,103" (10): so no revision comes to its largest. Every revision and the
 -- floor are at most b, and b with all raises to come is no more than a counter can hold
-abbrev pub Headroom : State → Type 0
-Headroom s = (b : ℕ) × Below b (s .store) × (b + allToRaise (s .clients) ≤ maxRevision narrow)
+abbrev pub Headroom : Form → State → Type 0
+Headroom f s = (b : ℕ) × Below b (s .store) × (b + allToRaise (s .clients) ≤ maxRevision f)
+
+-- a write that begins finds no revision above the worn number of this form
+abbrev pub Fresh : Form → State → Call → Response → Type 0
+Fresh f s c a = (d : ℕ) (w : Write) → c ≡ begin d (writing w) → a ≡ went → isWorn f (s .shape) (s .store) ≡ false
 
 toRaise-upd : (f : ℕ → Phase) (d : ℕ) (x : Phase) → d < maxClients → allToRaise (upd f d x) + toRaise (f d) ≡ allToRaise f + toRaise x
 unfolding allToRaise
@@ -117,15 +122,15 @@ liftOf s renew = firstFloor
 abbrev pub Lifted : State → Call → State → Type 0
 Lifted s c t = (b : ℕ) → Below b (s .store) → Below (b + liftOf s c) (t .store)
 
-at-room : (s t : State) (d : ℕ) (x : Phase) (n : ℕ) → d < maxClients → t .clients ≡ upd (s .clients) d x → n + toRaise x ≤ toRaise (s .clients d)
-    → ((b : ℕ) → Below b (s .store) → Below (b + n) (t .store)) → Headroom s → Headroom t
-at-room s t d x n l e k g r =
+at-room : (f : Form) (s t : State) (d : ℕ) (x : Phase) (n : ℕ) → d < maxClients → t .clients ≡ upd (s .clients) d x → n + toRaise x ≤ toRaise (s .clients d)
+    → ((b : ℕ) → Below b (s .store) → Below (b + n) (t .store)) → Headroom f s → Headroom f t
+at-room f s t d x n l e k g r =
     let z = toRaise-upd (s .clients) d x l in
     let y = r .2 in
     (r .0 + n, g (r .0) (r .1), rw e (omega arith))
 
-aside-room : (s t : State) → t .clients ≡ s .clients → ((b : ℕ) → Below b (s .store) → Below (b + 0) (t .store)) → Headroom s → Headroom t
-aside-room s t e g r = let y = r .2 in (r .0 + 0, g (r .0) (r .1), rw e (omega arith))
+aside-room : (f : Form) (s t : State) → t .clients ≡ s .clients → ((b : ℕ) → Below b (s .store) → Below (b + 0) (t .store)) → Headroom f s → Headroom f t
+aside-room f s t e g r = let y = r .2 in (r .0 + 0, g (r .0) (r .1), rw e (omega arith))
 
 lift-all : (x : Phase) → liftAll x + toRaise idle ≤ toRaise x
 unfolding toRaise
@@ -136,34 +141,34 @@ lift-all (filing q ns l) = omega arith
 lift-all (announcing w i) = omega arith
 lift-all (raising w j c f) = omega arith
 
-pub transition-headroom : (s : State) {c : Call} {a : Response} {t : State} → StateInv s → StateInv t → Lifted s c t → Headroom s → Transition s c a t → Headroom t
+pub transition-headroom : (h : Form) (s : State) {c : Call} {a : Response} {t : State} → Fresh h s c a → StateInv s → StateInv t → Lifted s c t → Headroom h s → Transition s c a t → Headroom h t
 unfolding toRaise at-client with-store with-filed with-tab Below Each
-transition-headroom s {t = t} v u g r (Transition.nothing e) = r
-transition-headroom s {t = t} v u g r (Transition.began {d} {q} l e k) = at-room s t d (looking q [] false) 0 l refl (omega arith) g r
-transition-headroom s {t = t} v u g r (Transition.began-write {d} {w} l e k o) =
-    (wornAbove narrow (s .shape), worn-below (s .shape) (s .store) o, let z = all-few t u in omega arith)
-transition-headroom s {t = t} v u g r (Transition.looked {d} l e k m n) = at-room s t d _ (liftAt (s .clients d)) l refl (rw e (omega arith)) g r
-transition-headroom s {t = t} v u g r (Transition.missed {d} l e k y) = at-room s t d _ (liftAt (s .clients d)) l refl (rw e (omega arith)) g r
-transition-headroom s {t = t} v u g r (Transition.hit {d} l e k i f) = at-room s t d idle (liftAt (s .clients d)) l refl (rw e (omega arith)) g r
-transition-headroom s {t = t} v u g r (Transition.too-long {d} l e k) = at-room s t d idle (liftAt (s .clients d)) l refl (rw e (omega arith)) g r
-transition-headroom s {t = t} v u g r (Transition.listed {d} l e k) = at-room s t d idle (liftAt (s .clients d)) l refl (rw e (omega arith)) g r
-transition-headroom s {t = t} v u g r (Transition.took {d} l e k) = at-room s t d _ (liftAt (s .clients d)) l refl (rw e (omega arith)) g r
-transition-headroom s {t = t} v u g r (Transition.filed {d} l e) = at-room s t d idle (liftAt (s .clients d)) l refl (rw e (omega arith)) g r
-transition-headroom s {t = t} v u g r (Transition.announced {d} {w} {i} l e k m) = at-room s t d (announcing w (suc i)) (liftAt (s .clients d)) l refl (rw e (omega arith)) g r
-transition-headroom s {t = t} v u g r (Transition.wrote {d} l e k) = at-room s t d _ (liftAt (s .clients d)) l refl (rw e (omega arith)) g r
-transition-headroom s {t = t} v u g r (Transition.raised {d} {w} {j} {c} {f} l e k m) = at-room s t d (raising w (suc j) c f) (liftAt (s .clients d)) l refl (rw e (omega arith)) g r
-transition-headroom s {t = t} v u g r (Transition.last {d} {w} {j} {c} {f} l e k m) =
-    let o = fit-at s d (raising w j c f) v e .1 in at-room s t d idle (liftAt (s .clients d)) l refl (rw e (omega arith)) g r
-transition-headroom s {t = t} v u g r (Transition.abandoned-read {d} l e) = at-room s t d idle (liftAll (s .clients d)) l refl (lift-all (s .clients d)) g r
-transition-headroom s {t = t} v u g r (Transition.abandoned-write {d} l e m) = at-room s t d idle (liftAll (s .clients d)) l refl (lift-all (s .clients d)) g r
-transition-headroom s {t = t} v u g r (Transition.abandoned-raising {d} l e m) = at-room s t d idle (liftAll (s .clients d)) l refl (lift-all (s .clients d)) g r
-transition-headroom s {t = t} v u g r (Transition.evicted-answer l) = aside-room s t refl g r
-transition-headroom s {t = t} v u g r (Transition.evicted-node l m) = aside-room s t refl g r
-transition-headroom s {t = t} v u g r (Transition.renewed i) = (firstFloor, (omega arith, tt), let z = none-raise (s .clients) i in omega arith)
+transition-headroom h s {t = t} low v u g r (Transition.nothing e) = r
+transition-headroom h s {t = t} low v u g r (Transition.began {d} {q} l e k) = at-room h s t d (looking q [] false) 0 l refl (omega arith) g r
+transition-headroom h s {t = t} low v u g r (Transition.began-write {d} {w} l e k) =
+    (wornAbove h (s .shape), worn-below h (s .shape) (s .store) (low d w refl refl), let z = all-few t u in let y = worn-room h (s .shape) .0 in omega arith)
+transition-headroom h s {t = t} low v u g r (Transition.looked {d} l e k m n) = at-room h s t d _ (liftAt (s .clients d)) l refl (rw e (omega arith)) g r
+transition-headroom h s {t = t} low v u g r (Transition.missed {d} l e k y) = at-room h s t d _ (liftAt (s .clients d)) l refl (rw e (omega arith)) g r
+transition-headroom h s {t = t} low v u g r (Transition.hit {d} l e k i f) = at-room h s t d idle (liftAt (s .clients d)) l refl (rw e (omega arith)) g r
+transition-headroom h s {t = t} low v u g r (Transition.too-long {d} l e k) = at-room h s t d idle (liftAt (s .clients d)) l refl (rw e (omega arith)) g r
+transition-headroom h s {t = t} low v u g r (Transition.listed {d} l e k) = at-room h s t d idle (liftAt (s .clients d)) l refl (rw e (omega arith)) g r
+transition-headroom h s {t = t} low v u g r (Transition.took {d} l e k) = at-room h s t d _ (liftAt (s .clients d)) l refl (rw e (omega arith)) g r
+transition-headroom h s {t = t} low v u g r (Transition.filed {d} l e) = at-room h s t d idle (liftAt (s .clients d)) l refl (rw e (omega arith)) g r
+transition-headroom h s {t = t} low v u g r (Transition.announced {d} {w} {i} l e k m) = at-room h s t d (announcing w (suc i)) (liftAt (s .clients d)) l refl (rw e (omega arith)) g r
+transition-headroom h s {t = t} low v u g r (Transition.wrote {d} l e k) = at-room h s t d _ (liftAt (s .clients d)) l refl (rw e (omega arith)) g r
+transition-headroom h s {t = t} low v u g r (Transition.raised {d} {w} {j} {c} {f} l e k m) = at-room h s t d (raising w (suc j) c f) (liftAt (s .clients d)) l refl (rw e (omega arith)) g r
+transition-headroom h s {t = t} low v u g r (Transition.last {d} {w} {j} {c} {f} l e k m) =
+    let o = fit-at s d (raising w j c f) v e .1 in at-room h s t d idle (liftAt (s .clients d)) l refl (rw e (omega arith)) g r
+transition-headroom h s {t = t} low v u g r (Transition.abandoned-read {d} l e) = at-room h s t d idle (liftAll (s .clients d)) l refl (lift-all (s .clients d)) g r
+transition-headroom h s {t = t} low v u g r (Transition.abandoned-write {d} l e m) = at-room h s t d idle (liftAll (s .clients d)) l refl (lift-all (s .clients d)) g r
+transition-headroom h s {t = t} low v u g r (Transition.abandoned-raising {d} l e m) = at-room h s t d idle (liftAll (s .clients d)) l refl (lift-all (s .clients d)) g r
+transition-headroom h s {t = t} low v u g r (Transition.evicted-answer l) = aside-room h s t refl g r
+transition-headroom h s {t = t} low v u g r (Transition.evicted-node l m) = aside-room h s t refl g r
+transition-headroom h s {t = t} low v u g r (Transition.renewed i) = (firstFloor, (omega arith, tt), let z = none-raise (s .clients) i in let y = worn-room h (s .shape) .1 in omega arith)
 
-pub opened-headroom : (sh : Shape) → Headroom (opened sh)
+pub opened-headroom : (f : Form) (sh : Shape) → Headroom f (opened sh)
 unfolding opened Below Each
-opened-headroom sh = (firstFloor, (omega arith, tt), let z = none-raise (λ d. idle) (λ d. refl) in omega arith)
+opened-headroom f sh = (firstFloor, (omega arith, tt), let z = none-raise (λ d. idle) (λ d. refl) in let y = worn-room f sh .1 in omega arith)
 
 -- ---- The marks that a desk holds: none twice
 once-in : (p : Words) (ps : List Words) → ((i j : ℕ) → i < length ps → j < length ps → getD ps i [] ≡ getD ps j [] → i ≡ j) → tally p ps ≤ 1
@@ -224,10 +229,10 @@ held-marked s d x p v l e =
     omega arith
 
 -- "a counter at its largest to raise" (3) is never met: that raise is still to come
-raise-room : (s : State) (d : ℕ) (w : Write) (j : ℕ) {c f : Bool} (p : Words) → StateInv s → Headroom s → d < maxClients → s .clients d ≡ raising w j c f
-    → effective (s .store) p < maxRevision narrow
+raise-room : (h : Form) (s : State) (d : ℕ) (w : Write) (j : ℕ) {c f : Bool} (p : Words) → StateInv s → Headroom h s → d < maxClients → s .clients d ≡ raising w j c f
+    → effective (s .store) p < maxRevision h
 unfolding allToRaise toRaise
-raise-room s d w j {c} {f} p v r l e =
+raise-room h s d w j {c} {f} p v r l e =
     let o = fit-at s d (raising w j c f) v e .1 in
     let a = below-effective (r .0) (s .store) p (r .1) in
     let b = sumBelow-ge 12 (λ e. toRaise (s .clients e)) d l in
@@ -236,14 +241,14 @@ raise-room s d w j {c} {f} p v r l e =
     omega arith
 
 -- so any of the raises that a write has still to make find what they need, one of them or all
-pub raises-go : (s : State) (d : ℕ) (w : Write) (j : ℕ) (c f : Bool) (ps rest : List Words) → StateInv s → Headroom s → d < maxClients → s .clients d ≡ raising w j c f
-    → Leaves w j ps rest → (p : Words) → (tally p ps ≤ pendingOf (s .store) p) × (effective (s .store) p + tally p ps ≤ maxRevision narrow)
+pub raises-go : (h : Form) (s : State) (d : ℕ) (w : Write) (j : ℕ) (c f : Bool) (ps rest : List Words) → StateInv s → Headroom h s → d < maxClients → s .clients d ≡ raising w j c f
+    → Leaves w j ps rest → (p : Words) → (tally p ps ≤ pendingOf (s .store) p) × (effective (s .store) p + tally p ps ≤ maxRevision h)
 unfolding holds
-raises-go s d w j c f ps rest v r l e lv p =
+raises-go h s d w j c f ps rest v r l e lv p =
     let a = held-marked s d (raising w j c f) p v l e in
     let b = lv p in
     let n = holds-once p (raising w j c f) in
-    let g = raise-room s d w j {c = c} {f = f} p v r l e in
+    let g = raise-room h s d w j {c = c} {f = f} p v r l e in
     (omega arith, omega arith)
 
 -- ---- All labels that the desks below n hold

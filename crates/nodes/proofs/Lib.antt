@@ -2,6 +2,6 @@
 pub mod NodeStores
 pub mod NodeScans
 pub mod NodePlaces
-pub mod NodeSizes
+pub mod NodeSpots
 pub mod NodePresent
 pub mod NodesKept

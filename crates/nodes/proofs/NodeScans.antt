@@ -17,9 +17,9 @@ use Rattle.laws.proofs.SearchLaws.{place-start, place-found, place-next, place-
 use Rattle.rules.specs.Nodes.{Words, Node, pending, revision, labelIn, hasLabel, isFree, isHigh, isWorn}
 use Rattle.lists.specs.Lists.{header}
 use Rattle.query.specs.Encoding.{labelWidth}
-use Rattle.query.specs.Shape.{Shape, narrow}
+use Rattle.query.specs.Shape.{Shape}
 use Rattle.rules.specs.Layout.{wornAbove, floorOffset, nodeCountOffset, pendingOffset, revisionOffset, nodeWidth}
-use Rattle.rules.specs.Memory.{storeIn}
+use Rattle.rules.specs.Memory.{current, storeIn}
 use Rattle.nodes.proofs.NodeStores.{five, count-nodes, floor-in, node-word, node-at}
 
 -- ---- numbers compared bit by bit: 0 where they agree
@@ -88,70 +88,70 @@ is-free-pending n =
 
 -- ---- the tests of a node, in the memory's numbers
 module _ (s : List ℕ) (i : ℕ) (h : i < getD s nodeCountOffset 0) where
-  pub label-test : (p : Words) → hasLabel p (getD (storeIn narrow s .nodes) i []) ≡ same (take labelWidth (drop (header + i * nodeWidth) s)) p
+  pub label-test : (p : Words) → hasLabel p (getD (storeIn current s .nodes) i []) ≡ same (take labelWidth (drop (header + i * nodeWidth) s)) p
   unfolding hasLabel labelIn
   label-test p = ap (λ (n : Node). same (take labelWidth n) p) (node-at s i h) ∙ ap (λ (n : Node). same n p) (take-take labelWidth 8 (drop (header + i * nodeWidth) s) (omega arith))
 
-  pub pending-at : pending (getD (storeIn narrow s .nodes) i []) ≡ getD s (header + i * nodeWidth + pendingOffset) 0
+  pub pending-at : pending (getD (storeIn current s .nodes) i []) ≡ getD s (header + i * nodeWidth + pendingOffset) 0
   unfolding pending
   pending-at = node-word s i 5 h (omega arith)
 
-  pub revision-at : revision narrow (getD (storeIn narrow s .nodes) i []) ≡ getD s (header + i * nodeWidth + revisionOffset) 0
+  pub revision-at : revision (getD (storeIn current s .nodes) i []) ≡ getD s (header + i * nodeWidth + revisionOffset) 0
   unfolding revision
   revision-at = node-word s i 6 h (omega arith)
 
-  pub free-test : eqb (getD s (header + i * nodeWidth + pendingOffset) 0) 0 ≡ isFree (getD (storeIn narrow s .nodes) i [])
+  pub free-test : eqb (getD s (header + i * nodeWidth + pendingOffset) 0) 0 ≡ isFree (getD (storeIn current s .nodes) i [])
   unfolding isFree
   free-test = ap (λ (x : ℕ). eqb x 0) (sym pending-at)
 
-  pub high-test : (sh : Shape) → wornAbove narrow sh < getD s (header + i * nodeWidth + revisionOffset) 0 → isHigh narrow sh (getD (storeIn narrow s .nodes) i []) ≡ true
+  pub high-test : (sh : Shape) → wornAbove current sh < getD s (header + i * nodeWidth + revisionOffset) 0 → isHigh current sh (getD (storeIn current s .nodes) i []) ≡ true
   unfolding isHigh
-  high-test sh k = rw revision-at (lt-ltb (wornAbove narrow sh) (getD s (header + i * nodeWidth + revisionOffset) 0) k)
+  high-test sh k = rw revision-at (lt-ltb (wornAbove current sh) (getD s (header + i * nodeWidth + revisionOffset) 0) k)
 
-  pub low-test : (sh : Shape) → getD s (header + i * nodeWidth + revisionOffset) 0 ≤ wornAbove narrow sh → isHigh narrow sh (getD (storeIn narrow s .nodes) i []) ≡ false
+  pub low-test : (sh : Shape) → getD s (header + i * nodeWidth + revisionOffset) 0 ≤ wornAbove current sh → isHigh current sh (getD (storeIn current s .nodes) i []) ≡ false
   unfolding isHigh
-  low-test sh k = rw revision-at (le-ltb (wornAbove narrow sh) (getD s (header + i * nodeWidth + revisionOffset) 0) k)
+  low-test sh k = rw revision-at (le-ltb (wornAbove current sh) (getD s (header + i * nodeWidth + revisionOffset) 0) k)
 
 -- ---- the search for the first node that passes a test q: before place i none does
 unfoldable pub Past : (Node → Bool) → List ℕ → ℕ → Type 0
-Past q s i = place q (storeIn narrow s .nodes) ≡ i + place q (drop i (storeIn narrow s .nodes))
+Past q s i = place q (storeIn current s .nodes) ≡ i + place q (drop i (storeIn current s .nodes))
 
 module _ (q : Node → Bool) (s : List ℕ) where
   pub scan-start : Past q s 0
   unfolding Past
-  scan-start = place-start q (storeIn narrow s .nodes)
+  scan-start = place-start q (storeIn current s .nodes)
 
-  pub scan-found : (i : ℕ) → Past q s i → i < getD s nodeCountOffset 0 → q (getD (storeIn narrow s .nodes) i []) ≡ true → i ≡ place q (storeIn narrow s .nodes)
+  pub scan-found : (i : ℕ) → Past q s i → i < getD s nodeCountOffset 0 → q (getD (storeIn current s .nodes) i []) ≡ true → i ≡ place q (storeIn current s .nodes)
   unfolding Past
-  scan-found i p h e = let l : length (storeIn narrow s .nodes) ≡ getD s nodeCountOffset 0 = count-nodes s in sym (place-found q (storeIn narrow s .nodes) i [] p (omega arith) e)
+  scan-found i p h e = let l : length (storeIn current s .nodes) ≡ getD s nodeCountOffset 0 = count-nodes s in sym (place-found q (storeIn current s .nodes) i [] p (omega arith) e)
 
-  pub scan-next : (i : ℕ) → Past q s i → i < getD s nodeCountOffset 0 → q (getD (storeIn narrow s .nodes) i []) ≡ false → Past q s (i + 1)
+  pub scan-next : (i : ℕ) → Past q s i → i < getD s nodeCountOffset 0 → q (getD (storeIn current s .nodes) i []) ≡ false → Past q s (i + 1)
   unfolding Past
-  scan-next i p h e = let l : length (storeIn narrow s .nodes) ≡ getD s nodeCountOffset 0 = count-nodes s in place-next q (storeIn narrow s .nodes) i [] p (omega arith) e
+  scan-next i p h e = let l : length (storeIn current s .nodes) ≡ getD s nodeCountOffset 0 = count-nodes s in place-next q (storeIn current s .nodes) i [] p (omega arith) e
 
-  pub scan-none : (i : ℕ) → Past q s i → i ≤ getD s nodeCountOffset 0 → getD s nodeCountOffset 0 ≤ i → i ≡ place q (storeIn narrow s .nodes)
+  pub scan-none : (i : ℕ) → Past q s i → i ≤ getD s nodeCountOffset 0 → getD s nodeCountOffset 0 ≤ i → i ≡ place q (storeIn current s .nodes)
   unfolding Past
   scan-none i p h k =
-      let l : length (storeIn narrow s .nodes) ≡ getD s nodeCountOffset 0 = count-nodes s in
-      let e : place q (storeIn narrow s .nodes) ≡ length (storeIn narrow s .nodes) = place-none q (storeIn narrow s .nodes) i p (omega arith) (omega arith) in
+      let l : length (storeIn current s .nodes) ≡ getD s nodeCountOffset 0 = count-nodes s in
+      let e : place q (storeIn current s .nodes) ≡ length (storeIn current s .nodes) = place-none q (storeIn current s .nodes) i p (omega arith) (omega arith) in
       omega arith
 
 -- ---- whether the floor or a revision is too high
 module _ (sh : Shape) (s : List ℕ) where
-  pub worn-floor : wornAbove narrow sh < getD s floorOffset 0 → true ≡ isWorn narrow sh (storeIn narrow s)
+  pub worn-floor : wornAbove current sh < getD s floorOffset 0 → true ≡ isWorn current sh (storeIn current s)
   unfolding isWorn storeIn
-  worn-floor h = rw (lt-ltb (wornAbove narrow sh) (getD s floorOffset 0) h)
+  worn-floor h = rw (lt-ltb (wornAbove current sh) (getD s floorOffset 0) h)
 
-  pub worn-node : (i : ℕ) → Past (isHigh narrow sh) s i → i < getD s nodeCountOffset 0 → wornAbove narrow sh < getD s (header + i * nodeWidth + revisionOffset) 0 → true ≡ isWorn narrow sh (storeIn narrow s)
+  pub worn-node : (i : ℕ) → Past (isHigh current sh) s i → i < getD s nodeCountOffset 0 → wornAbove current sh < getD s (header + i * nodeWidth + revisionOffset) 0 → true ≡ isWorn current sh (storeIn current s)
   unfolding isWorn
   worn-node i p h k =
-      let l : length (storeIn narrow s .nodes) ≡ getD s nodeCountOffset 0 = count-nodes s in
-      let e : i ≡ place (isHigh narrow sh) (storeIn narrow s .nodes) = scan-found (isHigh narrow sh) s i p h (high-test s i h sh k) in
-      rw (lt-ltb (place (isHigh narrow sh) (storeIn narrow s .nodes)) (length (storeIn narrow s .nodes)) (omega arith)) (sym (or-true (ltb (wornAbove narrow sh) (storeIn narrow s .floor))))
+      let l : length (storeIn current s .nodes) ≡ getD s nodeCountOffset 0 = count-nodes s in
+      let e : i ≡ place (isHigh current sh) (storeIn current s .nodes) = scan-found (isHigh current sh) s i p h (high-test s i h sh k) in
+      rw (lt-ltb (place (isHigh current sh) (storeIn current s .nodes)) (length (storeIn current s .nodes)) (omega arith)) (sym (or-true (ltb (wornAbove current sh) (storeIn current s .floor))))
 
-  pub worn-not : (i : ℕ) → Past (isHigh narrow sh) s i → i ≤ getD s nodeCountOffset 0 → getD s nodeCountOffset 0 ≤ i → getD s floorOffset 0 ≤ wornAbove narrow sh → false ≡ isWorn narrow sh (storeIn narrow s)
+  pub worn-not : (i : ℕ) → Past (isHigh current sh) s i → i ≤ getD s nodeCountOffset 0 → getD s nodeCountOffset 0 ≤ i → getD s floorOffset 0 ≤ wornAbove current sh → false ≡ isWorn current sh (storeIn current s)
   unfolding isWorn
   worn-not i p h k f =
-      let l : length (storeIn narrow s .nodes) ≡ getD s nodeCountOffset 0 = count-nodes s in
-      let e : i ≡ place (isHigh narrow sh) (storeIn narrow s .nodes) = scan-none (isHigh narrow sh) s i p h k in
-      rw (le-ltb (place (isHigh narrow sh) (storeIn narrow s .nodes)) (length (storeIn narrow s .nodes)) (omega arith), floor-in s, le-ltb (wornAbove narrow sh) (getD s floorOffset 0) f)
+      let l : length (storeIn current s .nodes) ≡ getD s nodeCountOffset 0 = count-nodes s in
+      let e : i ≡ place (isHigh current sh) (storeIn current s .nodes) = scan-none (isHigh current sh) s i p h k in
+      rw (le-ltb (place (isHigh current sh) (storeIn current s .nodes)) (length (storeIn current s .nodes)) (omega arith), floor-in s, le-ltb (wornAbove current sh) (getD s floorOffset 0) f)

@@ -10,9 +10,9 @@ ghost use Rattle.lists.specs.Lists.{same};
 ghost use Rattle.rules.specs.Nodes.{store, nodePlace, oldestFree, evictNode, added, makeRoom, ensured, announced};
 ghost use Rattle.rules.specs.Nodes.{isFree, pending, revision, isWorn};
 ghost use Rattle.query.specs.Encoding.{labelWidth};
-ghost use Rattle.query.specs.Shape.{Shape, narrow};
+ghost use Rattle.query.specs.Shape.{Shape};
 ghost use Rattle.rules.specs.Layout.{maxNodes, maxRevision, firstFloor, nodeCountOffset};
-ghost use Rattle.rules.specs.Memory.{storeIn, withStore};
+ghost use Rattle.rules.specs.Memory.{current, storeIn, withStore};
 ghost use Rattle.nodes.specs.NodeContracts.{Fit, attempt, tried, saw, looked, put, placed, retirableSpot, retiredAt};
 
 // The most nodes that are kept.
@@ -47,7 +47,7 @@ fn has_label(nodes: &[u32], at: usize, label: &[u32]) -> bool
 // The place of the label's node, or the number of nodes where there is none.
 fn find(nodes: &[u32], label: &[u32]) -> usize
     requires { ⌜ Fit (now nodes) × (length (now label) ≡ labelWidth) ⌝ }
-    ensures { λ r. ⌜ r ≡ nodePlace (now (label .entry)) (storeIn narrow (now (nodes .entry)) .nodes) ⌝ }
+    ensures { λ r. ⌜ r ≡ nodePlace (now (label .entry)) (storeIn current (now (nodes .entry)) .nodes) ⌝ }
 {
     let n = nodes[Hall::NODE_COUNT_OFFSET] as usize;
     let mut i = 0;
@@ -63,7 +63,7 @@ fn find(nodes: &[u32], label: &[u32]) -> usize
 // Whether node i has no pending write.
 pub fn is_free(nodes: &[u32], i: usize) -> bool
     requires { ⌜ Fit (now nodes) × (i < getD (now nodes) nodeCountOffset 0) ⌝ }
-    ensures { λ r. ⌜ r ≡ isFree (getD (storeIn narrow (now (nodes .entry)) .nodes) i []) ⌝ }
+    ensures { λ r. ⌜ r ≡ isFree (getD (storeIn current (now (nodes .entry)) .nodes) i []) ⌝ }
 {
     nodes[Hall::HEADER + i * Hall::NODE_WIDTH + Hall::PENDING_OFFSET] == 0
 }
@@ -71,7 +71,7 @@ pub fn is_free(nodes: &[u32], i: usize) -> bool
 // The place of the oldest node with no pending write, or the number of nodes where there is none.
 fn find_free(nodes: &[u32]) -> usize
     requires { ⌜ Fit (now nodes) ⌝ }
-    ensures { λ r. ⌜ r ≡ oldestFree (storeIn narrow (now (nodes .entry)) .nodes) ⌝ }
+    ensures { λ r. ⌜ r ≡ oldestFree (storeIn current (now (nodes .entry)) .nodes) ⌝ }
 {
     let n = nodes[Hall::NODE_COUNT_OFFSET] as usize;
     let mut i = 0;
@@ -94,7 +94,7 @@ fn larger(a: u32, b: u32) -> u32
 // Takes node i out; the floor becomes its revision if that is larger.
 pub fn evict(nodes: &mut [u32], i: usize)
     requires { ⌜ Fit (now nodes) × (i < getD (now nodes) nodeCountOffset 0) ⌝ }
-    ensures { λ _. ⌜ now (nodes .exit) ≡ withStore narrow (now (nodes .entry)) (evictNode narrow i (storeIn narrow (now (nodes .entry)))) ⌝ }
+    ensures { λ _. ⌜ now (nodes .exit) ≡ withStore current (now (nodes .entry)) (evictNode i (storeIn current (now (nodes .entry)))) ⌝ }
 {
     let n = nodes[Hall::NODE_COUNT_OFFSET];
     let at = Hall::HEADER + i * Hall::NODE_WIDTH;
@@ -113,7 +113,7 @@ pub fn evict(nodes: &mut [u32], i: usize)
 // Adds the label's node last, with the floor as revision and no pending write.
 fn add(nodes: &mut [u32], label: &[u32])
     requires { ⌜ Fit (now nodes) × ((getD (now nodes) nodeCountOffset 0 < maxNodes) × (length (now label) ≡ labelWidth)) ⌝ }
-    ensures { λ _. ⌜ now (nodes .exit) ≡ withStore narrow (now (nodes .entry)) (added narrow (now (label .entry)) (storeIn narrow (now (nodes .entry)))) ⌝ }
+    ensures { λ _. ⌜ now (nodes .exit) ≡ withStore current (now (nodes .entry)) (added (now (label .entry)) (storeIn current (now (nodes .entry)))) ⌝ }
 {
     let n = nodes[Hall::NODE_COUNT_OFFSET];
     let floor = nodes[Hall::FLOOR_OFFSET];
@@ -134,7 +134,7 @@ fn add(nodes: &mut [u32], label: &[u32])
 // Makes room for one node more: where 1,024 are there, the oldest with no pending write leaves. False: there is none.
 fn make_room(nodes: &mut [u32]) -> bool
     requires { ⌜ Fit (now nodes) ⌝ }
-    ensures { λ r. ⌜ attempt r (now (nodes .exit)) ≡ tried (now (nodes .entry)) (makeRoom narrow (storeIn narrow (now (nodes .entry)))) ⌝ }
+    ensures { λ r. ⌜ attempt r (now (nodes .exit)) ≡ tried (now (nodes .entry)) (makeRoom (storeIn current (now (nodes .entry)))) ⌝ }
 {
     let n = nodes[Hall::NODE_COUNT_OFFSET] as usize;
     if n < NODES {
@@ -151,7 +151,7 @@ fn make_room(nodes: &mut [u32]) -> bool
 // Makes the label's node present.
 fn ensure(nodes: &mut [u32], label: &[u32]) -> Spot
     requires { ⌜ Fit (now nodes) × (length (now label) ≡ labelWidth) ⌝ }
-    ensures { λ r. ⌜ put r (now (nodes .exit)) ≡ placed (now (label .entry)) (now (nodes .entry)) (ensured narrow (now (label .entry)) (storeIn narrow (now (nodes .entry)))) ⌝ }
+    ensures { λ r. ⌜ put r (now (nodes .exit)) ≡ placed (now (label .entry)) (now (nodes .entry)) (ensured (now (label .entry)) (storeIn current (now (nodes .entry)))) ⌝ }
 {
     let i = find(nodes, label);
     if i < nodes[Hall::NODE_COUNT_OFFSET] as usize {
@@ -168,7 +168,7 @@ fn ensure(nodes: &mut [u32], label: &[u32]) -> Spot
 // Looks at the label's node, which is added where it is missing.
 pub fn look(nodes: &mut [u32], label: &[u32]) -> Sight
     requires { ⌜ Fit (now nodes) × (length (now label) ≡ labelWidth) ⌝ }
-    ensures { λ r. ⌜ saw r (now (nodes .exit)) ≡ looked (now (label .entry)) (now (nodes .entry)) (ensured narrow (now (label .entry)) (storeIn narrow (now (nodes .entry)))) ⌝ }
+    ensures { λ r. ⌜ saw r (now (nodes .exit)) ≡ looked (now (label .entry)) (now (nodes .entry)) (ensured (now (label .entry)) (storeIn current (now (nodes .entry)))) ⌝ }
 {
     let spot = ensure(nodes, label);
     let Spot::At(i) = spot else {
@@ -186,7 +186,7 @@ pub fn look(nodes: &mut [u32], label: &[u32]) -> Sight
 // One pending write more at the label's node, which is added where it is missing. False: no room, or 12 pending already.
 pub fn announce(nodes: &mut [u32], label: &[u32]) -> bool
     requires { ⌜ Fit (now nodes) × (length (now label) ≡ labelWidth) ⌝ }
-    ensures { λ r. ⌜ attempt r (now (nodes .exit)) ≡ tried (now (nodes .entry)) (announced narrow (now (label .entry)) (storeIn narrow (now (nodes .entry)))) ⌝ }
+    ensures { λ r. ⌜ attempt r (now (nodes .exit)) ≡ tried (now (nodes .entry)) (announced (now (label .entry)) (storeIn current (now (nodes .entry)))) ⌝ }
 {
     let spot = ensure(nodes, label);
     let Spot::At(i) = spot else {
@@ -205,7 +205,7 @@ pub fn announce(nodes: &mut [u32], label: &[u32]) -> bool
 // The place of the label's node, where it is there, has a pending write, and its revision can be lifted if it is to be.
 pub fn find_retirable(nodes: &[u32], label: &[u32], lift: bool) -> Spot
     requires { ⌜ Fit (now nodes) × (length (now label) ≡ labelWidth) ⌝ }
-    ensures { λ r. ⌜ r ≡ retirableSpot lift (now (label .entry)) (storeIn narrow (now (nodes .entry))) ⌝ }
+    ensures { λ r. ⌜ r ≡ retirableSpot lift (now (label .entry)) (storeIn current (now (nodes .entry))) ⌝ }
 {
     let i = find(nodes, label);
     if nodes[Hall::NODE_COUNT_OFFSET] as usize <= i {
@@ -226,9 +226,9 @@ pub fn find_retirable(nodes: &[u32], label: &[u32], lift: bool) -> Spot
 
 // One pending write fewer at node i; with a lift its revision goes up by one too.
 pub fn retire(nodes: &mut [u32], i: usize, lift: bool)
-    requires { ⌜ Fit (now nodes) × ((i < getD (now nodes) nodeCountOffset 0) × (0 < pending (getD (storeIn narrow (now nodes) .nodes) i []))) ⌝ }
-    requires { ⌜ (lift ≡ true → revision narrow (getD (storeIn narrow (now nodes) .nodes) i []) < maxRevision narrow) ⌝ }
-    ensures { λ _. ⌜ now (nodes .exit) ≡ withStore narrow (now (nodes .entry)) (retiredAt lift i (storeIn narrow (now (nodes .entry)))) ⌝ }
+    requires { ⌜ Fit (now nodes) × ((i < getD (now nodes) nodeCountOffset 0) × (0 < pending (getD (storeIn current (now nodes) .nodes) i []))) ⌝ }
+    requires { ⌜ (lift ≡ true → revision (getD (storeIn current (now nodes) .nodes) i []) < maxRevision current) ⌝ }
+    ensures { λ _. ⌜ now (nodes .exit) ≡ withStore current (now (nodes .entry)) (retiredAt lift i (storeIn current (now (nodes .entry)))) ⌝ }
 {
     let at = Hall::HEADER + i * Hall::NODE_WIDTH;
     let pending = nodes[at + Hall::PENDING_OFFSET];
@@ -244,7 +244,7 @@ pub fn retire(nodes: &mut [u32], i: usize, lift: bool)
 // Whether the floor or a revision is too high for another write.
 pub fn is_worn(nodes: &[u32]) -> bool
     requires { ⌜ Fit (now nodes) ⌝ }
-    ensures { λ r. ⌜ ((sh : Shape) → r ≡ isWorn narrow sh (storeIn narrow (now (nodes .entry)))) ⌝ }
+    ensures { λ r. ⌜ ((sh : Shape) → r ≡ isWorn current sh (storeIn current (now (nodes .entry)))) ⌝ }
 {
     if Hall::WORN_ABOVE < nodes[Hall::FLOOR_OFFSET] {
         return true;
@@ -263,7 +263,7 @@ pub fn is_worn(nodes: &[u32]) -> bool
 // Takes every node out; the floor is 1.
 pub fn empty(nodes: &mut [u32])
     requires { ⌜ Fit (now nodes) ⌝ }
-    ensures { λ _. ⌜ now (nodes .exit) ≡ withStore narrow (now (nodes .entry)) (store firstFloor []) ⌝ }
+    ensures { λ _. ⌜ now (nodes .exit) ≡ withStore current (now (nodes .entry)) (store firstFloor []) ⌝ }
 {
     let n = nodes[Hall::NODE_COUNT_OFFSET] as usize * Hall::NODE_WIDTH;
     let e = Hall::HEADER + n;

@@ -11,7 +11,6 @@ use borrow.Author.Tests.{ltb-true, ltb-false, le-leb, lt-leb}
 use Rattle.laws.proofs.TestLaws.{byTest}
 use Rattle.query.specs.declared.Column.{Column}
 use Rattle.query.specs.declared.Range.{Range}
-use Rattle.query.specs.Shape.{narrow}
 use Rattle.columns.specs.ColumnContracts.{four}
 use Rattle.rules.specs.declared.Count.{Count}
 use Rattle.rules.specs.declared.Count.the-variants.{NoCount, FromFile, FromTable, EndedLong}
@@ -19,7 +18,7 @@ use Rattle.rules.specs.Layout.{maxList, answerCountOffset}
 use Rattle.rules.specs.Nodes.{Words, Store}
 use Rattle.rules.specs.Work.{Value, listWithin, valueOf, mayAnswer}
 use Rattle.rules.specs.Client.{sawPending, rangeAt}
-use Rattle.rules.specs.Memory.{Mem, mem, clientIn, recordsIn}
+use Rattle.rules.specs.Memory.{current, Mem, mem, clientIn, recordsIn}
 use Rattle.rules.specs.Outcome.{StepResult}
 use Rattle.rules.specs.Refusals.{client}
 use Rattle.rules.specs.Steps.{answered, lookResult, fileResult, tableResult, readResult}
@@ -58,7 +57,7 @@ module _ {h : Held} {clients : List ℕ} {d : ℕ} (r : Reader h clients d) wher
   file-raises p t n a y = rw (file-is (mem t n a clients) y d (askedAt clients d) (made clients d) p)
 
   -- i: the place of the filed answer that was found
-  module _ (p : made clients d ≡ looks clients d) (s : List ℕ) (i : ℕ) (e : i ≡ foundFor s (clientIn narrow clients d) (h .steps)) (t n y : List ℕ) where
+  module _ (p : made clients d ≡ looks clients d) (s : List ℕ) (i : ℕ) (e : i ≡ foundFor s (clientIn current clients d) (h .steps)) (t n y : List ℕ) where
     pub none-raises : getD s answerCountOffset 0 ≤ i → NoCount ≡ due (mem t n s clients) y
     unfolding countOf
     none-raises g = ap raises (fetch-not r p s y i e g _ refl t n)
@@ -74,14 +73,14 @@ module _ {h : Held} {clients : List ℕ} {d : ℕ} (r : Reader h clients d) wher
   count-short w v = rw (sym (reader-counts r) ∙ w)
 
   -- n: how many records there are, by the columns that the code made
-  pub list-long : (s : List ℕ) (cols : List Column) (x : Range) (n : ℕ) → h .counts ≡ false → cols ≡ four (heldQuery h) → x ≡ rangeAt (clientIn narrow clients d)
+  pub list-long : (s : List ℕ) (cols : List Column) (x : Range) (n : ℕ) → h .counts ≡ false → cols ≡ four (heldQuery h) → x ≡ rangeAt (clientIn current clients d)
       → n ≡ length (listWithin x (take (h .columns) cols) (recordsIn (h .columns) s))
       → ltb maxList n ≡ not (mayAnswer (askedAt clients d) (valueOf (askedAt clients d) (recordsIn (h .columns) s)))
   unfolding mayAnswer
   list-long s cols x n w e is g =
-      let m : length (listFor (rangeAt (clientIn narrow clients d)) s clients d (h .columns)) ≡ n = sym (g ∙ rw (is, read-columns r cols e)) in
+      let m : length (listFor (rangeAt (clientIn current clients d)) s clients d (h .columns)) ≡ n = sym (g ∙ rw (is, read-columns r cols e)) in
       let c : askedAt clients d .counts ≡ false = sym (reader-counts r) ∙ w in
-      rw (value-list s clients d (h .columns) (rangeAt (clientIn narrow clients d)) refl c, c, m) (long-test n)
+      rw (value-list s clients d (h .columns) (rangeAt (clientIn current clients d)) refl c, c, m) (long-test n)
 
   -- b: whether the list is too long
   module _ (p : made clients d ≡ looks clients d + 1) (s : List ℕ) (b : Bool) (e : b ≡ not (mayAnswer (askedAt clients d) (valueOf (askedAt clients d) (recordsIn (h .columns) s)))) (n a y : List ℕ) where
@@ -94,7 +93,7 @@ module _ {h : Held} {clients : List ℕ} {d : ℕ} (r : Reader h clients d) wher
     long-raises q = rw (taken, ← e, q)
 
     -- c: whether a look saw a mark
-    module _ (q : b ≡ false) (c : Bool) (f : c ≡ sawPending (clientIn narrow clients d)) where
+    module _ (q : b ≡ false) (c : Bool) (f : c ≡ sawPending (clientIn current clients d)) where
       pub given-raises : c ≡ true → FromTable ≡ due (mem s n a clients) y
       unfolding tableResult answered client countOf
       given-raises z = rw (taken, ← e, q, ← f, z)

@@ -5,11 +5,10 @@ use mathlib.Core.List.{List}
 use Prim.Native.Nat.{ℕ}
 use native.Mathlib.Omega.{arith}
 use borrow.Author.Tests.{eq-eqb}
-use Rattle.query.specs.Shape.{narrow}
 use Rattle.rules.specs.Layout.{reads}
 use Rattle.rules.specs.Work.{asking, workIn}
 use Rattle.rules.specs.Client.{kind, steps, askAt, workAt}
-use Rattle.rules.specs.Memory.{Mem, clientIn}
+use Rattle.rules.specs.Memory.{current, Mem, mem, clientIn}
 use Rattle.rules.specs.Refusals.{shape, client, stepCode}
 use Rattle.rules.specs.Steps.{readResult, progressOf, progress}
 use Rattle.rules.specs.Calls.{stepResult}
@@ -19,14 +18,18 @@ use Rattle.clients.specs.ClientContracts.{IsHeld, Reader, askedAt}
 use Rattle.reading.specs.ReadContracts.{Steps}
 
 -- h: what was read of the client
-module _ (m : Mem) (d : ℕ) {h : Held} (i : IsHeld h (m .clients) d) (x : h .kind ≡ reads) where
+module _ (tb nd an cl : List ℕ) (d : ℕ) {h : Held} (i : IsHeld h cl d) (x : h .kind ≡ reads) where
+  -- the memories of the call
+  abbrev m : Mem
+  m = mem tb nd an cl
+
   -- it is at work on what it asks
-  pub asks : workAt (shape m) (client m d) ≡ asking (askedAt (m .clients) d)
+  pub asks : workAt (shape m) (client m d) ≡ asking (askedAt cl d)
   unfolding workAt workIn askAt client
-  asks = rw (eq-eqb (kind (clientIn narrow (m .clients) d)) reads (sym (i .kind) ∙ x))
+  asks = rw (eq-eqb (kind (clientIn current cl d)) reads (sym (i .kind) ∙ x))
 
   -- and sound and busy, where the call's refusals have passed
-  pub reader-at : AtWork m d → Reader h (m .clients) d
+  pub reader-at : AtWork m d → Reader h cl d
   unfolding client
   reader-at w = record {
     held = i;
@@ -35,7 +38,7 @@ module _ (m : Mem) (d : ℕ) {h : Held} (i : IsHeld h (m .clients) d) (x : h .ki
   }
 
   module _ (tray : List ℕ) (e : stepCode m tray d ≡ 0) where
-    pub reads-on : Steps (m .table) (m .nodes) (m .answers) (m .clients) tray d h
+    pub reads-on : Steps tb nd an cl tray d h
     reads-on =
         let t = step-passed m tray d e in
         let w = t .1 in
@@ -50,6 +53,6 @@ module _ (m : Mem) (d : ℕ) {h : Held} (i : IsHeld h (m .clients) d) (x : h .ki
           room = t .0;
         }
 
-    pub read-due : stepResult m tray d ≡ readResult m tray d (askedAt (m .clients) d) (steps (clientIn narrow (m .clients) d))
+    pub read-due : stepResult m tray d ≡ readResult m tray d (askedAt cl d) (steps (clientIn current cl d))
     unfolding stepResult progress progressOf client
     read-due = rw (eq-eqb (stepCode m tray d) 0 e, asks)

@@ -16,9 +16,8 @@ use Rattle.table.specs.TableContracts.{RangeFits}
 use Rattle.rules.specs.Nodes.{ensured}
 use Rattle.rules.specs.Answers.{fetchPlace}
 use Rattle.rules.specs.Client.{entryOf, queryAt, rangeAt, askAt}
-use Rattle.query.specs.Shape.{narrow}
-use Rattle.rules.specs.Memory.{Mem, shapeIn, clientIn, storeIn, answersIn, recordsIn}
-use Rattle.rules.specs.Refusals.{columns, client}
+use Rattle.rules.specs.Memory.{current, Mem, shapeIn, clientIn, storeIn, answersIn, recordsIn}
+use Rattle.rules.specs.Refusals.{form, columns, client}
 use Rattle.rules.specs.Steps.{lookResult, fetchResult, tableResult, fileResult, readResult}
 use Rattle.clients.specs.declared.Held.{Held}
 use Rattle.clients.specs.ClientContracts.{Reader, askedAt, heldQuery}
@@ -32,11 +31,11 @@ module _ {h : Held} {clients : List ℕ} {d : ℕ} (r : Reader h clients d) wher
   few-steps = r .busy .going
 
   -- the columns that the code makes of what was read
-  pub read-columns : (cols : List Column) → cols ≡ four (heldQuery h) → take (h .columns) cols ≡ queryAt (shapeIn clients) (clientIn narrow clients d)
+  pub read-columns : (cols : List Column) → cols ≡ four (heldQuery h) → take (h .columns) cols ≡ queryAt (shapeIn clients) (clientIn current clients d)
   read-columns cols e = ap (take (h .columns)) e ∙ four-back (h .columns) (heldQuery h) (columns-length (h .columns) (h .marks) (h .values)) ∙ at-query r
 
   -- and the range beside them is one that a begin takes
-  pub read-range : (cols : List Column) → cols ≡ four (heldQuery h) → (g : Range) → g ≡ rangeAt (clientIn narrow clients d) → RangeFits (h .columns) (take (h .columns) cols) g
+  pub read-range : (cols : List Column) → cols ≡ four (heldQuery h) → (g : Range) → g ≡ rangeAt (clientIn current clients d) → RangeFits (h .columns) (take (h .columns) cols) g
   unfolding workFault askAt askIn queryAt rangeAt
   read-range cols e g a =
       let f = fault-none (askedAt clients d) (r .busy .fault) in
@@ -44,11 +43,11 @@ module _ {h : Held} {clients : List ℕ} {d : ℕ} (r : Reader h clients d) wher
 
 -- ---- which step it is
 module _ (m : Mem) (y : List ℕ) (d : ℕ) (x : Ask) (i : ℕ) where
-  pub look-is : i < length (readLabels x) → readResult m y d x i ≡ lookResult m y d i (getD (readLabels x) i []) (ensured narrow (getD (readLabels x) i []) (storeIn narrow (m .nodes)))
+  pub look-is : i < length (readLabels x) → readResult m y d x i ≡ lookResult m y d i (getD (readLabels x) i []) (ensured (getD (readLabels x) i []) (storeIn (form m) (m .nodes)))
   unfolding readResult
   look-is h = rw (lt-ltb i (length (readLabels x)) h)
 
-  pub fetch-is : i ≡ length (readLabels x) → readResult m y d x i ≡ fetchResult m y d (fetchPlace narrow (length (readLabels x)) (entryOf (client m d)) (answersIn narrow (m .answers)))
+  pub fetch-is : i ≡ length (readLabels x) → readResult m y d x i ≡ fetchResult m y d (fetchPlace (length (readLabels x)) (entryOf (client m d)) (answersIn (form m) (m .answers)))
   unfolding readResult
   fetch-is h = rw (le-ltb i (length (readLabels x)) (omega arith), eq-eqb i (length (readLabels x)) h)
 

@@ -5,12 +5,12 @@ use mathlib.Core.Bool.{true, false, cond}
 use mathlib.Core.List.{List}
 use Prim.Native.Nat.{ℕ, _+_, _≤_, _<_}
 use lib.ListN.{length, getD}
-use Rattle.query.specs.Shape.{maxColumns, narrow}
+use Rattle.query.specs.Shape.{maxColumns}
 use Rattle.rules.specs.Layout.{trayLeast, lookRoom, answerCountOffset}
 use Rattle.rules.specs.Work.{readLabels}
 use Rattle.rules.specs.Answers.{fetchPlace, isLong, someLong}
 use Rattle.rules.specs.Client.{Client, steps, sawPending, entryOf}
-use Rattle.rules.specs.Memory.{clientIn, answersIn}
+use Rattle.rules.specs.Memory.{current, clientIn, answersIn}
 use Rattle.nodes.specs.NodeContracts as nodes
 use Rattle.answers.specs.AnswerContracts as answers
 use Rattle.clients.specs.declared.Held.{Held}
@@ -23,7 +23,7 @@ abbrev pub looks : List ℕ → ℕ → ℕ
 looks clients d = length (readLabels (askedAt clients d))
 
 abbrev pub made : List ℕ → ℕ → ℕ
-made clients d = steps (clientIn narrow clients d)
+made clients d = steps (clientIn current clients d)
 
 -- ---- each step; h: what was read of the client
 pub record Looks (ns clients : List ℕ) (d : ℕ) (h : Held) : Type 0 where
@@ -38,12 +38,12 @@ pub record Finds (filed clients : List ℕ) (d n : ℕ) : Type 0 where
   pub few : n ≤ lookRoom
 
 unfoldable pub foundFor : List ℕ → Client → ℕ → ℕ
-foundFor s c n = cond (sawPending c) (getD s answerCountOffset 0) (fetchPlace narrow n (entryOf c) (answersIn narrow s))
+foundFor s c n = cond (sawPending c) (getD s answerCountOffset 0) (fetchPlace n (entryOf c) (answersIn current s))
 
 pub record Fetches (filed clients tray : List ℕ) (d : ℕ) (h : Held) : Type 0 where
   pub read : Reader h clients d
   pub fit : answers.Fit filed
-  pub short : someLong (answersIn narrow filed) ≡ false
+  pub short : someLong (answersIn current filed) ≡ false
   pub room : trayLeast ≤ length tray
   pub step : made clients d ≡ looks clients d
 
@@ -55,7 +55,7 @@ pub record Gathers (records clients : List ℕ) (d : ℕ) (h : Held) : Type 0 wh
 pub record Gives (clients tray : List ℕ) (d k : ℕ) : Type 0 where
   pub client : client-contracts.Fit clients d
   pub few : k ≤ maxColumns
-  pub short : isLong (entryOf (clientIn narrow clients d)) ≡ false
+  pub short : isLong (entryOf (clientIn current clients d)) ≡ false
   pub room : trayLeast ≤ length tray
 
 pub record Counts (records clients : List ℕ) (d : ℕ) (h : Held) : Type 0 where
@@ -82,7 +82,7 @@ pub record Steps (records ns filed clients tray : List ℕ) (d : ℕ) (h : Held)
   pub listed : table.Fit (h .columns) records
   pub nodes : nodes.Fit ns
   pub fit : answers.Fit filed
-  pub short : someLong (answersIn narrow filed) ≡ false
+  pub short : someLong (answersIn current filed) ≡ false
   pub room : trayLeast ≤ length tray
 
 -- ---- which count a step would raise (would.rt): nothing is altered, so neither nodes nor tray are asked for

@@ -9,13 +9,13 @@ ghost use mathlib.Core.List.{List};
 ghost use Prim.Native.Nat.{ℕ, _+_};
 ghost use lib.ListN.{take};
 ghost use Rattle.lists.specs.Lists.{written, flat};
-ghost use Rattle.query.specs.Shape.{shapeOf, narrow};
+ghost use Rattle.query.specs.Shape.{shapeOf};
 ghost use Rattle.rules.specs.declared.Outcome.the-variants.{Answered};
 ghost use Rattle.rules.specs.Layout.{maxList, clientOffset, heldListOffset};
 ghost use Rattle.rules.specs.Answers.{lengthIn, listIn};
 ghost use Rattle.rules.specs.Work.{listWithin};
 ghost use Rattle.rules.specs.Client.{entryOf, idle, queryAt, rangeAt};
-ghost use Rattle.rules.specs.Memory.{mem, shapeIn, clientIn, withClient, recordsIn};
+ghost use Rattle.rules.specs.Memory.{current, mem, shapeIn, clientIn, withClient, recordsIn};
 ghost use Rattle.rules.specs.Outcome.{resultWith};
 ghost use Rattle.rules.specs.Steps.{readResult};
 ghost use Rattle.clients.specs.ClientContracts.{askedAt};
@@ -48,7 +48,7 @@ fn look_step(nodes: &mut [u32], clients: &mut [u32], d: usize, h: Held) -> Outco
 // made. A read that comes to its fetch has made one step for each of its nodes: n.
 fn find_filed(answers: &[u32], clients: &[u32], d: usize, n: usize) -> usize
     requires { ⌜ Finds (now answers) (now clients) d n ⌝ }
-    ensures { λ r. ⌜ r ≡ foundFor (now (answers .entry)) (clientIn narrow (now (clients .entry)) d) n ⌝ }
+    ensures { λ r. ⌜ r ≡ foundFor (now (answers .entry)) (clientIn current (now (clients .entry)) d) n ⌝ }
 {
     if clients::saw_pending(clients, d) {
         return answers[Hall::ANSWER_COUNT_OFFSET] as usize;
@@ -78,8 +78,8 @@ fn fetch_step(answers: &[u32], clients: &mut [u32], tray: &mut [u32], d: usize, 
 // are, or 33 of more than 32.
 fn gather_list(table: &[u32], clients: &mut [u32], d: usize, h: Held) -> usize
     requires { ⌜ Gathers (now table) (now clients) d h ⌝ }
-    ensures { λ r. ⌜ r ≡ gathered (listWithin (rangeAt (clientIn narrow (now (clients .entry)) d)) (queryAt (shapeIn (now (clients .entry))) (clientIn narrow (now (clients .entry)) d)) (recordsIn (h .columns) (now (table .entry)))) ⌝ }
-    ensures { λ _. ⌜ now (clients .exit) ≡ written (now (clients .entry)) (clientOffset narrow d + heldListOffset narrow (shapeOf (h .columns))) (flat (take maxList (listWithin (rangeAt (clientIn narrow (now (clients .entry)) d)) (queryAt (shapeIn (now (clients .entry))) (clientIn narrow (now (clients .entry)) d)) (recordsIn (h .columns) (now (table .entry)))))) ⌝ }
+    ensures { λ r. ⌜ r ≡ gathered (listWithin (rangeAt (clientIn current (now (clients .entry)) d)) (queryAt (shapeIn (now (clients .entry))) (clientIn current (now (clients .entry)) d)) (recordsIn (h .columns) (now (table .entry)))) ⌝ }
+    ensures { λ _. ⌜ now (clients .exit) ≡ written (now (clients .entry)) (clientOffset current d + heldListOffset (shapeOf (h .columns))) (flat (take maxList (listWithin (rangeAt (clientIn current (now (clients .entry)) d)) (queryAt (shapeIn (now (clients .entry))) (clientIn current (now (clients .entry)) d)) (recordsIn (h .columns) (now (table .entry)))))) ⌝ }
 {
     let k = h.columns;
     let values = h.values;
@@ -93,9 +93,9 @@ fn gather_list(table: &[u32], clients: &mut [u32], d: usize, h: Held) -> usize
 // Answers with what the client holds: a list goes to the tray's start, and the client is idle.
 fn answer_held(clients: &mut [u32], tray: &mut [u32], d: usize, k: usize) -> Outcome
     requires { ⌜ Gives (now clients) (now tray) d k ⌝ }
-    ensures { λ r. ⌜ r ≡ Answered (lengthIn (entryOf (clientIn narrow (now (clients .entry)) d))) false ⌝ }
-    ensures { λ _. ⌜ now (tray .exit) ≡ written (now (tray .entry)) 0 (listIn narrow (shapeOf k) (entryOf (clientIn narrow (now (clients .entry)) d))) ⌝ }
-    ensures { λ _. ⌜ now (clients .exit) ≡ withClient narrow (now (clients .entry)) d (idle narrow) ⌝ }
+    ensures { λ r. ⌜ r ≡ Answered (lengthIn (entryOf (clientIn current (now (clients .entry)) d))) false ⌝ }
+    ensures { λ _. ⌜ now (tray .exit) ≡ written (now (tray .entry)) 0 (listIn (shapeOf k) (entryOf (clientIn current (now (clients .entry)) d))) ⌝ }
+    ensures { λ _. ⌜ now (clients .exit) ≡ withClient current (now (clients .entry)) d idle ⌝ }
 {
     let count = answers::give_list(clients::entry(clients, d), k, tray);
     clients::set_idle(clients, d);

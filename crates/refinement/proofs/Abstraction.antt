@@ -6,41 +6,41 @@ use mathlib.Core.List.{List, [], map}
 use Prim.Native.Nat.{ℕ, _+_, _-_, _*_, _≤_, _<_}
 use native.Mathlib.Omega.{arith}
 use lib.Dec.{eqb, ltb, leb}
-use lib.ListN.{length, getD, take, drop}
+use lib.ListN.{length, getD, take}
 use Rattle.lists.specs.Lists.{In}
-use Rattle.query.specs.Shape.{Shape, maxColumns, narrow}
+use Rattle.query.specs.Shape.{Shape, maxColumns, Form, narrow, wide}
 use Rattle.rules.specs.Layout.{maxRecords, maxNodes, maxAnswers, maxClients}
-use Rattle.rules.specs.Layout.{recordCountOffset, nodeCountOffset, answerCountOffset, revisionsOffset, answersEnd}
+use Rattle.rules.specs.Layout.{recordCountOffset, nodeCountOffset, answerCountOffset, entryWidth, answersEnd}
 use Rattle.rules.specs.declared.Outcome.{Outcome}
 use Rattle.rules.specs.declared.Outcome.the-variants.{Refused, Accepted, Answered, Long, Ended, Full}
 use Rattle.rules.specs.Work.{Ask, Value, readLabels, askIn, isAskKey, Write, writeLabels, Work, asking, writing, workOf}
-use Rattle.rules.specs.Answers.{Entry, keyIn, isCount, isLong, valueIn}
+use Rattle.rules.specs.Answers.{Entry, keyIn, revisionsIn, isCount, isLong, valueIn}
 use Rattle.rules.specs.Client.{Client, steps, sawPending, didChange, foundFull, entryOf, workAt, isIdle, isBad}
 use Rattle.rules.specs.Memory.{Mem, recordsIn, storeIn, answersIn}
-use Rattle.rules.specs.Refusals.{columns, client, shape}
+use Rattle.rules.specs.Refusals.{form, columns, client, shape}
 use Rattle.rules.specs.Outcome.{StepResult}
 use Rattle.rules.specs.Sound as memories
 use Rattle.rules.specs.History as rules
+use Rattle.rules.proofs.MemoryLaws as memory
+use Rattle.laws.proofs.RowLaws.{Wide}
+use Rattle.revisions.proofs.NodeRows.{AllRows}
 use Rattle.machine.specs.Machine.{Phase, idle, looking, tabling, filing, announcing, raising, Ans, State, Response}
 use Rattle.machine.specs.Machine as machine
 
 -- ---- Filed answers
--- the first n revisions noted in an entry, and those of all nodes of what is asked
-unfoldable pub revisionsIn : ℕ → Entry → List ℕ
-revisionsIn n e = take n (drop revisionsOffset e)
-
+-- the revisions noted in an entry at all nodes of what is asked
 abbrev pub notedOf : Ask → Entry → List ℕ
 notedOf x e = revisionsIn (length (readLabels x)) e
 
 unfoldable pub ansOf : Shape → Entry → Ans
-ansOf sh e = record { query = askIn sh (keyIn e); revs = notedOf (askIn sh (keyIn e)) e; list = valueIn narrow sh e }
+ansOf sh e = record { query = askIn sh (keyIn e); revs = notedOf (askIn sh (keyIn e)) e; list = valueIn sh e }
 
 -- ---- Desks
 -- a reader with the entry e that has made i steps
 unfoldable pub readerOf : Shape → Ask → Entry → ℕ → Bool → Phase
 readerOf sh x e i saw =
     cond (leb i (length (readLabels x))) (looking x (revisionsIn i e) saw)
-    (cond (eqb i (length (readLabels x) + 1)) (tabling x (notedOf x e) saw) (filing x (notedOf x e) (valueIn narrow sh e)))
+    (cond (eqb i (length (readLabels x) + 1)) (tabling x (notedOf x e) saw) (filing x (notedOf x e) (valueIn sh e)))
 
 -- a writer that has made i steps
 unfoldable pub writerOf : Write → ℕ → Bool → Bool → Phase
@@ -53,20 +53,20 @@ busyPhase sh c (asking x) = readerOf sh x (entryOf c) (steps c) (sawPending c)
 busyPhase sh c (writing w) = writerOf w (steps c) (didChange c) (foundFull c)
 
 unfoldable pub phaseOf : Shape → Client → Phase
-phaseOf sh c = cond (isIdle narrow c) idle (busyPhase sh c (workAt sh c))
+phaseOf sh c = cond (isIdle c) idle (busyPhase sh c (workAt sh c))
 
 -- ---- The state
 unfoldable pub phasesOf : Mem → ℕ → Phase
 phasesOf m d = cond (ltb d maxClients) (phaseOf (shape m) (client m d)) idle
 
 unfoldable pub filedOf : Mem → List Ans
-filedOf m = map (ansOf (shape m)) (answersIn narrow (m .answers))
+filedOf m = map (ansOf (shape m)) (answersIn (form m) (m .answers))
 
 unfoldable pub stateOf : Mem → State
 stateOf m = record {
   shape = shape m;
   tab = recordsIn (columns m) (m .table);
-  store = storeIn narrow (m .nodes);
+  store = storeIn (form m) (m .nodes);
   filed = filedOf m;
   clients = phasesOf m;
 }
@@ -118,9 +118,19 @@ pub record Fits (m : Mem) : Type 0 where
   pub records : getD (m .table) recordCountOffset 0 ≤ maxRecords
   pub nodes : getD (m .nodes) nodeCountOffset 0 ≤ maxNodes
   pub answers : getD (m .answers) answerCountOffset 0 ≤ maxAnswers
-  pub kept : (e : Entry) → In e (answersIn narrow (m .answers)) → Kept (shape m) e
-  pub sound : (d : ℕ) → d < maxClients → isBad narrow (shape m) (client m d) ≡ false
+  pub kept : (e : Entry) → In e (answersIn (form m) (m .answers)) → Kept (shape m) e
+  pub sound : (d : ℕ) → d < maxClients → isBad (shape m) (client m d) ≡ false
 
--- such an answers memory has room for every entry
-pub answers-room : (m : Mem) → Fits m → answersEnd narrow ≤ length (m .answers)
-answers-room m f = let l = f .long .answers in omega arith
+-- such an answers memory has room for every entry, and in such memories every entry has its width
+module _ (m : Mem) (f : Fits m) where
+  pub answers-room : answersEnd (form m) ≤ length (m .answers)
+  answers-room = memory.answers-room (form m) (shape m) (length (m .answers)) (f .long .answers)
+
+  pub rows-held : AllRows (storeIn (form m) (m .nodes) .nodes)
+  rows-held = memory.wide-nodes (form m) (m .nodes) (f .long .nodes) (f .nodes)
+
+  pub records-held : Wide (columns m) (recordsIn (columns m) (m .table))
+  records-held = memory.wide-records (columns m) (m .table) (f .few) (f .long .table) (f .records)
+
+  pub answers-held : Wide entryWidth (answersIn (form m) (m .answers))
+  answers-held = memory.wide-answers (form m) (m .answers) answers-room (f .answers)

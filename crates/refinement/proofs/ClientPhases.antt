@@ -1,5 +1,5 @@
 -- Which phase of the machine a client stands for, by its work, and that what a begin or a step leaves is sound again. Leans on
--- Abstraction and ClientParts, and on what rules' sound client keeps to. Assumes nothing.
+-- Abstraction and rules' ClientParts, and on what rules' sound client keeps to. Assumes nothing.
 use mathlib.Core.Path.{_≡_, refl, sym, ap, _∙_}
 use mathlib.Core.Bool.{Bool, true, false, cond}
 use mathlib.Core.List.{List, [], _∷_}
@@ -12,55 +12,43 @@ use Rattle.laws.proofs.ListLaws.{same-refl, same-eq}
 use Rattle.laws.proofs.TestLaws.{byTest}
 use Rattle.query.specs.Query.{Record, naming}
 use Rattle.query.specs.Encoding.{keyWidth, keyWords, recordOf, bareKey}
-use Rattle.query.specs.Shape.{Shape, maxColumns, narrow}
+use Rattle.query.specs.Shape.{Shape, maxColumns, wide}
 use Rattle.query.proofs.EncodingLaws.{query-in-key, query-in-length, key-words-length}
 use Rattle.rules.specs.Layout.{maxRecords, maxList, clientWidth, reads}
 use Rattle.rules.specs.Table.{Change, insert, delete, target}
 use Rattle.rules.specs.Work.{Ask, readLabels, askKey, askIn, Write, writeLabels, Work, asking, writing, changeKind, kindOf, keyOf, changeIn, writeIn}
 use Rattle.rules.specs.Work.{workIn, workFault, stepsInAll}
-use Rattle.rules.specs.Answers.{Entry, keyIn, isCount, mostIn, isLong, valueIn}
+use Rattle.rules.specs.Answers.{revisionsIn, Entry, keyIn, isCount, mostIn, isLong, valueIn}
 use Rattle.rules.specs.Client.{Client, kind, steps, sawPending, didChange, foundFull, entryOf, isIdle, askAt, workAt, isBad, begun}
 use Rattle.rules.specs.Client as rules
 use Rattle.rules.specs.Sound.{Busy}
 use Rattle.rules.proofs.WorkLaws.{target-length, ask-key-length, ask-in-key}
-use Rattle.rules.proofs.ClientLaws.{change-known, kind-known, busy-sound, idle-sound}
+use Rattle.rules.proofs.ClientLaws.{change-known, kind-known, busy-sound, idle-is, idle-wide, idle-kind, idle-sound}
 use Rattle.machine.specs.Machine.{AskFits, WorkFits, Phase, idle, looking, tabling, filing, announcing, raising}
-use Rattle.refinement.proofs.Abstraction.{revisionsIn, notedOf, readerOf, writerOf, busyPhase, phaseOf}
-use Rattle.refinement.proofs.ClientParts.{Next, begun-kind, begun-steps, begun-saw, begun-wide, begun-key, begun-length}
+use Rattle.refinement.proofs.Abstraction.{notedOf, readerOf, writerOf, busyPhase, phaseOf}
+use Rattle.rules.proofs.AnswerLaws.{no-revisions}
+use Rattle.rules.proofs.ClientParts.{Next, begun-kind, begun-steps, begun-saw, begun-wide, begun-key, begun-length}
 
 -- ---- An idle client
-pub idle-is : isIdle narrow (rules.idle narrow) ≡ true
-unfolding isIdle
-idle-is = same-refl (rules.idle narrow)
-
-idle-wide : length (rules.idle narrow) ≡ clientWidth narrow
-unfolding rules.idle
-idle-wide = length-replicate {A = ℕ} (clientWidth narrow) 0
-
--- an idle client's desk
-pub idle-at : (sh : Shape) (c : Client) → isIdle narrow c ≡ true → phaseOf sh c ≡ idle
+pub idle-at : (sh : Shape) (c : Client) → isIdle c ≡ true → phaseOf sh c ≡ idle
 unfolding phaseOf
 idle-at sh c e = rw e
 
-idle-kind : (c : Client) → isIdle narrow c ≡ true → kind c ≡ 0
-unfolding isIdle kind rules.idle
-idle-kind c e = ap (λ (x : Client). getD x 0 0) (same-eq c (rules.idle narrow) e)
-
 -- a busy client is not idle
-busy-goes : {sh : Shape} {c : Client} {w : Work} → Busy narrow sh c w → isIdle narrow c ≡ false
+busy-goes : {sh : Shape} {c : Client} {w : Work} → Busy sh c w → isIdle c ≡ false
 busy-goes {sh} {c} {w} b =
-    byTest (isIdle narrow c) (λ e. absurd (let z = idle-kind c e in let y = b .kind in let k = kind-known w in omega (arith, k .0))) (λ e. e)
+    byTest (isIdle c) (λ e. absurd (let z = idle-kind c e in let y = b .kind in let k = kind-known w in omega (arith, k .0))) (λ e. e)
 
 -- ---- What a call leaves at a desk: a sound client, which stands for x
 pub record Left (sh : Shape) (t : Client) (x : Phase) : Type 0 where
-  pub sound : isBad narrow sh t ≡ false
-  pub wide : length t ≡ clientWidth narrow
+  pub sound : isBad sh t ≡ false
+  pub wide : length t ≡ clientWidth
   pub phase : phaseOf sh t ≡ x
 
-pub idle-left : (sh : Shape) → Left sh (rules.idle narrow) idle
-idle-left sh = record { sound = idle-sound sh (rules.idle narrow) idle-is; wide = idle-wide; phase = idle-at sh (rules.idle narrow) idle-is }
+pub idle-left : (sh : Shape) → Left sh rules.idle idle
+idle-left sh = record { sound = idle-sound sh rules.idle idle-is; wide = idle-wide; phase = idle-at sh rules.idle idle-is }
 
-pub busy-left : {sh : Shape} {t : Client} {w : Work} {x : Phase} → Busy narrow sh t w → phaseOf sh t ≡ x → Left sh t x
+pub busy-left : {sh : Shape} {t : Client} {w : Work} {x : Phase} → Busy sh t w → phaseOf sh t ≡ x → Left sh t x
 busy-left b e = record { sound = busy-sound b; wide = b .wide; phase = e }
 
 -- ---- A client's work
@@ -77,16 +65,16 @@ fits-in sh kind key = byTest (eqb kind reads)
     (λ e. rw e (λ g. record { shape = refl; columns = target-length sh kind key }))
 
 -- so a sound client's is
-pub fits-at : {sh : Shape} {c : Client} {w : Work} → Busy narrow sh c w → WorkFits sh w
+pub fits-at : {sh : Shape} {c : Client} {w : Work} → Busy sh c w → WorkFits sh w
 unfolding workAt
 fits-at {sh} {c} {w} b = rw (← b .work) (fits-in sh (kind c) (keyIn (entryOf c)) (rw (b .work) (b .fault)))
 
 -- ---- A busy client's desk
-pub busy-phase : {sh : Shape} {c : Client} {w : Work} → Busy narrow sh c w → phaseOf sh c ≡ busyPhase sh c w
+pub busy-phase : {sh : Shape} {c : Client} {w : Work} → Busy sh c w → phaseOf sh c ≡ busyPhase sh c w
 unfolding phaseOf
 busy-phase b = rw (busy-goes b, b .work)
 
-module _ {sh : Shape} {c : Client} {x : Ask} (b : Busy narrow sh c (asking x)) where
+module _ {sh : Shape} {c : Client} {x : Ask} (b : Busy sh c (asking x)) where
   pub looking-phase : steps c ≤ length (readLabels x) → phaseOf sh c ≡ looking x (revisionsIn (steps c) (entryOf c)) (sawPending c)
   unfolding busyPhase readerOf
   looking-phase h = busy-phase b ∙ rw (le-leb _ _ h)
@@ -95,11 +83,11 @@ module _ {sh : Shape} {c : Client} {x : Ask} (b : Busy narrow sh c (asking x)) w
   unfolding busyPhase readerOf
   tabling-phase h = busy-phase b ∙ rw (lt-leb (steps c) (length (readLabels x)) (omega arith), eq-eqb _ _ h)
 
-  pub filing-phase : length (readLabels x) + 1 < steps c → phaseOf sh c ≡ filing x (notedOf x (entryOf c)) (valueIn narrow sh (entryOf c))
+  pub filing-phase : length (readLabels x) + 1 < steps c → phaseOf sh c ≡ filing x (notedOf x (entryOf c)) (valueIn sh (entryOf c))
   unfolding busyPhase readerOf
   filing-phase h = busy-phase b ∙ rw (lt-leb (steps c) (length (readLabels x)) (omega arith), ne-eqb (steps c) (length (readLabels x) + 1) (λ e. omega arith))
 
-module _ {sh : Shape} {c : Client} {w : Write} (b : Busy narrow sh c (writing w)) where
+module _ {sh : Shape} {c : Client} {w : Write} (b : Busy sh c (writing w)) where
   pub announcing-phase : steps c ≤ length (writeLabels w) → phaseOf sh c ≡ announcing w (steps c)
   unfolding busyPhase writerOf
   announcing-phase h = busy-phase b ∙ rw (le-leb _ _ h)
@@ -109,8 +97,8 @@ module _ {sh : Shape} {c : Client} {w : Write} (b : Busy narrow sh c (writing w)
   raising-phase h = busy-phase b ∙ rw (lt-leb _ _ h)
 
 -- ---- One step more: the same work
-pub next-busy : {sh : Shape} {c t : Client} {w : Work} → Next c t → Busy narrow sh c w → steps c + 1 < stepsInAll w
-    → isLong (entryOf t) ≡ false → Busy narrow sh t w
+pub next-busy : {sh : Shape} {c t : Client} {w : Work} → Next c t → Busy sh c w → steps c + 1 < stepsInAll w
+    → isLong (entryOf t) ≡ false → Busy sh t w
 unfolding workAt
 next-busy n b h s = record {
   least = b .least;
@@ -176,15 +164,11 @@ unfolding stepsInAll
 steps-some (asking x) = omega arith
 steps-some (writing w) = omega arith
 
-no-revisions : (i : ℕ) (e : Entry) → i ≡ 0 → revisionsIn i e ≡ []
-unfolding revisionsIn
-no-revisions i e h = rw h
-
 pub looking-eq : {x : Ask} {ns ms : List ℕ} {a b : Bool} → ns ≡ ms → a ≡ b → looking x ns a ≡ looking x ms b
 looking-eq {x} f g = λ i. looking x (f i) (g i)
 
 module _ (sh : Shape) (least : 1 ≤ sh .columns) (most : sh .columns ≤ maxColumns) where
-  begun-busy : (x : Work) → WorkFits sh x → Busy narrow sh (begun narrow x) x
+  begun-busy : (x : Work) → WorkFits sh x → Busy sh (begun x) x
   unfolding workAt isLong mostIn
   begun-busy x f =
       let h = key-wide sh x f most in
@@ -197,15 +181,15 @@ module _ (sh : Shape) (least : 1 ≤ sh .columns) (most : sh .columns ≤ maxCol
         key = begun-key x h;
         fault = range-good sh x f;
         going = rw (begun-steps x) (steps-some x);
-        short = rw (begun-length x h) (none-long (isCount (entryOf (begun narrow x))));
+        short = rw (begun-length x h) (none-long (isCount (entryOf (begun x))));
       }
 
-  begun-phase : (x : Work) → Busy narrow sh (begun narrow x) x → phaseOf sh (begun narrow x) ≡ startOf x
+  begun-phase : (x : Work) → Busy sh (begun x) x → phaseOf sh (begun x) ≡ startOf x
   begun-phase (asking x) b =
-      let c : Client = begun narrow (asking x) in
+      let c : Client = begun (asking x) in
       let z = begun-steps (asking x) in
       looking-phase b (omega arith) ∙ looking-eq (no-revisions (steps c) (entryOf c) z) (begun-saw (asking x))
   begun-phase (writing w) b = let z = begun-steps (writing w) in announcing-phase b (omega arith) ∙ ap (announcing w) z
 
-  pub begun-left : (x : Work) → WorkFits sh x → Left sh (begun narrow x) (startOf x)
+  pub begun-left : (x : Work) → WorkFits sh x → Left sh (begun x) (startOf x)
   begun-left x f = let b = begun-busy x f in busy-left b (begun-phase x b)

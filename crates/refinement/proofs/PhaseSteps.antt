@@ -1,4 +1,4 @@
--- What each step of a read and of a write makes of its client, and that the client it leaves is sound. Leans on ClientParts and ClientPhases.
+-- What each step of a read and of a write makes of its client, and that the client it leaves is sound. Leans on rules' ClientParts and on ClientPhases.
 -- Assumes nothing.
 use mathlib.Core.Path.{_≡_, ap, _∙_}
 use mathlib.Core.Bool.{Bool, true, false, cond, _||_}
@@ -9,10 +9,10 @@ use lib.Dec.{ltb}
 use lib.ListN.{length, drop, length-drop}
 use lib.Seq.{length-take-le}
 use borrow.Author.Tests.{le-ltb}
-use Rattle.query.specs.Shape.{Shape, narrow, maxColumns}
+use Rattle.query.specs.Shape.{Shape, maxColumns}
 use Rattle.rules.specs.Layout.{maxRecords, maxList, lookRoom, revisionsOffset, listRoom}
 use Rattle.rules.specs.Work.{Ask, Value, readLabels, Write, writeLabels, asking, writing, stepsInAll}
-use Rattle.rules.specs.Answers.{isCount, mostIn, isLong}
+use Rattle.rules.specs.Answers.{revisionsIn, isCount, mostIn, isLong}
 use Rattle.rules.specs.Client.{Client, steps, sawPending, didChange, foundFull, entryOf, stepped, noted, holding, wrote}
 use Rattle.rules.specs.Sound.{Busy}
 use Rattle.rules.proofs.WorkLaws.{write-labels-some}
@@ -20,10 +20,11 @@ use Rattle.rules.proofs.ClientLaws.{asked-counts, list-room, wrote-change}
 use Rattle.rules.proofs.HoldingLaws.{Whole, holding-length, holding-counts, holding-value}
 use Rattle.machine.specs.Machine.{looking, tabling, filing, announcing, raising}
 use Rattle.machine.proofs.Asks.{read-few}
-use Rattle.refinement.proofs.Abstraction.{revisionsIn, notedOf}
-use Rattle.refinement.proofs.ClientParts.{length-entry, stepped-next, stepped-entry, stepped-saw, stepped-change, stepped-full, noted-next, noted-revisions}
-use Rattle.refinement.proofs.ClientParts.{noted-short, noted-saw, holding-next, holding-revisions, wrote-next}
-use Rattle.refinement.proofs.ClientParts.{wrote-entry, wrote-full}
+use Rattle.refinement.proofs.Abstraction.{notedOf}
+use Rattle.rules.proofs.AnswerLaws.{length-revisions}
+use Rattle.rules.proofs.ClientParts.{length-entry, stepped-next, stepped-entry, stepped-saw, stepped-change, stepped-full, noted-next, noted-revisions}
+use Rattle.rules.proofs.ClientParts.{noted-short, noted-saw, holding-next, holding-revisions, wrote-next}
+use Rattle.rules.proofs.ClientParts.{wrote-entry, wrote-full}
 use Rattle.refinement.proofs.ClientPhases.{Left, busy-left, next-busy, fits-at, looking-eq, looking-phase, tabling-phase, filing-phase}
 use Rattle.refinement.proofs.ClientPhases.{announcing-phase, raising-phase}
 
@@ -41,33 +42,29 @@ raising-eq {w} f g h = λ i. raising w (f i) (g i) (h i)
 abbrev pub mostOf : Ask → ℕ
 mostOf x = cond (x .counts) maxRecords maxList
 
-value-room : (sh : Shape) (counts : Bool) (v : Value) → sh .columns ≤ maxColumns → Whole sh counts v → v .count ≤ cond counts maxRecords maxList
+pub value-room : (sh : Shape) (counts : Bool) (v : Value) → sh .columns ≤ maxColumns → Whole sh counts v → v .count ≤ cond counts maxRecords maxList
     → length (v .numbers) ≤ listRoom
 value-room sh true v few e short = let z = ap length e in omega arith
 value-room sh false v few e short = let z = list-room (v .count) (sh .columns) short few in omega arith
 
-module _ {sh : Shape} {c : Client} {x : Ask} (b : Busy narrow sh c (asking x)) where
+module _ {sh : Shape} {c : Client} {x : Ask} (b : Busy sh c (asking x)) where
   -- an entry has room for the revisions of its looks
   looks-most : length (readLabels x) ≤ lookRoom
   looks-most = read-few sh x (fits-at b) (b .most)
 
   -- as many are read there as were noted
   pub noted-count : (i : ℕ) → i ≤ length (readLabels x) → length (revisionsIn i (entryOf c)) ≡ i
-  unfolding revisionsIn
-  noted-count i h =
-      let a = looks-most in
-      let e = length-entry c (b .wide) in
-      length-take-le i (drop revisionsOffset (entryOf c)) (rw length-drop (omega arith))
+  noted-count i h = let a = looks-most in length-revisions i (entryOf c) (length-entry c (b .wide)) (omega arith)
 
   -- a look
   pub noted-left : (v p : ℕ) → steps c < length (readLabels x)
-      → Left sh (noted narrow (steps c) v p c) (looking x (revisionsIn (steps c) (entryOf c) ++ (v ∷ [])) (sawPending c || ltb 0 p))
+      → Left sh (noted (steps c) v p c) (looking x (revisionsIn (steps c) (entryOf c) ++ (v ∷ [])) (sawPending c || ltb 0 p))
   unfolding stepsInAll
   noted-left v p h =
       let m = looks-most in
       let w = b .wide in
       let g : steps c < 16 = omega arith in
-      let t : Client = noted narrow (steps c) v p c in
+      let t : Client = noted (steps c) v p c in
       let n = noted-next c w (steps c) v p g in
       let busy = next-busy n b (omega arith) (noted-short c w (steps c) v p g (b .short)) in
       let e : steps t ≡ suc (steps c) = n .one ∙ omega arith in
@@ -87,7 +84,7 @@ module _ {sh : Shape} {c : Client} {x : Ask} (b : Busy narrow sh c (asking x)) w
 
   -- a list or a count taken, to be filed
   pub holding-left : (v : Value) → Whole sh (x .counts) v → v .count ≤ mostOf x → steps c ≡ length (readLabels x) + 1
-      → Left sh (holding narrow sh v c) (filing x (notedOf x (entryOf c)) v)
+      → Left sh (holding sh v c) (filing x (notedOf x (entryOf c)) v)
   unfolding stepsInAll isLong mostIn
   holding-left v whole short h =
       let w = b .wide in
@@ -100,9 +97,9 @@ module _ {sh : Shape} {c : Client} {x : Ask} (b : Busy narrow sh c (asking x)) w
       ∙ filing-eq (holding-revisions c w sh v room (length (readLabels x)) looks-most) (holding-value c w sh v (rw i whole)))
 
 -- ---- A write
-module _ {sh : Shape} {c : Client} {v : Write} (b : Busy narrow sh c (writing v)) where
+module _ {sh : Shape} {c : Client} {v : Write} (b : Busy sh c (writing v)) where
   -- one step more, not the last
-  stepped-busy : steps c + 1 < stepsInAll (writing v) → Busy narrow sh (stepped c) (writing v)
+  stepped-busy : steps c + 1 < stepsInAll (writing v) → Busy sh (stepped c) (writing v)
   stepped-busy h = next-busy (stepped-next c (b .wide)) b h (rw (stepped-entry c (b .wide)) (b .short))
 
   -- a mark

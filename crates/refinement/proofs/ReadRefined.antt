@@ -14,14 +14,14 @@ use Rattle.laws.proofs.TestLaws.{byTest}
 use Rattle.laws.proofs.SearchLaws.{place-at, place-before}
 use Rattle.laws.proofs.Members.{in-at, in-place}
 use Rattle.query.specs.Query.{Record}
-use Rattle.query.specs.Shape.{narrow}
+use Rattle.query.specs.Shape.{wide}
 use Rattle.rules.specs.Layout.{maxRecords, maxList, maxClients, entryWidth}
 use Rattle.rules.specs.declared.Outcome.the-variants.{Accepted, Long}
 use Rattle.rules.specs.Nodes.{Words, Store, nodeOf, revision, pending}
-use Rattle.rules.specs.Answers.{Entry, keyIn, isCount, isLong, serves, fetchPlace, filed, valueIn}
+use Rattle.rules.specs.Answers.{revisionsIn, Entry, keyIn, isCount, isLong, serves, fetchPlace, filed, valueIn}
 use Rattle.rules.specs.Client.{sawPending, stepped, noted, askAt}
 use Rattle.rules.specs.Memory.{Mem, withFiled, recordsIn, storeIn, answersIn, withAnswers}
-use Rattle.rules.specs.Refusals.{columns, client, shape}
+use Rattle.rules.specs.Refusals.{form, columns, client, shape}
 use Rattle.rules.specs.Outcome.{resultWith}
 use Rattle.rules.specs.Steps.{nowAt, answered, lookResult, fetchResult, tableResult, fileResult, readResult}
 use Rattle.rules.specs.Work.{Ask, valueOf, mayAnswer, readLabels, Value, asking, ofRecords, ofNumber, valueFor, listWithin, askIn}
@@ -34,18 +34,21 @@ use Rattle.revisions.specs.EffectiveRevision.{NoDup, has, effective, pendingOf}
 use Rattle.revisions.proofs.NodeOperations.{EnsuredOk, ensured-ok, node-effective, node-pending-of}
 use Rattle.machine.specs.Machine.{looking, tabling, Ans, step, node, with-filed, holds-for, filed-in}
 use Rattle.machine.specs.Transition as transition
-use Rattle.refinement.proofs.Abstraction.{revisionsIn, ansOf, filedOf, stateOf, responseIn, countsAt, Kept, Fits, notedOf}
-use Rattle.refinement.proofs.ClientParts.{length-entry}
+use Rattle.refinement.proofs.Abstraction.{ansOf, filedOf, stateOf, responseIn, countsAt, Kept, Fits, notedOf}
+use Rattle.rules.proofs.ClientParts.{length-entry}
 use Rattle.refinement.proofs.ClientPhases.{Left, fits-at, looking-eq, looking-phase, tabling-phase, filing-phase}
 use Rattle.refinement.proofs.PhaseSteps.{noted-count, noted-left, missed-left, holding-left, mostOf}
-use Rattle.refinement.proofs.MemoryReads.{length-records, length-answers, wide-in, records-held, rows-held, answers-held}
+use Rattle.laws.proofs.RowLaws.{wide-in}
+use Rattle.rules.proofs.MemoryLaws.{length-records, length-answers}
+use Rattle.refinement.proofs.Abstraction.{records-held, rows-held, answers-held}
 use Rattle.refinement.proofs.StatesAfter.{After, Simulated, simulated, as-it-was, at-store, at-filed, then-now, then-idle}
 use Rattle.refinement.proofs.RefusedCalls.{refused-simulated}
 use Rattle.refinement.proofs.AnswersRefined.{in-map, map-in, serves-counts, serves-holds, map-filed, wide-filed, in-filed, length-filed}
-use Rattle.refinement.proofs.StepFrame.{entryAt, stepsAt, client-at, answered-simulated, whole-entry}
+use Rattle.rules.proofs.AnswerLaws.{whole-entry}
+use Rattle.refinement.proofs.StepFrame.{entryAt, stepsAt, client-at, answered-simulated}
 
-module _ (m : Mem) (f : Fits m) (once : NoDup (storeIn narrow (m .nodes) .nodes)) (tray : List ℕ) (d : ℕ) (low : d < maxClients)
-    {x : Ask} (b : Busy narrow (shape m) (client m d) (asking x)) where
+module _ (m : Mem) (f : Fits m) (once : NoDup (storeIn (form m) (m .nodes) .nodes)) (tray : List ℕ) (d : ℕ) (low : d < maxClients)
+    {x : Ask} (b : Busy (shape m) (client m d) (asking x)) where
   -- what it asks
   asks : askIn (shape m) (keyIn (entryAt m d)) ≡ x
   unfolding askAt
@@ -56,8 +59,8 @@ module _ (m : Mem) (f : Fits m) (once : NoDup (storeIn narrow (m .nodes) .nodes)
   unfolding countsAt
   counts-is = asked-counts b
 
-  whole-served : (e : Entry) → length e ≡ entryWidth narrow → isLong e ≡ false → isCount e ≡ isCount (entryAt m d)
-      → Whole (shape m) (countsAt m (step d)) (valueIn narrow (shape m) e)
+  whole-served : (e : Entry) → length e ≡ entryWidth → isLong e ≡ false → isCount e ≡ isCount (entryAt m d)
+      → Whole (shape m) (countsAt m (step d)) (valueIn (shape m) e)
   unfolding countsAt
   whole-served e w s i = rw (← i) (whole-entry (shape m) e w (f .few) s)
 
@@ -73,7 +76,7 @@ module _ (m : Mem) (f : Fits m) (once : NoDup (storeIn narrow (m .nodes) .nodes)
 
   -- the entries filed
   abbrev entries : List Entry
-  entries = answersIn narrow (m .answers)
+  entries = answersIn (form m) (m .answers)
 
   -- ---- A look
   look-label : stepsAt m d < looks → getD (readLabels x) (stepsAt m d) [] ≡ node x (length seen)
@@ -82,13 +85,13 @@ module _ (m : Mem) (f : Fits m) (once : NoDup (storeIn narrow (m .nodes) .nodes)
 
   -- what the look leaves at its desk
   look-left : (p : Words) (t : Store) → p ≡ node x (length seen) → has (t .nodes) p ≡ true → stepsAt m d < looks
-      → Left (shape m) (noted narrow (stepsAt m d) (revision narrow (nodeOf p t)) (pending (nodeOf p t)) (client m d))
+      → Left (shape m) (noted (stepsAt m d) (revision (nodeOf p t)) (pending (nodeOf p t)) (client m d))
       (looking x (seen ++ (effective t (node x (length seen)) ∷ [])) (sawPending (client m d) || ltb 0 (pendingOf t (node x (length seen)))))
   look-left p t e k h =
-      let l = noted-left b (revision narrow (nodeOf p t)) (pending (nodeOf p t)) h in
+      let l = noted-left b (revision (nodeOf p t)) (pending (nodeOf p t)) h in
       record { sound = l .sound; wide = l .wide; phase = l .phase ∙ rw (node-effective p t k, node-pending-of p t k, e) refl }
 
-  look-simulated : (p : Words) (o : Option Store) → p ≡ node x (length seen) → stepsAt m d < looks → EnsuredOk p (storeIn narrow (m .nodes)) o
+  look-simulated : (p : Words) (o : Option Store) → p ≡ node x (length seen) → stepsAt m d < looks → EnsuredOk p (storeIn (form m) (m .nodes)) o
       → Simulated m (step d) (lookResult m tray d (stepsAt m d) p o)
   unfolding lookResult responseIn stateOf
   look-simulated p none e h k = refused-simulated m (step d) 3 tray f (inl (omega arith)) (λ z. omega arith)
@@ -119,7 +122,7 @@ module _ (m : Mem) (f : Fits m) (once : NoDup (storeIn narrow (m .nodes) .nodes)
 
   -- whether an entry serves it
   abbrev served : Entry → Bool
-  served = serves narrow looks (entryAt m d)
+  served = serves looks (entryAt m d)
 
   served-holds : (e : Entry) → In e entries → holds-for x all-noted (ansOf (shape m) e) ≡ served e
   served-holds e i = serves-holds (shape m) (entryAt m d) x asks (busy-ask b) e (f .kept e i .key)
@@ -135,18 +138,18 @@ module _ (m : Mem) (f : Fits m) (once : NoDup (storeIn narrow (m .nodes) .nodes)
 
   -- the entry nearest the start that serves
   hit-simulated : (i : ℕ) → i ≡ place served entries → stepsAt m d ≡ looks → sawPending (client m d) ≡ false → i < length entries
-      → Simulated m (step d) (answered m tray d (valueIn narrow (shape m) (getD entries i [])) true)
+      → Simulated m (step d) (answered m tray d (valueIn (shape m) (getD entries i [])) true)
   unfolding stateOf filedOf ansOf
   hit-simulated i is e s h =
       let j : In (getD entries i []) entries = in-at [] entries i h in
-      let w = wide-in (entryWidth narrow) (answers-held m f) j in
+      let w = wide-in entryWidth (answers-held m f) j in
       let z : served (getD entries i []) ≡ true = rw is (place-at served entries [] (rw is at h)) in
-      answered-simulated tray d (valueIn narrow (shape m) (getD entries i [])) true (as-it-was m f) low
+      answered-simulated tray d (valueIn (shape m) (getD entries i [])) true (as-it-was m f) low
       (whole-served (getD entries i []) w (f .kept (getD entries i []) j .short) (serves-counts looks (entryAt m d) (getD entries i []) z))
       (transition.hit low (fetch-phase false e s) looks-done (map-in (ansOf (shape m)) j) (served-holds (getD entries i []) j ∙ z))
 
   fetch-simulated : stepsAt m d ≡ looks
-      → Simulated m (step d) (fetchResult m tray d (fetchPlace narrow looks (entryAt m d) entries))
+      → Simulated m (step d) (fetchResult m tray d (fetchPlace looks (entryAt m d) entries))
   unfolding fetchResult fetchPlace
   fetch-simulated e =
       let i : ℕ = place served entries in
@@ -161,7 +164,7 @@ module _ (m : Mem) (f : Fits m) (once : NoDup (storeIn narrow (m .nodes) .nodes)
   table-phase saw e s = client-at m d low ∙ rw s at (tabling-phase b e)
 
   -- what the table has for it
-  abbrev listed : Value
+  abbrev pub listed : Value
   listed = valueOf x (stateOf m .tab)
 
   abbrev matching : List Record
@@ -172,7 +175,7 @@ module _ (m : Mem) (f : Fits m) (once : NoDup (storeIn narrow (m .nodes) .nodes)
   whole-of true = refl
   whole-of false = list-numbers (x .range) (x .query) (recordsIn (columns m) (m .table)) (columns m) (records-held m f)
 
-  whole-listed : Whole (shape m) (x .counts) listed
+  pub whole-listed : Whole (shape m) (x .counts) listed
   unfolding valueOf stateOf
   whole-listed = whole-of (x .counts)
 
@@ -190,7 +193,7 @@ module _ (m : Mem) (f : Fits m) (once : NoDup (storeIn narrow (m .nodes) .nodes)
   short-of true e = few-records
   short-of false e = leb-true _ _ e
 
-  may-short : mayAnswer x listed ≡ true → listed .count ≤ mostOf x
+  pub may-short : mayAnswer x listed ≡ true → listed .count ≤ mostOf x
   unfolding mayAnswer valueOf stateOf
   may-short e = short-of (x .counts) e
 
@@ -209,7 +212,7 @@ module _ (m : Mem) (f : Fits m) (once : NoDup (storeIn narrow (m .nodes) .nodes)
   -- ---- A file step
   -- what it got, and the entries with its own filed
   abbrev held : Value
-  held = valueIn narrow (shape m) (entryAt m d)
+  held = valueIn (shape m) (entryAt m d)
 
   abbrev refiled : List Entry
   refiled = filed (entryAt m d) entries
@@ -224,10 +227,10 @@ module _ (m : Mem) (f : Fits m) (once : NoDup (storeIn narrow (m .nodes) .nodes)
   unfolding stateOf filedOf
   filed-is = map-filed (shape m) (entryAt m d) x asks (busy-ask b) entries (λ e i. f .kept e i .key)
 
-  filed-after : After m (withFiled m (withAnswers narrow (m .answers) refiled)) (with-filed (stateOf m) (filed-in x all-noted held (stateOf m .filed)))
+  filed-after : After m (withFiled m (withAnswers (form m) (m .answers) refiled)) (with-filed (stateOf m) (filed-in x all-noted held (stateOf m .filed)))
   filed-after =
       let e : Entry = entryAt m d in
-      let n = length-answers (m .answers) in
+      let n = length-answers (form m) (m .answers) in
       let y = f .answers in
       rw (← filed-is)
       (at-filed m f refiled (wide-filed e entries (answers-held m f) (length-entry (client m d) (b .wide))) (length-filed e entries (omega arith)) kept-filed)
@@ -247,7 +250,7 @@ module _ (m : Mem) (f : Fits m) (once : NoDup (storeIn narrow (m .nodes) .nodes)
       byTest (ltb i looks)
       (λ t. let z = ltb-true i looks t in
       let k = read-label-wide x i (let c = fits-at b .columns in let y = b .most in omega arith) z in
-      rw t (look-simulated _ _ (look-label z) z (ensured-ok _ (storeIn narrow (m .nodes)) k once (rows-held m f))))
+      rw t (look-simulated _ _ (look-label z) z (ensured-ok _ (storeIn (form m) (m .nodes)) k once (rows-held m f))))
       (λ t. let z = ltb-false i looks t in rw t (byTest (eqb i looks)
       (λ u. rw u (fetch-simulated (eqb-true i looks u)))
       (λ u. let y = eqb-false i looks u in rw u (byTest (eqb i (looks + 1))

@@ -12,14 +12,14 @@ use borrow.Author.Tests.{eqb-true, eqb-false, ne-eqb}
 use Rattle.laws.proofs.TestLaws.{byTest}
 use Rattle.query.specs.Encoding.{isQuery, namesAll, queryOf}
 use Rattle.query.specs.Range.{isRange, isReversed}
-use Rattle.query.specs.Shape.{narrow, Shape}
+use Rattle.query.specs.Shape.{Shape}
 use Rattle.rules.specs.Layout.{trayLeast, nodeCountOffset, answerCountOffset, refusedColumns, refusedOccupied, refusedReversed, refusedTallyFull}
 use Rattle.rules.specs.declared.Outcome.the-variants.{Refused}
 use Rattle.rules.specs.Nodes.{isWorn, pending}
 use Rattle.rules.specs.Client.{isIdle, isBad}
 use Rattle.rules.specs.Memory.{Mem, storeIn}
 use Rattle.rules.specs.Outcome.{Result, result, resultWith}
-use Rattle.rules.specs.Refusals.{client, isShort, isUnsound, noClient, allIdle, atClient, beginCode, stepCode, abandonCode}
+use Rattle.rules.specs.Refusals.{form, client, isShort, isUnsound, noClient, allIdle, atClient, beginCode, stepCode, abandonCode}
 use Rattle.rules.specs.Refusals.{evictAnswerCode, evictNodeCode, renewCode, shape}
 use Rattle.rules.specs.Calls.{unless}
 use Rattle.rules.specs.History.{isAccepted, untrayed}
@@ -67,10 +67,10 @@ low = both (λ n. n ≤ 11)
 pub begin-code : (P : ℕ → Type 0) → ((n : ℕ) → n ≤ 11 → P n) → (m : Mem) (d : ℕ) (r : Request) → P (faultOf (shape m) r) → P (beginCode m d r)
 unfolding beginCode
 begin-code P l m d r f =
-    both P (isShort narrow (shape m) m) 1 _ (l 1 (omega arith)) (both P (not (eqb (faultOf (shape m) r) 0)) (faultOf (shape m) r) _ f (l _
+    both P (isShort (shape m) m) 1 _ (l 1 (omega arith)) (both P (not (eqb (faultOf (shape m) r) 0)) (faultOf (shape m) r) _ f (l _
     (low (isUnsound m) 3 _ (omega arith) (low (noClient d) 4 _ (omega arith)
-    (low (isBad narrow (shape m) (client m d)) 3 _ (omega arith) (low (not (isIdle narrow (client m d))) 5 _ (omega arith)
-    (low (isWrite r && isWorn narrow (shape m) (storeIn narrow (m .nodes))) 10 0 (omega arith) (omega arith))))))))
+    (low (isBad (shape m) (client m d)) 3 _ (omega arith) (low (not (isIdle (client m d))) 5 _ (omega arith)
+    (low (isWrite r && isWorn (form m) (shape m) (storeIn (form m) (m .nodes))) 10 0 (omega arith) (omega arith))))))))
 
 -- which is 0, 2 or 14
 pub fault-code : (P : ℕ → Type 0) → P 0 → P refusedColumns → P refusedReversed → (sh : Shape) (r : Request) → P (faultOf sh r)
@@ -89,30 +89,30 @@ begin-coded m d r =
 atClient-low : (m : Mem) (d : ℕ) → atClient m d ≤ 11
 unfolding atClient
 atClient-low m d =
-    low (isUnsound m) 3 _ (omega arith) (low (noClient d) 4 _ (omega arith) (low (isBad narrow (shape m) (client m d)) 3 _ (omega arith)
-    (low (isIdle narrow (client m d)) 6 0 (omega arith) (omega arith))))
+    low (isUnsound m) 3 _ (omega arith) (low (noClient d) 4 _ (omega arith) (low (isBad (shape m) (client m d)) 3 _ (omega arith)
+    (low (isIdle (client m d)) 6 0 (omega arith) (omega arith))))
 
 pub step-low : (m : Mem) (tray : List ℕ) (d : ℕ) → stepCode m tray d ≤ 11
 unfolding stepCode
-step-low m tray d = low (isShort narrow (shape m) m || ltb (length tray) trayLeast) 1 _ (omega arith) (atClient-low m d)
+step-low m tray d = low (isShort (shape m) m || ltb (length tray) trayLeast) 1 _ (omega arith) (atClient-low m d)
 
 pub abandon-low : (m : Mem) (d : ℕ) → abandonCode m d ≤ 11
 unfolding abandonCode
-abandon-low m d = low (isShort narrow (shape m) m) 1 _ (omega arith) (atClient-low m d)
+abandon-low m d = low (isShort (shape m) m) 1 _ (omega arith) (atClient-low m d)
 
 -- ---- Puttings out, renewals
 pub evict-answer-low : (m : Mem) (i : ℕ) → evictAnswerCode m i ≤ 11
 unfolding evictAnswerCode
 evict-answer-low m i =
-    low (isShort narrow (shape m) m) 1 _ (omega arith) (low (isUnsound m) 3 _ (omega arith) (low (leb (getD (m .answers) answerCountOffset 0) i) 8 0 (omega arith) (omega arith)))
+    low (isShort (shape m) m) 1 _ (omega arith) (low (isUnsound m) 3 _ (omega arith) (low (leb (getD (m .answers) answerCountOffset 0) i) 8 0 (omega arith) (omega arith)))
 
 pub evict-node-low : (m : Mem) (i : ℕ) → evictNodeCode m i ≤ 11
 unfolding evictNodeCode
 evict-node-low m i =
-    low (isShort narrow (shape m) m) 1 _ (omega arith) (low (isUnsound m) 3 _ (omega arith) (low (leb (getD (m .nodes) nodeCountOffset 0) i) 8 _ (omega arith)
-    (low (ltb 0 (pending (getD (storeIn narrow (m .nodes) .nodes) i []))) 9 0 (omega arith) (omega arith))))
+    low (isShort (shape m) m) 1 _ (omega arith) (low (isUnsound m) 3 _ (omega arith) (low (leb (getD (m .nodes) nodeCountOffset 0) i) 8 _ (omega arith)
+    (low (ltb 0 (pending (getD (storeIn (form m) (m .nodes) .nodes) i []))) 9 0 (omega arith) (omega arith))))
 
 pub renew-low : (m : Mem) → renewCode m ≤ 11
 unfolding renewCode
 renew-low m =
-    low (isShort narrow (shape m) m) 1 _ (omega arith) (low (isUnsound m) 3 _ (omega arith) (low (not (allIdle m)) 11 0 (omega arith) (omega arith)))
+    low (isShort (shape m) m) 1 _ (omega arith) (low (isUnsound m) 3 _ (omega arith) (low (not (allIdle m)) 11 0 (omega arith) (omega arith)))

@@ -1,4 +1,4 @@
--- What every step leans on: the desk that goes, marks taken off, and the tray. Leans on StatesAfter, ClientPhases and MemoryReads. Assumes nothing.
+-- What every step leans on: the desk that goes, marks taken off, and the tray. Leans on StatesAfter and ClientPhases. Assumes nothing.
 use mathlib.Core.Path.{_≡_, refl, sym, _∙_}
 use mathlib.Core.Option.{Option, none, some}
 use mathlib.Core.Bool.{Bool, true, false}
@@ -11,7 +11,7 @@ use borrow.Author.Tests.{lt-ltb}
 use Rattle.lists.specs.Lists.{written}
 use Rattle.laws.proofs.TestLaws.{byTest}
 use Rattle.laws.proofs.WrittenLaws.{written-read}
-use Rattle.query.specs.Shape.{Shape, narrow, maxColumns}
+use Rattle.query.specs.Shape.{Shape, maxColumns}
 use Rattle.rules.specs.Layout.{maxClients, listOffset, entryWidth}
 use Rattle.rules.specs.declared.Outcome.the-variants.{Answered}
 use Rattle.rules.specs.Work.{Value, Write, writing, writeLabels}
@@ -19,13 +19,13 @@ use Rattle.rules.specs.Answers.{Entry, lengthIn, isCount, isLong, listIn, value
 use Rattle.rules.specs.Client.{Client, steps, didChange, foundFull, entryOf, isIdle, workAt}
 use Rattle.rules.specs.Client as rules-client
 use Rattle.rules.specs.Memory.{Mem, storeIn}
-use Rattle.rules.specs.Refusals.{client, shape}
+use Rattle.rules.specs.Refusals.{form, client, shape}
 use Rattle.rules.specs.Nodes.{Words, Store, retired}
 use Rattle.rules.specs.Outcome.{resultWith}
 use Rattle.rules.specs.Steps.{nowAt, storeBack, endOf}
 use Rattle.rules.specs.Steps as rules-steps
 use Rattle.rules.specs.Sound.{Busy}
-use Rattle.rules.proofs.ClientLaws.{busy-of, client-wide, list-room, list-short}
+use Rattle.rules.proofs.ClientLaws.{busy-of, client-room, client-wide, list-room, list-short}
 use Rattle.rules.proofs.HoldingLaws.{Whole}
 use Rattle.revisions.specs.EffectiveRevision.{NoDup, Retired}
 use Rattle.revisions.proofs.NodeOperations.{RetiredOk, retired-ok}
@@ -33,7 +33,7 @@ use Rattle.machine.specs.Machine.{idle, State, Call, answered, write-end, at-cl
 use Rattle.machine.specs.Transition.{Transition}
 use Rattle.refinement.proofs.Abstraction.{phaseOf, phasesOf, stateOf, said, responseIn, countsAt, Fits}
 use Rattle.refinement.proofs.ClientPhases.{announcing-phase, raising-phase}
-use Rattle.refinement.proofs.MemoryReads.{rows-held}
+use Rattle.refinement.proofs.Abstraction.{rows-held}
 use Rattle.refinement.proofs.StatesAfter.{After, Simulated, simulated, at-store, then-idle}
 
 -- ---- What stands at a desk: how many steps it has made, and its entry
@@ -44,11 +44,11 @@ abbrev pub entryAt : Mem → ℕ → Entry
 entryAt m d = entryOf (client m d)
 
 -- ---- A desk that is busy
-pub busy-at : (m : Mem) → Fits m → (d : ℕ) → d < maxClients → isIdle narrow (client m d) ≡ false
-    → Busy narrow (shape m) (client m d) (workAt (shape m) (client m d))
+pub busy-at : (m : Mem) → Fits m → (d : ℕ) → d < maxClients → isIdle (client m d) ≡ false
+    → Busy (shape m) (client m d) (workAt (shape m) (client m d))
 unfolding client
 busy-at m f d h e =
-    let w = client-wide (m .clients) d (let z = f .long .clients in omega arith) in
+    let w = client-wide (form m) (m .clients) d (client-room (form m) (shape m) (m .clients) d h (f .long .clients)) in
     busy-of (shape m) (client m d) (f .some) (f .few) w (f .sound d h) e
 
 pub client-at : (m : Mem) (d : ℕ) → d < maxClients → stateOf m .clients d ≡ phaseOf (shape m) (client m d)
@@ -56,23 +56,23 @@ unfolding stateOf phasesOf
 client-at m d h = rw (lt-ltb d maxClients h)
 
 -- a write before its table step
-pub announcing-at : (m : Mem) (d : ℕ) {w : Write} → d < maxClients → Busy narrow (shape m) (client m d) (writing w) → stepsAt m d ≤ length (writeLabels w)
+pub announcing-at : (m : Mem) (d : ℕ) {w : Write} → d < maxClients → Busy (shape m) (client m d) (writing w) → stepsAt m d ≤ length (writeLabels w)
     → stateOf m .clients d ≡ announcing w (stepsAt m d)
 announcing-at m d low b h = client-at m d low ∙ announcing-phase b h
 
 -- and past it, by the raises that it has made
-pub raising-at : (m : Mem) (d : ℕ) {w : Write} → d < maxClients → Busy narrow (shape m) (client m d) (writing w) → length (writeLabels w) < stepsAt m d
+pub raising-at : (m : Mem) (d : ℕ) {w : Write} → d < maxClients → Busy (shape m) (client m d) (writing w) → length (writeLabels w) < stepsAt m d
     → stateOf m .clients d ≡ raising w (stepsAt m d - (length (writeLabels w) + 1)) (didChange (client m d)) (foundFull (client m d))
 raising-at m d low b h = client-at m d low ∙ raising-phase b h
 
 -- ---- Marks taken off, or a refusal
-pub by-retired : (m : Mem) → Fits m → NoDup (storeIn narrow (m .nodes) .nodes) → (lift : Bool) (ps : List Words) (P : Option Store → Type 0) → P none
-    → ((t : Store) → Retired lift ps (storeIn narrow (m .nodes)) t → After m (storeBack m t) (with-store (stateOf m) t) → P (some t))
-    → P (retired narrow lift ps (storeIn narrow (m .nodes)))
+pub by-retired : (m : Mem) → Fits m → NoDup (storeIn (form m) (m .nodes) .nodes) → (lift : Bool) (ps : List Words) (P : Option Store → Type 0) → P none
+    → ((t : Store) → Retired lift ps (storeIn (form m) (m .nodes)) t → After m (storeBack m t) (with-store (stateOf m) t) → P (some t))
+    → P (retired (form m) lift ps (storeIn (form m) (m .nodes)))
 by-retired m f once lift ps P z s =
-    go (retired narrow lift ps (storeIn narrow (m .nodes))) (retired-ok lift ps (storeIn narrow (m .nodes)) once (rows-held m f))
+    go (retired (form m) lift ps (storeIn (form m) (m .nodes))) (retired-ok (form m) lift ps (storeIn (form m) (m .nodes)) once (rows-held m f))
   where
-    go : (o : Option Store) → RetiredOk lift ps (storeIn narrow (m .nodes)) o → P o
+    go : (o : Option Store) → RetiredOk lift ps (storeIn (form m) (m .nodes)) o → P o
     go none k = z
     go (some t) k = s t (k .0) (at-store m f t (k .1) (λ l. let e = k .2 in omega arith))
 
@@ -83,7 +83,7 @@ end-is sh counts tray c = byTest (foundFull c) (λ e. rw e) (λ e. rw e)
 
 pub ended-simulated : {m n : Mem} {s : State} {c : Call} (tray : List ℕ) (d : ℕ) → After m n s → d < maxClients
     → Transition (stateOf m) c (write-end (didChange (client m d)) (foundFull (client m d))) (at-client s d idle)
-    → Simulated m c (resultWith (endOf (client m d)) (nowAt n d (rules-client.idle narrow)) tray)
+    → Simulated m c (resultWith (endOf (client m d)) (nowAt n d rules-client.idle) tray)
 ended-simulated {m} {c = c} tray d a h y =
     simulated (endOf (client m d)) tray (then-idle a d h) (rw (end-is (shape m) (countsAt m c) tray (client m d)) y)
 
@@ -98,12 +98,3 @@ pub answered-simulated : {m n : Mem} {s : State} {c : Call} (tray : List ℕ) (d
 unfolding rules-steps.answered responseIn
 answered-simulated {m} {c = c} tray d v cached a h e y =
     simulated (Answered (v .count) cached) (written tray 0 (v .numbers)) (then-idle a d h) (rw (told (shape m) (countsAt m c) tray v e) y)
-
--- what an entry keeps is of the hall
-pub whole-entry : (sh : Shape) (e : Entry) → length e ≡ entryWidth narrow → sh .columns ≤ maxColumns → isLong e ≡ false → Whole sh (isCount e) (valueIn narrow sh e)
-unfolding valueIn listIn
-whole-entry sh e w few short =
-    byTest (isCount e)
-    (λ t. rw t refl)
-    (λ t. let h = list-room (lengthIn e) (sh .columns) (list-short e t short) few in
-    rw t (length-take-le (lengthIn e * sh .columns) (drop (listOffset narrow sh) e) (rw length-drop (omega arith))))

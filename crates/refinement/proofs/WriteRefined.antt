@@ -10,7 +10,6 @@ use lib.Dec.{eqb, ltb}
 use lib.ListN.{length, getD}
 use borrow.Author.Tests.{ltb-true, ltb-false, eqb-true, eqb-false}
 use Rattle.laws.proofs.TestLaws.{byTest}
-use Rattle.query.specs.Shape.{narrow}
 use Rattle.rules.specs.Layout.{maxClients}
 use Rattle.rules.specs.declared.Outcome.the-variants.{Accepted}
 use Rattle.rules.specs.Table.{Table, effect, changes, noRoom, Change}
@@ -18,7 +17,7 @@ use Rattle.rules.specs.Work.{Write, writeLabels, writing, stepsInAll}
 use Rattle.rules.specs.Nodes.{Store, retired}
 use Rattle.rules.specs.Client.{didChange}
 use Rattle.rules.specs.Memory.{Mem, recordsIn, storeIn}
-use Rattle.rules.specs.Refusals.{shape, columns, client}
+use Rattle.rules.specs.Refusals.{form, shape, columns, client}
 use Rattle.rules.specs.Steps.{storeBack, announceResult, writeTableResult, raiseResult, writeResult}
 use Rattle.rules.specs.Sound.{Busy}
 use Rattle.rules.proofs.WorkLaws.{write-label-wide}
@@ -30,13 +29,14 @@ use Rattle.machine.specs.Transition as transition
 use Rattle.refinement.proofs.Abstraction.{stateOf, responseIn, Fits}
 use Rattle.refinement.proofs.ClientPhases.{fits-at}
 use Rattle.refinement.proofs.PhaseSteps.{announced-left, wrote-left, raised-left}
-use Rattle.refinement.proofs.MemoryReads.{length-records, records-held, rows-held}
+use Rattle.rules.proofs.MemoryLaws.{length-records}
+use Rattle.refinement.proofs.Abstraction.{records-held, rows-held}
 use Rattle.refinement.proofs.StatesAfter.{After, Simulated, simulated, at-store, at-table, then-now}
 use Rattle.refinement.proofs.RefusedCalls.{refused-simulated}
 use Rattle.refinement.proofs.StepFrame.{stepsAt, by-retired, ended-simulated, announcing-at, raising-at}
 
-module _ (m : Mem) (f : Fits m) (once : NoDup (storeIn narrow (m .nodes) .nodes)) (tray : List ℕ) (d : ℕ) (low : d < maxClients)
-    {w : Write} (b : Busy narrow (shape m) (client m d) (writing w)) where
+module _ (m : Mem) (f : Fits m) (once : NoDup (storeIn (form m) (m .nodes) .nodes)) (tray : List ℕ) (d : ℕ) (low : d < maxClients)
+    {w : Write} (b : Busy (shape m) (client m d) (writing w)) where
   -- what it writes is of the hall
   fits : WriteFits (shape m) w
   fits = fits-at b
@@ -49,7 +49,7 @@ module _ (m : Mem) (f : Fits m) (once : NoDup (storeIn narrow (m .nodes) .nodes)
   raises = stepsAt m d - (labels + 1)
 
   -- ---- A mark
-  announce-simulated : (o : Option Store) → stepsAt m d < labels → AnnouncedOk (getD (writeLabels w) (stepsAt m d) []) (storeIn narrow (m .nodes)) o
+  announce-simulated : (o : Option Store) → stepsAt m d < labels → AnnouncedOk (getD (writeLabels w) (stepsAt m d) []) (storeIn (form m) (m .nodes)) o
       → Simulated m (step d) (announceResult m tray d o)
   unfolding announceResult responseIn stateOf
   announce-simulated none h k = refused-simulated m (step d) 3 tray f (inl (omega arith)) (λ z. omega arith)
@@ -73,7 +73,7 @@ module _ (m : Mem) (f : Fits m) (once : NoDup (storeIn narrow (m .nodes) .nodes)
 
   -- ---- A raise
   raised-simulated : (isLast : Bool) (t : Store) → labels < stepsAt m d → eqb (stepsAt m d) (labels + labels) ≡ isLast
-      → Retired (didChange (client m d)) (getD (writeLabels w) raises [] ∷ []) (storeIn narrow (m .nodes)) t
+      → Retired (didChange (client m d)) (getD (writeLabels w) raises [] ∷ []) (storeIn (form m) (m .nodes)) t
       → After m (storeBack m t) (with-store (stateOf m) t) → Simulated m (step d) (raiseResult m tray d isLast (some t))
   unfolding raiseResult responseIn stateOf stepsInAll
   raised-simulated true t h l k a =
@@ -88,7 +88,7 @@ module _ (m : Mem) (f : Fits m) (once : NoDup (storeIn narrow (m .nodes) .nodes)
       (transition.raised low (raising-at m d low b h) j k)
 
   raise-simulated : (isLast : Bool) → labels < stepsAt m d → eqb (stepsAt m d) (labels + labels) ≡ isLast
-      → Simulated m (step d) (raiseResult m tray d isLast (retired narrow (didChange (client m d)) (getD (writeLabels w) raises [] ∷ []) (storeIn narrow (m .nodes))))
+      → Simulated m (step d) (raiseResult m tray d isLast (retired (form m) (didChange (client m d)) (getD (writeLabels w) raises [] ∷ []) (storeIn (form m) (m .nodes))))
   raise-simulated isLast h l =
       by-retired m f once _ (getD (writeLabels w) raises [] ∷ []) (λ o. Simulated m (step d) (raiseResult m tray d isLast o))
       (unfold raiseResult in refused-simulated m (step d) 3 tray f (inl (omega arith)) (λ z. omega arith))
@@ -102,7 +102,7 @@ module _ (m : Mem) (f : Fits m) (once : NoDup (storeIn narrow (m .nodes) .nodes)
       byTest (ltb i labels)
       (λ t. let z = ltb-true i labels t in
       let k = write-label-wide w i (let c = fits .columns in let y = b .most in omega arith) z in
-      rw t (announce-simulated _ z (announced-ok _ (storeIn narrow (m .nodes)) k once (rows-held m f))))
+      rw t (announce-simulated _ z (announced-ok _ (storeIn (form m) (m .nodes)) k once (rows-held m f))))
       (λ t. let z = ltb-false i labels t in rw t (byTest (eqb i labels)
       (λ u. rw u (write-table-simulated (eqb-true i labels u)))
       (λ u. let y = eqb-false i labels u in rw u (raise-simulated _ (omega arith) refl))))

@@ -19,20 +19,28 @@ use Rattle.rules.specs.Client.{isIdle, isBad, workAt}
 use Rattle.rules.specs.Work.{Request, readOf, insertOf, deleteOf, askFault, askOf, isWrite, faultOf}
 use Rattle.rules.specs.Layout.{refusedColumns}
 use Rattle.rules.specs.Memory.{Mem, storeIn, answersIn}
-use Rattle.query.specs.Shape.{Shape, narrow, shapeOf, maxColumns}
+use Rattle.query.specs.Shape.{Form, narrow, wide, Shape, shapeOf, maxColumns}
 use Rattle.rules.specs.Sound.{Long, Sound, Busy}
-use Rattle.rules.proofs.ClientLaws.{busy-of, client-wide}
-use Rattle.rules.specs.Refusals.{shape}
+use Rattle.rules.proofs.ClientLaws.{busy-of, client-room, client-wide}
+use Rattle.rules.specs.Refusals.{form, shape}
 use Rattle.rules.specs.Refusals.{columns, client, isShort, badColumns, isUnsound, noClient, allIdle, openCode, atClient, beginCode, stepCode, abandonCode, evictAnswerCode, evictNodeCode, renewCode}
 
 -- ---- Memories that are long
-pub long : (sh : Shape) (m : Mem) → isShort narrow sh m ≡ false → Long m
+pub answers-any : (f : Form) (a b : Shape) → answersLeast f a ≡ answersLeast f b
+answers-any narrow a b = refl
+answers-any wide a b = refl
+
+pub clients-any : (f : Form) (a b : Shape) → clientsLeast f a ≡ clientsLeast f b
+clients-any narrow a b = refl
+clients-any wide a b = refl
+
+pub long : (sh : Shape) (m : Mem) → isShort sh m ≡ false → Long m
 unfolding isShort
 long sh m e =
     let a = or-false _ _ e in
     let b = or-false _ _ (a .1) in
     let c = or-false _ _ (b .1) in
-    record { table = ltb-false _ _ (a .0); nodes = ltb-false _ _ (b .0); answers = ltb-false _ _ (c .0); clients = ltb-false _ _ (c .1) }
+    record { table = ltb-false _ _ (a .0); nodes = ltb-false _ _ (b .0); answers = rw (answers-any (form m) (shape m) sh) (ltb-false _ _ (c .0)); clients = rw (clients-any (form m) (shape m) sh) (ltb-false _ _ (c .1)) }
 
 columns-passed : (k : ℕ) → badColumns k ≡ false → (1 ≤ k) × (k ≤ maxColumns)
 unfolding badColumns
@@ -44,11 +52,11 @@ columns-passed k e =
 pub open-passed : (m : Mem) (k : ℕ) → openCode m k ≡ 0 → Long m × ((1 ≤ k) × (k ≤ maxColumns))
 unfolding openCode
 open-passed m k e =
-    let p = passed (isShort narrow (shapeOf k) m) 0 _ e in
+    let p = passed (isShort (shapeOf k) m) 0 _ e in
     (long (shapeOf k) m (p .0), columns-passed k (passed (badColumns k) 1 0 (p .1) .0))
 
 -- ---- And sound
-pub sound : (m : Mem) → isShort narrow (shape m) m ≡ false → isUnsound m ≡ false → Sound m
+pub sound : (m : Mem) → isShort (shape m) m ≡ false → isUnsound m ≡ false → Sound m
 unfolding isUnsound
 sound m s e =
     let a = or-false _ _ e in
@@ -73,22 +81,22 @@ client-passed d e = leb-false _ _ e
 
 -- what the call finds: the memories, the client's number and the client
 abbrev pub AtWork : Mem → ℕ → Type 0
-AtWork m d = Sound m × (d < maxClients) × Busy narrow (shape m) (client m d) (workAt (shape m) (client m d))
+AtWork m d = Sound m × (d < maxClients) × Busy (shape m) (client m d) (workAt (shape m) (client m d))
 
-busy-passed : (m : Mem) (d : ℕ) → isShort narrow (shape m) m ≡ false → atClient m d ≡ 0 → AtWork m d
+busy-passed : (m : Mem) (d : ℕ) → isShort (shape m) m ≡ false → atClient m d ≡ 0 → AtWork m d
 unfolding atClient client
 busy-passed m d s e =
     let p3 = passed (isUnsound m) 2 _ e in
     let p4 = passed (noClient d) 3 _ (p3 .1) in
-    let p5 = passed (isBad narrow (shape m) (client m d)) 2 _ (p4 .1) in
-    let p6 = passed (isIdle narrow (client m d)) 5 0 (p5 .1) in
+    let p5 = passed (isBad (shape m) (client m d)) 2 _ (p4 .1) in
+    let p6 = passed (isIdle (client m d)) 5 0 (p5 .1) in
     let good = sound m s (p3 .0) in
     let low = client-passed d (p4 .0) in
-    let wide = client-wide (m .clients) d (let z = good .long .clients in omega arith) in
-    (good, low, busy-of (shape m) (client m d) (good .least) (good .most) wide (p5 .0) (p6 .0))
+    let w = client-wide (form m) (m .clients) d (client-room (form m) (shape m) (m .clients) d low (good .long .clients)) in
+    (good, low, busy-of (shape m) (client m d) (good .least) (good .most) w (p5 .0) (p6 .0))
 
 -- an idle client is found in sound memories alone
-pub idle-passed : (m : Mem) (d : ℕ) → isShort narrow (shape m) m ≡ false → atClient m d ≡ 6 → Sound m
+pub idle-passed : (m : Mem) (d : ℕ) → isShort (shape m) m ≡ false → atClient m d ≡ 6 → Sound m
 unfolding atClient
 idle-passed m d s e = sound m s (go (isUnsound m) _ e)
   where
@@ -100,14 +108,14 @@ idle-passed m d s e = sound m s (go (isUnsound m) _ e)
 pub step-passed : (m : Mem) (tray : List ℕ) (d : ℕ) → stepCode m tray d ≡ 0 → (trayLeast ≤ length tray) × AtWork m d
 unfolding stepCode
 step-passed m tray d e =
-    let p = passed (isShort narrow (shape m) m || ltb (length tray) trayLeast) 0 _ e in
+    let p = passed (isShort (shape m) m || ltb (length tray) trayLeast) 0 _ e in
     let q = or-false _ _ (p .0) in
     (ltb-false _ _ (q .1), busy-passed m d (q .0) (p .1))
 
 pub abandon-passed : (m : Mem) (d : ℕ) → abandonCode m d ≡ 0 → AtWork m d
 unfolding abandonCode
 abandon-passed m d e =
-    let p = passed (isShort narrow (shape m) m) 0 _ e in
+    let p = passed (isShort (shape m) m) 0 _ e in
     busy-passed m d (p .0) (p .1)
 
 -- a code that stood for another was passed over
@@ -123,8 +131,8 @@ pub record Begins (m : Mem) (d : ℕ) (r : Request) : Type 0 where
   pub memories : Sound m
   pub good : faultOf (shape m) r ≡ 0
   pub below : d < maxClients
-  pub rests : isIdle narrow (client m d) ≡ true
-  pub fresh : isWrite r ≡ true → isWorn narrow (shape m) (storeIn narrow (m .nodes)) ≡ false
+  pub rests : isIdle (client m d) ≡ true
+  pub fresh : isWrite r ≡ true → isWorn (form m) (shape m) (storeIn (form m) (m .nodes)) ≡ false
 
 -- what arrives at such a begin is a query of the hall, of a read with a range that it takes, and of an insert one that names every column
 query-good : (b : Bool) → cond b 0 refusedColumns ≡ 0 → b ≡ true
@@ -155,13 +163,13 @@ and-rest a b e h = rw h at e
 pub begin-passed : (m : Mem) (d : ℕ) (r : Request) → beginCode m d r ≡ 0 → Begins m d r
 unfolding beginCode
 begin-passed m d r e =
-    let p1 = passed (isShort narrow (shape m) m) 0 _ e in
+    let p1 = passed (isShort (shape m) m) 0 _ e in
     let p2 = code-passed (faultOf (shape m) r) _ (p1 .1) in
     let p3 = passed (isUnsound m) 2 _ (p2 .1) in
     let p4 = passed (noClient d) 3 _ (p3 .1) in
-    let p5 = passed (isBad narrow (shape m) (client m d)) 2 _ (p4 .1) in
-    let p6 = passed (not (isIdle narrow (client m d))) 4 _ (p5 .1) in
-    let p7 = passed (isWrite r && isWorn narrow (shape m) (storeIn narrow (m .nodes))) 9 0 (p6 .1) in
+    let p5 = passed (isBad (shape m) (client m d)) 2 _ (p4 .1) in
+    let p6 = passed (not (isIdle (client m d))) 4 _ (p5 .1) in
+    let p7 = passed (isWrite r && isWorn (form m) (shape m) (storeIn (form m) (m .nodes))) 9 0 (p6 .1) in
     record {
       memories = sound m (p1 .0) (p3 .0);
       good = p2 .0;
@@ -171,9 +179,9 @@ begin-passed m d r e =
     }
 
 -- ---- Evictions and renewals
-sound-passed : (m : Mem) (rest : ℕ) → cond (isShort narrow (shape m) m) 1 (cond (isUnsound m) 3 rest) ≡ 0 → Sound m × (rest ≡ 0)
+sound-passed : (m : Mem) (rest : ℕ) → cond (isShort (shape m) m) 1 (cond (isUnsound m) 3 rest) ≡ 0 → Sound m × (rest ≡ 0)
 sound-passed m rest e =
-    let p = passed (isShort narrow (shape m) m) 0 _ e in
+    let p = passed (isShort (shape m) m) 0 _ e in
     let q = passed (isUnsound m) 2 _ (p .1) in
     (sound m (p .0) (q .0), q .1)
 
@@ -184,16 +192,16 @@ evict-answer-passed m i e =
     (p .0, leb-false _ _ (passed (leb (getD (m .answers) answerCountOffset 0) i) 7 0 (p .1) .0))
 
 pub evict-node-passed : (m : Mem) (i : ℕ) → evictNodeCode m i ≡ 0
-    → Sound m × (i < getD (m .nodes) nodeCountOffset 0) × (pending (getD (storeIn narrow (m .nodes) .nodes) i []) ≡ 0)
+    → Sound m × (i < getD (m .nodes) nodeCountOffset 0) × (pending (getD (storeIn (form m) (m .nodes) .nodes) i []) ≡ 0)
 unfolding evictNodeCode
 evict-node-passed m i e =
     let p = sound-passed m _ e in
     let r = passed (leb (getD (m .nodes) nodeCountOffset 0) i) 7 _ (p .1) in
-    let s = ltb-false 0 (pending (getD (storeIn narrow (m .nodes) .nodes) i [])) (passed (ltb 0 (pending (getD (storeIn narrow (m .nodes) .nodes) i []))) 8 0 (r .1) .0) in
+    let s = ltb-false 0 (pending (getD (storeIn (form m) (m .nodes) .nodes) i [])) (passed (ltb 0 (pending (getD (storeIn (form m) (m .nodes) .nodes) i []))) 8 0 (r .1) .0) in
     (p .0, leb-false _ _ (r .0), omega arith)
 
-pub renew-passed : (m : Mem) → renewCode m ≡ 0 → Sound m × ((d : ℕ) → d < maxClients → isIdle narrow (client m d) ≡ true)
+pub renew-passed : (m : Mem) → renewCode m ≡ 0 → Sound m × ((d : ℕ) → d < maxClients → isIdle (client m d) ≡ true)
 unfolding renewCode allIdle
 renew-passed m e =
     let p = sound-passed m _ e in
-    (p .0, λ d h. below-at maxClients (λ d. isIdle narrow (client m d)) d (not-false _ (passed (not (allIdle m)) 10 0 (p .1) .0)) h)
+    (p .0, λ d h. below-at maxClients (λ d. isIdle (client m d)) d (not-false _ (passed (not (allIdle m)) 10 0 (p .1) .0)) h)

@@ -9,7 +9,7 @@ use lib.ListN.{length, take, drop}
 use Rattle.lists.specs.Lists.{without}
 use Rattle.rules.specs.declared.Outcome.{Outcome}
 use Rattle.rules.specs.declared.Outcome.the-variants.{Refused, Accepted}
-use Rattle.query.specs.Shape.{narrow, shapeOf}
+use Rattle.query.specs.Shape.{shapeOf}
 use Rattle.rules.specs.Nodes.{Words, Store, evictNode, retired}
 use Rattle.rules.specs.Work.{Write, writeLabels, Work, asking, writing, Request, workOf}
 use Rattle.rules.specs.Client.{steps, didChange, idle, begun, workAt}
@@ -24,11 +24,11 @@ unfoldable pub unless : ℕ → Mem → Result → Result
 unless code m x = cond (eqb code 0) x (result (Refused code) m)
 
 unfoldable pub openResult : Mem → ℕ → Result
-openResult m k = unless (openCode m k) m (result Accepted (opened narrow (shapeOf k) m))
+openResult m k = unless (openCode m k) m (result Accepted (opened (shapeOf k) m))
 
 -- a begin of a read, an insert or a delete: "A write is open from its begin until its desk is idle."
 unfoldable pub beginResult : Mem → ℕ → Request → Result
-beginResult m d r = unless (beginCode m d r) m (result Accepted (nowAt m d (begun (form m) (workOf (shape m) r))))
+beginResult m d r = unless (beginCode m d r) m (result Accepted (nowAt m d (begun (workOf (shape m) r))))
 
 unfoldable pub stepResult : Mem → List ℕ → ℕ → StepResult
 stepResult m tray d = cond (eqb (stepCode m tray d) 0) (progress m tray d) (resultWith (Refused (stepCode m tray d)) m tray)
@@ -49,7 +49,7 @@ labelsLeft w i = drop (i - (length (writeLabels w) + 1)) (writeLabels w)
 -- unmarked" or "a counter at its largest to raise", at any of them: then none is altered
 unfoldable pub retireResult : Mem → ℕ → Outcome → Option Store → Result
 retireResult m d o none = result (Refused refusedUnsound) m
-retireResult m d o (some s) = result o (nowAt (storeBack m s) d (idle (form m)))
+retireResult m d o (some s) = result o (nowAt (storeBack m s) d idle)
 
 -- "A writer before its table step takes back the marks it has set."; "Abandoning after the table step now performs all remaining raises itself
 -- and reports the write's end as its last raise would have." (S-4), each with a lift if the client keeps that the table changed (S-6)
@@ -61,7 +61,7 @@ abandonedWrite m d w i =
 
 -- "**Abandon.** A reader's desk becomes idle."
 unfoldable pub abandonedOf : Mem → ℕ → Work → Result
-abandonedOf m d (asking x) = result Accepted (nowAt m d (idle (form m)))
+abandonedOf m d (asking x) = result Accepted (nowAt m d idle)
 abandonedOf m d (writing w) = abandonedWrite m d w (steps (client m d))
 
 unfoldable pub abandoned : Mem → ℕ → Result
@@ -77,7 +77,7 @@ evictAnswerResult m i =
     (result Accepted (withFiled m (withAnswers (form m) (m .answers) (without i (answersIn (form m) (m .answers))))))
 
 unfoldable pub evictNodeResult : Mem → ℕ → Result
-evictNodeResult m i = unless (evictNodeCode m i) m (result Accepted (storeBack m (evictNode (form m) i (storeIn (form m) (m .nodes)))))
+evictNodeResult m i = unless (evictNodeCode m i) m (result Accepted (storeBack m (evictNode i (storeIn (form m) (m .nodes)))))
 
 -- "**Renew.** With all desks idle: answers and nodes are emptied, the floor is 1, the table stays."
 unfoldable pub renewResult : Mem → Result

@@ -6,7 +6,7 @@ use Prim.Native.Nat.{ℕ, _+_}
 use lib.Dec.{eqb, ltb, leb}
 use lib.ListN.{getD, drop, set, replicate}
 use Rattle.lists.specs.Lists.{same, padded, written}
-use Rattle.query.specs.Shape.{Form, Shape}
+use Rattle.query.specs.Shape.{Shape}
 use Rattle.rules.specs.Layout.{kindOffset, stepsOffset, sawOffset, changedOffset, fullOffset, entryOffset, clientWidth, listWidth}
 use Rattle.rules.specs.Layout.{heldLengthOffset, notedOffset, heldListOffset, deletes}
 use Rattle.query.specs.Query.{Query}
@@ -39,15 +39,15 @@ unfoldable pub entryOf : Client → Entry
 entryOf c = drop entryOffset c
 
 -- "an idle desk is all 0"
-unfoldable pub idle : Form → Client
-idle f = replicate (clientWidth f) 0
+unfoldable pub idle : Client
+idle = replicate clientWidth 0
 
-unfoldable pub isIdle : Form → Client → Bool
-isIdle f c = same c (idle f)
+unfoldable pub isIdle : Client → Bool
+isIdle c = same c idle
 
 -- as a begin of this work leaves it: no step made, all the rest 0
-unfoldable pub begun : Form → Work → Client
-begun f x = padded (clientWidth f) (kindOf x ∷ 0 ∷ 0 ∷ 0 ∷ 0 ∷ keyOf x)
+unfoldable pub begun : Work → Client
+begun x = padded clientWidth (kindOf x ∷ 0 ∷ 0 ∷ 0 ∷ 0 ∷ keyOf x)
 
 -- the query and the range that its key has, and what a reader asks: for contracts and proofs
 unfoldable pub queryAt : Shape → Client → Query
@@ -70,9 +70,9 @@ workAt sh c = workIn sh (kind c) (keyIn (entryOf c))
 -- those that the work read from them would be kept as. So an insert's has no star: its record's key has a mark in every column; and a
 -- write's does not say "count" and has no range. "a held range that a begin would refuse is 3" (S-3): `workFault`. "a .. held count above
 -- 2,048 is 3" (S-1) stands in `isLong`
-unfoldable pub isBad : Form → Shape → Client → Bool
-isBad f sh c =
-    not (isIdle f c)
+unfoldable pub isBad : Shape → Client → Bool
+isBad sh c =
+    not (isIdle c)
     && ((eqb (kind c) 0 || ltb deletes (kind c))
     || (not (same (keyIn (entryOf c)) (keyOf (workAt sh c)))
     || (not (eqb (workFault (workAt sh c)) 0)
@@ -86,12 +86,12 @@ unfoldable pub flag : Bool → ℕ
 flag b = cond b 1 0
 
 -- look j "notes its counter and whether its marks are above 0"
-unfoldable pub noted : Form → ℕ → ℕ → ℕ → Client → Client
-noted f j revision pending c = set (set (stepped c) (notedOffset f j) revision) sawOffset (cond (eqb pending 0) (getD c sawOffset 0) 1)
+unfoldable pub noted : ℕ → ℕ → ℕ → Client → Client
+noted j revision pending c = set (set (stepped c) (notedOffset j) revision) sawOffset (cond (eqb pending 0) (getD c sawOffset 0) 1)
 
 -- what was got at the table step: how many records, and their numbers in the entry's last numbers; of a count 0 in all of these
-unfoldable pub holding : Form → Shape → Value → Client → Client
-holding f sh v c = written (set (stepped c) heldLengthOffset (v .count)) (heldListOffset f sh) (padded (listWidth sh) (v .numbers))
+unfoldable pub holding : Shape → Value → Client → Client
+holding sh v c = written (set (stepped c) heldLengthOffset (v .count)) (heldListOffset sh) (padded (listWidth sh) (v .numbers))
 
 -- a write past its table step
 unfoldable pub wrote : Bool → Bool → Client → Client

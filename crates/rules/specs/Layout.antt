@@ -1,10 +1,11 @@
 -- Document 01, "The hall's stock": the sizes, the least lengths, and the place of every number in a memory, a node, an entry and a
 -- client (docs/LAYOUT.md has the pictures), each named once. What a hall of another form or shape would have otherwise is
--- a function of them.
+-- a function of them: limits, least lengths, and where things stand in a memory. A node, an entry and a client as they are read know no form.
 -- Leans on lists' header and on query's Shape and Encoding. Definitions only. Assumes nothing.
+use mathlib.Core.List.{List, [], _∷_}
 use Prim.Native.Nat.{ℕ, _+_, _*_}
-use Rattle.lists.specs.Lists.{header}
-use Rattle.query.specs.Shape.{Form, Shape, maxColumns}
+use Rattle.lists.specs.Lists.{header, Part, part}
+use Rattle.query.specs.Shape.{Form, narrow, wide, Shape, maxColumns}
 use Rattle.query.specs.Encoding.{labelWidth, keyWidth}
 
 -- ---- Sizes
@@ -33,30 +34,36 @@ maxPending = 12
 abbrev pub maxWord : ℕ
 maxWord = 4294967295
 
--- "a counter at its largest to raise": a counter is one 32-bit number
+-- "a counter at its largest to raise": of 32 bits, or of 64 (S-8)
 abbrev pub maxRevision : Form → ℕ
-maxRevision f = maxWord
+maxRevision narrow = maxWord
+maxRevision wide = 18446744073709551615
 
--- "a write begins while the floor or a counter is above 4,294,967,103"
+-- "a write begins while the floor or a counter is above 4,294,967,103"; "A write is worn above 18,446,744,073,709,551,423" (S-8)
 abbrev pub wornAbove : Form → Shape → ℕ
-wornAbove f sh = 4294967103
+wornAbove narrow sh = 4294967103
+wornAbove wide sh = 18446744073709551423
 
 -- the floor that an opening and a renewal set: "sets the floor to 1"
 abbrev pub firstFloor : ℕ
 firstFloor = 1
 
--- ---- The table "memory | least length"; "Lengths count 32-bit numbers."
+-- ---- The table "memory | least length"; "Lengths count 32-bit numbers."; "the table length stays, desks become 2,300, nodes 10,300 and answers
+-- 11,100, in 32-bit numbers" (S-8)
 abbrev pub tableLeast : ℕ
 tableLeast = 8200
 
 abbrev pub nodesLeast : Form → ℕ
-nodesLeast f = 8200
+nodesLeast narrow = 8200
+nodesLeast wide = 10300
 
 abbrev pub answersLeast : Form → Shape → ℕ
-answersLeast f sh = 10000
+answersLeast narrow sh = 10000
+answersLeast wide sh = 11100
 
 abbrev pub clientsLeast : Form → Shape → ℕ
-clientsLeast f sh = 2000
+clientsLeast narrow sh = 2000
+clientsLeast wide sh = 2300
 
 abbrev pub trayLeast : ℕ
 trayLeast = 128
@@ -71,13 +78,24 @@ floorOffset = 0
 abbrev pub nodeCountOffset : ℕ
 nodeCountOffset = 1
 
+-- the floor's upper half, in the wide form
+abbrev pub upperFloorOffset : ℕ
+upperFloorOffset = 2
+
 abbrev pub answerCountOffset : ℕ
 answerCountOffset = 0
 
 abbrev pub columnsOffset : ℕ
 columnsOffset = 0
 
--- ---- A node: its label, its marks (pending writes), its counter (revision), and a number kept for the counter's upper half
+-- "The desks memory tells the form." (S-8): 0 there in the narrow form, and in the wide one this number
+abbrev pub formOffset : ℕ
+formOffset = 1
+
+abbrev pub tellsWide : ℕ
+tellsWide = 1
+
+-- ---- A node: its label, its marks (pending writes), its counter (revision), and a number that is not used
 abbrev pub pendingOffset : ℕ
 pendingOffset = labelWidth
 
@@ -86,6 +104,29 @@ revisionOffset = pendingOffset + 1
 
 abbrev pub nodeWidth : ℕ
 nodeWidth = revisionOffset + 2
+
+-- how many numbers it takes in a memory: in the wide form two for its revision, and one for its check (Checks)
+abbrev pub keptNode : Form → ℕ
+keptNode narrow = nodeWidth
+keptNode wide = nodeWidth + 2
+
+-- where the parts of the nodes stand in the wide form: 1,024 checks; then of each node its label, its marks and its revision's halves; then the
+-- numbers that are not used
+abbrev pub checksOffset : ℕ
+checksOffset = header
+
+abbrev pub nodesOffset : ℕ
+nodesOffset = checksOffset + maxNodes
+
+abbrev pub sparesOffset : ℕ
+sparesOffset = nodesOffset + maxNodes * nodeWidth
+
+abbrev pub nodeParts : List Part
+nodeParts = part checksOffset 1 ∷ part nodesOffset nodeWidth ∷ part sparesOffset 1 ∷ []
+
+-- where the last node ends
+abbrev pub nodesEnd : Form → ℕ
+nodesEnd f = header + maxNodes * keptNode f
 
 -- ---- An entry (a filed answer): its query's key, the list's length or the count, the revisions noted, the list
 abbrev pub lengthOffset : ℕ
@@ -98,12 +139,8 @@ revisionsOffset = lengthOffset + 1
 abbrev pub maxLooks : Shape → ℕ
 maxLooks sh = 16
 
--- how many numbers a noted revision takes
-abbrev pub revisionWidth : Form → ℕ
-revisionWidth f = 1
-
-abbrev pub listOffset : Form → Shape → ℕ
-listOffset f sh = revisionsOffset + maxLooks sh * revisionWidth f
+abbrev pub listOffset : Shape → ℕ
+listOffset sh = revisionsOffset + maxLooks sh
 
 -- the most numbers of a list
 abbrev pub listWidth : Shape → ℕ
@@ -116,12 +153,33 @@ lookRoom = 16
 abbrev pub listRoom : ℕ
 listRoom = maxList * maxColumns
 
-abbrev pub entryWidth : Form → ℕ
-entryWidth f = revisionsOffset + lookRoom * revisionWidth f + listRoom
+abbrev pub entryWidth : ℕ
+entryWidth = revisionsOffset + lookRoom + listRoom
+
+-- how many numbers it takes in a memory: in the wide form two for each revision
+abbrev pub keptEntry : Form → ℕ
+keptEntry narrow = entryWidth
+keptEntry wide = entryWidth + lookRoom
+
+-- where the parts of the filed answers stand in the wide form: 64 lengths, 64 keys, 64 bodies (the revisions' halves and the list)
+abbrev pub lengthsOffset : ℕ
+lengthsOffset = header
+
+abbrev pub keysOffset : ℕ
+keysOffset = lengthsOffset + maxAnswers
+
+abbrev pub bodiesOffset : ℕ
+bodiesOffset = keysOffset + maxAnswers * keyWidth
+
+abbrev pub bodyWidth : ℕ
+bodyWidth = 2 * lookRoom + listRoom
+
+abbrev pub answerParts : List Part
+answerParts = part keysOffset keyWidth ∷ part lengthsOffset 1 ∷ part bodiesOffset bodyWidth ∷ []
 
 -- where the last entry ends
 abbrev pub answersEnd : Form → ℕ
-answersEnd f = header + maxAnswers * entryWidth f
+answersEnd f = header + maxAnswers * keptEntry f
 
 -- ---- A client (the paper's desk): its kind, how many steps it has made, three flags, then an entry
 abbrev pub kindOffset : ℕ
@@ -145,12 +203,16 @@ fullOffset = 4
 abbrev pub entryOffset : ℕ
 entryOffset = 5
 
-abbrev pub clientWidth : Form → ℕ
-clientWidth f = entryOffset + entryWidth f
+abbrev pub clientWidth : ℕ
+clientWidth = entryOffset + entryWidth
+
+-- how many numbers it takes in a memory
+abbrev pub keptClient : Form → ℕ
+keptClient f = entryOffset + keptEntry f
 
 -- where client d stands; where the last ends
 abbrev pub clientOffset : Form → ℕ → ℕ
-clientOffset f d = header + d * clientWidth f
+clientOffset f d = header + d * keptClient f
 
 abbrev pub clientsEnd : Form → ℕ
 clientsEnd f = clientOffset f maxClients
@@ -162,11 +224,11 @@ heldValuesOffset = entryOffset + 1
 abbrev pub heldLengthOffset : ℕ
 heldLengthOffset = entryOffset + lengthOffset
 
-abbrev pub notedOffset : Form → ℕ → ℕ
-notedOffset f j = entryOffset + revisionsOffset + j
+abbrev pub notedOffset : ℕ → ℕ
+notedOffset j = entryOffset + revisionsOffset + j
 
-abbrev pub heldListOffset : Form → Shape → ℕ
-heldListOffset f sh = entryOffset + listOffset f sh
+abbrev pub heldListOffset : Shape → ℕ
+heldListOffset sh = entryOffset + listOffset sh
 
 -- ---- Kinds of a client's work: 0 stands at an idle one
 abbrev pub reads : ℕ

@@ -5,7 +5,7 @@ use mathlib.Core.Path.{_≡_}
 use mathlib.Core.Bool.{false}
 use Prim.Native.Nat.{ℕ, _≤_, _<_}
 use lib.ListN.{length, getD}
-use Rattle.query.specs.Shape.{Form, Shape, maxColumns}
+use Rattle.query.specs.Shape.{Shape, maxColumns}
 use Rattle.rules.specs.Layout.{maxRecords, maxNodes, maxAnswers, tableLeast, nodesLeast, answersLeast, clientsLeast, clientWidth}
 use Rattle.rules.specs.Layout.{recordCountOffset, nodeCountOffset, answerCountOffset}
 use Rattle.rules.specs.Work.{Work, kindOf, keyOf, workFault, stepsInAll}
@@ -31,13 +31,13 @@ pub record Sound (m : Mem) : Type 0 where
   pub answers : getD (m .answers) answerCountOffset 0 ≤ maxAnswers
   pub lists : someLong (answersIn (form m) (m .answers)) ≡ false
 
--- A sound, busy client: c, in a hall of this form and shape, is busy with w, and neither "its kind, query, step or list length is out of
+-- A sound, busy client: c, in a hall of this shape, is busy with w, and neither "its kind, query, step or list length is out of
 -- range" nor is there "a held range that a begin would refuse" (3). It is a reader where w is `asking` what it reads, and a writer where w is
 -- `writing` its change.
-pub record Busy (f : Form) (sh : Shape) (c : Client) (w : Work) : Type 0 where
+pub record Busy (sh : Shape) (c : Client) (w : Work) : Type 0 where
   pub least : 1 ≤ sh .columns
   pub most : sh .columns ≤ maxColumns
-  pub wide : length c ≡ clientWidth f
+  pub wide : length c ≡ clientWidth
   pub work : workAt sh c ≡ w
   pub kind : kind c ≡ kindOf w
   pub key : keyIn (entryOf c) ≡ keyOf w

@@ -20,7 +20,8 @@ use Rattle.rules.specs.Memory.{recordsIn, withRecords}
 use Rattle.records.proofs.RecordWrites.{effect-delete}
 use Rattle.table.specs.TableContracts.{Fit, gone}
 use Rattle.table.proofs.TableLists.{gone-is}
-use Rattle.table.proofs.TableMemory.{length-records, wide-records}
+use Rattle.rules.proofs.MemoryLaws.{length-records}
+use Rattle.table.proofs.TableMemory.{wide-records}
 use Rattle.table.proofs.Counting.{Counting, count-none, count-found, count-other, count-all}
 use Rattle.rules.specs.Layout.{recordCountOffset}
 

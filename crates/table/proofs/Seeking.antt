@@ -29,7 +29,8 @@ use Rattle.table.specs.declared.Spot.{Spot}
 use Rattle.table.specs.declared.Spot.the-variants.{There, At}
 use Rattle.table.specs.TableContracts.{Fit, spotOf, insertedAs}
 use Rattle.table.proofs.TableLists.{has-snoc, has-at, place-front, place-behind, is-there, goes-before, spot-there, spot-before, as-present, as-full, as-added}
-use Rattle.table.proofs.TableMemory.{length-records, with-records, with-inserted}
+use Rattle.rules.proofs.MemoryLaws.{length-records}
+use Rattle.table.proofs.TableMemory.{with-records, with-inserted}
 
 -- ---- one record more: p fails, or passes, at x
 module _ {A : Type 0} (p : A → Bool) (l : List A) (x : A) where

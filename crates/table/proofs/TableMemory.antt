@@ -1,5 +1,5 @@
 -- Laws of a table memory that is fit: where its records lie, what a scan of them reads, and that other records written back keep it fit.
--- Leans on the definitions of rules, on the laws of Entries and Rows and on those of records. Assumes nothing.
+-- Leans on the definitions of rules, on its laws of the memories, on the laws of entries and rows and on those of records. Assumes nothing.
 use mathlib.Core.Path.{_≡_, sym, _∙_}
 use mathlib.Core.Bool.{Bool, false}
 use mathlib.Core.List.{List, [], _∷_, _++_}
@@ -10,20 +10,21 @@ use lib.ListN.{length, getD, take, drop, set, length-drop}
 use lib.Seq.{length-take-le}
 use Rattle.laws.specs.Splice.{inserted}
 use Rattle.laws.proofs.RowLaws.{slot, Wide, wide-keep}
-use Rattle.laws.proofs.EntryLaws.{length-entries, entry-at, wide-entries, with-insert, with-self, length-with, count-with, entries-with}
+use Rattle.laws.proofs.EntryLaws.{entry-at, with-insert, with-self}
 use Rattle.query.specs.Query.{Query, Record, lies}
 use Rattle.columns.specs.MaskContracts.{queryUnder}
-use Rattle.query.specs.Shape.{maxColumns, narrow}
+use Rattle.query.specs.Shape.{maxColumns}
 use Rattle.rules.specs.Layout.{maxRecords, tableLeast, recordCountOffset}
 use Rattle.rules.specs.Table.{Table, listOf, Change, effect}
 use Rattle.rules.specs.Memory.{Mem, recordsIn, withRecords}
 use Rattle.rules.specs.Refusals.{shape, columns, isShort, isUnsound}
 use Rattle.rules.proofs.PassedChecks.{sound}
+use Rattle.rules.proofs.MemoryLaws as rules
 use Rattle.records.proofs.RecordWrites.{OfWidth, effect-wide, effect-few}
 use Rattle.table.specs.TableContracts.{Fit}
 
 -- ---- a table memory that passed the refusals is fit
-pub fit-passed : (m : Mem) → isShort narrow (shape m) m ≡ false → isUnsound m ≡ false → Fit (columns m) (m .table)
+pub fit-passed : (m : Mem) → isShort (shape m) m ≡ false → isUnsound m ≡ false → Fit (columns m) (m .table)
 fit-passed m h g =
     let s = sound m h g in
     record { columns = (s .least, s .most); long = s .long .table; few = s .records }
@@ -59,17 +60,12 @@ room-for k s f h =
     omega (arith, slot k maxRecords (getD s recordCountOffset 0) h)
 
 -- ---- what is read
-pub length-records : (k : ℕ) (s : List ℕ) → length (recordsIn k s) ≡ getD s recordCountOffset 0
-unfolding recordsIn
-length-records k s = length-entries 0 k s
-
 pub record-at : (k : ℕ) (s : List ℕ) (i : ℕ) → i < getD s recordCountOffset 0 → getD (recordsIn k s) i [] ≡ take k (drop (8 + i * k) s)
 unfolding recordsIn
 record-at k s i h = entry-at 0 k s i h
 
 pub wide-records : (k : ℕ) (s : List ℕ) → Fit k s → Wide k (recordsIn k s)
-unfolding recordsIn
-wide-records k s f = wide-entries 0 k s (in-use k s f)
+wide-records k s f = rules.wide-records k s (f .columns .1) (f .long) (f .few)
 
 pub wide-list : (k : ℕ) (s : List ℕ) (q : Query) → Fit k s → Wide k (listOf q (recordsIn k s))
 unfolding listOf
@@ -106,26 +102,20 @@ with-inserted k s r i f h = with-insert 0 k s (in-use k s f) i r h
 
 -- a table of at most 2,048 records of k numbers, written into a fit memory
 module _ (k : ℕ) (s : List ℕ) (t : Table) (f : Fit k s) (w : Wide k t) (few : length t ≤ maxRecords) where
-  fits-in : 8 + length t * k ≤ length s
-  fits-in = let a : 8 + length t * k ≤ tableLeast = ends k (length t) (f .columns .1) few in let b = f .long in omega arith
-
   pub length-back : length (withRecords k s t) ≡ length s
-  unfolding withRecords
-  length-back = length-with 0 k s t w (in-use k s f) fits-in
+  length-back = rules.length-with-records k s (f .columns .1) (f .long) (f .few) t w few
 
-  pub count-back : getD (withRecords k s t) 0 0 ≡ length t
-  unfolding withRecords
-  count-back = count-with 0 k s t w (in-use k s f) fits-in (omega arith)
+  pub count-back : getD (withRecords k s t) recordCountOffset 0 ≡ length t
+  count-back = rules.count-records k s (f .columns .1) (f .long) (f .few) t w few
 
   -- nothing is lost by writing a table back and reading it
   pub records-back : recordsIn k (withRecords k s t) ≡ t
-  unfolding recordsIn withRecords
-  records-back = entries-with 0 k s t w (in-use k s f) fits-in (omega arith)
+  records-back = rules.records-with k s (f .columns .1) (f .long) (f .few) t w few
 
   pub fit-back : Fit k (withRecords k s t)
   fit-back =
       let a : length (withRecords k s t) ≡ length s = length-back in
-      let b : getD (withRecords k s t) 0 0 ≡ length t = count-back in
+      let b : getD (withRecords k s t) recordCountOffset 0 ≡ length t = count-back in
       let l = f .long in
       record { columns = f .columns; long = omega arith; few = omega arith }
 
@@ -135,7 +125,7 @@ module _ (k : ℕ) (s : List ℕ) (w : Change) (f : Fit k s) (h : OfWidth k w) w
   effect-is-wide = effect-wide k w (recordsIn k s) h (wide-records k s f)
 
   effect-is-few : length (effect w (recordsIn k s)) ≤ maxRecords
-  effect-is-few = effect-few w (recordsIn k s) (let a = length-records k s in let b = f .few in omega arith)
+  effect-is-few = effect-few w (recordsIn k s) (let a = rules.length-records k s in let b = f .few in omega arith)
 
   pub write-length : length (withRecords k s (effect w (recordsIn k s))) ≡ length s
   write-length = length-back k s (effect w (recordsIn k s)) f effect-is-wide effect-is-few

@@ -1,34 +1,32 @@
 -- Laws of a call that is lent a tally, by value: what it leaves where 15 applies and where it does not, one law each for every call; and which count
--- it raises, by what it leaves without a tally. Leans on the rules' Tally and PassedChecks, and on the laws of clients. Assumes nothing.
+-- it raises, by what it leaves without a tally. Leans on the rules' Tally and PassedChecks. Assumes nothing.
 use mathlib.Core.Path.{_≡_, sym, ap, _∙_}
 use mathlib.Core.Bool.{Bool, true, false}
 use mathlib.Core.List.{List, []}
-use Prim.Native.Nat.{ℕ, _+_, _≤_, _<_}
-use native.Mathlib.Omega.{arith}
+use Prim.Native.Nat.{ℕ, _≤_, _<_}
 use lib.Dec.{eqb}
-use lib.ListN.{length, getD}
+use lib.ListN.{length}
 use borrow.Author.Tests.{eqb-true, eq-eqb, ne-eqb}
 use Rattle.laws.proofs.TestLaws.{byTest}
 use Rattle.query.specs.declared.Range.{Range}
-use Rattle.query.specs.Shape.{Shape, narrow}
+use Rattle.query.specs.Shape.{Shape}
 use Rattle.rules.specs.declared.Outcome.{Outcome}
 use Rattle.rules.specs.declared.Outcome.the-variants.{Refused}
 use Rattle.rules.specs.declared.Tally.{Tally}
 use Rattle.rules.specs.declared.Count.{Count}
 use Rattle.rules.specs.declared.Count.the-variants.{NoCount, ReadBegun, ReadAbandoned, WriteBegun, WriteAbandoned}
-use Rattle.rules.specs.Layout.{refusedTallyFull, reads, inserts, maxClients, clientsLeast, clientOffset, kindOffset}
+use Rattle.rules.specs.Layout.{refusedTallyFull, reads, inserts, maxClients, clientsLeast}
 use Rattle.rules.specs.Work.{Request, isWrite, workIn}
 use Rattle.rules.specs.Client.{Client, kind, workAt}
 use Rattle.rules.specs.Memory.{Mem, clientIn}
 use Rattle.rules.specs.Outcome.{Result, StepResult, resultWith}
-use Rattle.rules.specs.Refusals.{shape, client, abandonCode}
+use Rattle.rules.specs.Refusals.{form, shape, client, abandonCode}
 use Rattle.rules.specs.Calls.{unless, beginResult, stepResult, abandonResult}
 use Rattle.rules.specs.History.{Call, begin, step, abandon, untrayed, callResult, trayOf}
 use Rattle.rules.specs.Tally.{countOf, begunCount, abandonedCount, acceptedCount, wouldRaise, isFull, raised, isFullFor, isTallyFull, madeResult, tallyAfter}
 use Rattle.rules.specs.Tally.{tallied, talliedResult}
 use Rattle.rules.proofs.PassedChecks.{abandon-passed}
 use Rattle.checks.specs.CheckContracts.{requestOf}
-use Rattle.clients.proofs.ClientMemory.{word-at}
 
 -- ---- What the call leaves; b: whether the code says that the count stands at its largest
 module _ (m : Mem) (t : Tally) (c : Call) (b : Bool) (e : b ≡ isFull t (wouldRaise m c)) where
@@ -74,7 +72,7 @@ module _ (m : Mem) (d : ℕ) {x : Result} (e : x ≡ abandonResult m d) where
   abandon-made = ap untrayed e
 
   pub abandon-raises : {j k : Count}
-      → (d < maxClients → clientsLeast narrow (shape m) ≤ length (m .clients) → j ≡ abandonedCount (workAt (shape m) (clientIn narrow (m .clients) d)))
+      → (d < maxClients → clientsLeast (form m) (shape m) ≤ length (m .clients) → j ≡ abandonedCount (workAt (shape m) (clientIn (form m) (m .clients) d)))
       → k ≡ countOf j (x .out) → k ≡ wouldRaise m (abandon d)
   unfolding wouldRaise acceptedCount callResult untrayed client
   abandon-raises {j} {k} f g =
@@ -100,7 +98,3 @@ module _ (sh : Shape) (c : Client) (x : ℕ) (e : x ≡ kind c) where
   pub writer-left : (x ≡ reads → ⊥) → WriteAbandoned ≡ abandonedCount (workAt sh c)
   unfolding workAt workIn abandonedCount
   writer-left h = rw (← e, ne-eqb x reads h)
-
-pub kind-at : (s : List ℕ) (d : ℕ) → getD s (clientOffset narrow d + kindOffset) 0 ≡ kind (clientIn narrow s d)
-unfolding kind
-kind-at s d = sym (word-at s d kindOffset (omega arith))

@@ -9,11 +9,10 @@ ghost use mathlib.Core.Bool.{Bool};
 ghost use mathlib.Core.List.{List};
 ghost use Prim.Native.Nat.{ℕ, _≤_, _<_};
 ghost use lib.ListN.{length};
-ghost use Rattle.query.specs.Shape.{narrow};
 ghost use Rattle.query.specs.declared.Range.{Range};
 ghost use Rattle.rules.specs.Layout.{reads, deletes, maxClients, clientsLeast};
 ghost use Rattle.rules.specs.Client.{workAt};
-ghost use Rattle.rules.specs.Memory.{mem, shapeIn, clientIn};
+ghost use Rattle.rules.specs.Memory.{current, mem, shapeIn, clientIn};
 ghost use Rattle.rules.specs.History.{begin, step, abandon};
 ghost use Rattle.rules.specs.Tally.{wouldRaise, isFull, begunCount, abandonedCount};
 ghost use Rattle.checks.specs.CheckContracts.{requestOf};
@@ -106,7 +105,7 @@ fn abandon_would(
 // What an accepted abandoning raises that reports no end, by the kind at the desk. Any contents, any desk: one that is not there is no matter, its
 // abandoning is refused.
 pub fn abandoned_count(clients: &[u32], client: u32) -> Count
-    ensures { λ r. ⌜ (client < maxClients → clientsLeast narrow (shapeIn (now (clients .entry))) ≤ length (now (clients .entry)) → r ≡ abandonedCount (workAt (shapeIn (now (clients .entry))) (clientIn narrow (now (clients .entry)) client))) ⌝ }
+    ensures { λ r. ⌜ (client < maxClients → clientsLeast current (shapeIn (now (clients .entry))) ≤ length (now (clients .entry)) → r ≡ abandonedCount (workAt (shapeIn (now (clients .entry))) (clientIn current (now (clients .entry)) client))) ⌝ }
 {
     if Hall::CLIENTS <= client {
         return Count::NoCount;

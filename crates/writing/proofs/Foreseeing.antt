@@ -9,7 +9,6 @@ use native.Mathlib.Omega.{arith}
 use lib.Dec.{eqb, ltb}
 use lib.ListN.{getD}
 use borrow.Author.Tests.{eq-eqb, ne-eqb, le-ltb}
-use Rattle.query.specs.Shape.{narrow}
 use Rattle.rules.specs.declared.Outcome.{Outcome}
 use Rattle.rules.specs.declared.Outcome.the-variants.{Accepted, Full, Ended}
 use Rattle.rules.specs.declared.Count.{Count}
@@ -17,7 +16,7 @@ use Rattle.rules.specs.declared.Count.the-variants.{NoCount, EndedChanged, Ende
 use Rattle.rules.specs.Table.{Change}
 use Rattle.rules.specs.Nodes.{Words, Store, announced, retired}
 use Rattle.rules.specs.Client.{Client, didChange, foundFull}
-use Rattle.rules.specs.Memory.{Mem, mem, clientIn, storeIn}
+use Rattle.rules.specs.Memory.{current, Mem, mem, clientIn, storeIn}
 use Rattle.rules.specs.Outcome.{Result, StepResult}
 use Rattle.rules.specs.Refusals.{client}
 use Rattle.rules.specs.Steps.{announceResult, writeTableResult, endOf, raiseResult, writeResult}
@@ -85,8 +84,8 @@ module _ (m : Mem) (y : List ℕ) (d : ℕ) where
   last-well (some s) h = refl
 
 -- lift, ps: as the code has them; b: whether it says that the marks can be taken off
-module _ (lift must b : Bool) (c : lift ≡ must) (ps qs : List Words) (e : ps ≡ qs) (n : List ℕ) (g : b ≡ isFound (retired narrow lift ps (storeIn narrow n))) where
-  said : {x : Bool} → b ≡ x → isFound (retired narrow must qs (storeIn narrow n)) ≡ x
+module _ (lift must b : Bool) (c : lift ≡ must) (ps qs : List Words) (e : ps ≡ qs) (n : List ℕ) (g : b ≡ isFound (retired current lift ps (storeIn current n))) where
+  said : {x : Bool} → b ≡ x → isFound (retired current must qs (storeIn current n)) ≡ x
   said z = rw (← c, ← e) (sym g ∙ z)
 
 module _ (s n : List ℕ) (d : ℕ) where
@@ -94,22 +93,22 @@ module _ (s n : List ℕ) (d : ℕ) where
   unfolding writeResult
   going-raises h t a y =
       rw (ne-eqb (stepAt s d) (countAt s d + countAt s d) h)
-      (step-none (mem t n a s) y d (ltb (stepAt s d) (countAt s d)) (eqb (stepAt s d) (countAt s d)) (announced narrow (getD (labelsAt s d) (stepAt s d) []) (storeIn narrow n))
-      (retired narrow (didChange (client (mem t n a s) d)) (getD (labelsAt s d) (stepAt s d - (countAt s d + 1)) [] ∷ []) (storeIn narrow n)) (writtenAt s d .change))
+      (step-none (mem t n a s) y d (ltb (stepAt s d) (countAt s d)) (eqb (stepAt s d) (countAt s d)) (announced (getD (labelsAt s d) (stepAt s d) []) (storeIn current n))
+      (retired current (didChange (client (mem t n a s) d)) (getD (labelsAt s d) (stepAt s d - (countAt s d + 1)) [] ∷ []) (storeIn current n)) (writtenAt s d .change))
 
   -- the last raise
   module _
-      (lift b : Bool) (c : lift ≡ didChange (clientIn narrow s d)) (ps : List Words) (e : ps ≡ getD (labelsAt s d) (stepAt s d - (countAt s d + 1)) [] ∷ [])
-      (g : b ≡ isFound (retired narrow lift ps (storeIn narrow n))) (l : stepAt s d ≡ countAt s d + countAt s d) (p : countAt s d < stepAt s d) (t a y : List ℕ) where
+      (lift b : Bool) (c : lift ≡ didChange (clientIn current s d)) (ps : List Words) (e : ps ≡ getD (labelsAt s d) (stepAt s d - (countAt s d + 1)) [] ∷ [])
+      (g : b ≡ isFound (retired current lift ps (storeIn current n))) (l : stepAt s d ≡ countAt s d + countAt s d) (p : countAt s d < stepAt s d) (t a y : List ℕ) where
     raising : stepOf (mem t n a s) y d
-        ≡ raiseResult (mem t n a s) y d true (retired narrow (didChange (clientIn narrow s d)) (getD (labelsAt s d) (stepAt s d - (countAt s d + 1)) [] ∷ []) (storeIn narrow n))
+        ≡ raiseResult (mem t n a s) y d true (retired current (didChange (clientIn current s d)) (getD (labelsAt s d) (stepAt s d - (countAt s d + 1)) [] ∷ []) (storeIn current n))
     unfolding writeResult client
     raising = rw (le-ltb (stepAt s d) (countAt s d) (omega arith), ne-eqb (stepAt s d) (countAt s d) (λ x. omega arith), eq-eqb (stepAt s d) (countAt s d + countAt s d) l)
 
     pub last-refused : b ≡ false → NoCount ≡ raises (stepOf (mem t n a s) y d)
     last-refused z = rw raising (last-not (mem t n a s) y d _ (said lift _ b c ps _ e n g z))
 
-    pub last-raises : b ≡ true → (r : Count) → r ≡ countOf NoCount (endOf (clientIn narrow s d)) → r ≡ raises (stepOf (mem t n a s) y d)
+    pub last-raises : b ≡ true → (r : Count) → r ≡ countOf NoCount (endOf (clientIn current s d)) → r ≡ raises (stepOf (mem t n a s) y d)
     last-raises z r f = f ∙ unfold client in rw raising (last-well (mem t n a s) y d _ (said lift _ b c ps _ e n g z))
 
 -- ---- an abandoning
@@ -127,7 +126,7 @@ module _ (m : Mem) (d : ℕ) (x : Outcome) where
   off-well none h = absurd (true≢false (sym h))
   off-well (some s) h = refl
 
-module _ (s n : List ℕ) (d : ℕ) (lift b : Bool) (ps : List Words) (g : b ≡ isFound (retired narrow lift ps (storeIn narrow n))) where
+module _ (s n : List ℕ) (d : ℕ) (lift b : Bool) (ps : List Words) (g : b ≡ isFound (retired current lift ps (storeIn current n))) where
   -- before the table step
   module _ (c : lift ≡ false) (e : ps ≡ announcedLabels (writtenAt s d) (stepAt s d)) (l : stepAt s d ≤ countAt s d) (t a : List ℕ) where
     pub back-refused : b ≡ false → NoCount ≡ given (abandonOf (mem t n a s) d)
@@ -138,14 +137,14 @@ module _ (s n : List ℕ) (d : ℕ) (lift b : Bool) (ps : List Words) (g : b ≡
     back-raises z = rw (abandon-before (mem t n a s) d (writtenAt s d) (stepAt s d) l) (off-well (mem t n a s) d Accepted _ (said lift false b c ps _ e n g z))
 
   -- after it
-  module _ (c : lift ≡ didChange (clientIn narrow s d)) (e : ps ≡ labelsLeft (writtenAt s d) (stepAt s d)) (l : countAt s d < stepAt s d) (t a : List ℕ) where
+  module _ (c : lift ≡ didChange (clientIn current s d)) (e : ps ≡ labelsLeft (writtenAt s d) (stepAt s d)) (l : countAt s d < stepAt s d) (t a : List ℕ) where
     left : abandonOf (mem t n a s) d
-        ≡ retireResult (mem t n a s) d (endOf (clientIn narrow s d)) (retired narrow (didChange (clientIn narrow s d)) (labelsLeft (writtenAt s d) (stepAt s d)) (storeIn narrow n))
+        ≡ retireResult (mem t n a s) d (endOf (clientIn current s d)) (retired current (didChange (clientIn current s d)) (labelsLeft (writtenAt s d) (stepAt s d)) (storeIn current n))
     unfolding client
     left = abandon-past (mem t n a s) d (writtenAt s d) (stepAt s d) l
 
     pub left-refused : b ≡ false → NoCount ≡ given (abandonOf (mem t n a s) d)
     left-refused z = rw left (off-not (mem t n a s) d _ _ (said lift _ b c ps _ e n g z))
 
-    pub left-raises : b ≡ true → (r : Count) → r ≡ countOf NoCount (endOf (clientIn narrow s d)) → r ≡ given (abandonOf (mem t n a s) d)
-    left-raises z r f = f ∙ end-any NoCount WriteAbandoned (clientIn narrow s d) ∙ rw left (off-well (mem t n a s) d _ _ (said lift _ b c ps _ e n g z))
+    pub left-raises : b ≡ true → (r : Count) → r ≡ countOf NoCount (endOf (clientIn current s d)) → r ≡ given (abandonOf (mem t n a s) d)
+    left-raises z r f = f ∙ end-any NoCount WriteAbandoned (clientIn current s d) ∙ rw left (off-well (mem t n a s) d _ _ (said lift _ b c ps _ e n g z))

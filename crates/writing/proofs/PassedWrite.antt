@@ -5,11 +5,10 @@ use mathlib.Core.List.{List}
 use Prim.Native.Nat.{ℕ}
 use native.Mathlib.Omega.{arith}
 use borrow.Author.Tests.{eq-eqb, ne-eqb}
-use Rattle.query.specs.Shape.{narrow}
 use Rattle.rules.specs.Layout.{reads}
 use Rattle.rules.specs.Work.{writing, workIn}
 use Rattle.rules.specs.Client.{kind, writeAt, workAt}
-use Rattle.rules.specs.Memory.{Mem, clientIn}
+use Rattle.rules.specs.Memory.{current, Mem, mem, clientIn}
 use Rattle.rules.specs.Refusals.{shape, client, stepCode, abandonCode}
 use Rattle.rules.specs.Sound.{Sound}
 use Rattle.rules.specs.Steps.{progressOf, progress}
@@ -27,13 +26,17 @@ table-held m d h i s =
     let e = i .columns in
     record { columns = (let l = s .least in omega arith, let l = s .most in omega arith); long = s .long .table; few = s .records }
 
-module _ (m : Mem) (d : ℕ) (h : Held) (i : IsHeld h (m .clients) d) (x : h .kind ≡ reads → ⊥) where
-  -- it is at work on what it writes
-  writes : workAt (shape m) (client m d) ≡ writing (writtenAt (m .clients) d)
-  unfolding workAt workIn writeAt client
-  writes = rw (ne-eqb (kind (clientIn narrow (m .clients) d)) reads (λ y. x (i .kind ∙ y)))
+module _ (tb nd an cl : List ℕ) (d : ℕ) (h : Held) (i : IsHeld h cl d) (x : h .kind ≡ reads → ⊥) where
+  -- the memories of the call
+  abbrev m : Mem
+  m = mem tb nd an cl
 
-  pub writer-at : AtWork m d → Writer h (m .clients) d
+  -- it is at work on what it writes
+  writes : workAt (shape m) (client m d) ≡ writing (writtenAt cl d)
+  unfolding workAt workIn writeAt client
+  writes = rw (ne-eqb (kind (clientIn current cl d)) reads (λ y. x (i .kind ∙ y)))
+
+  pub writer-at : AtWork m d → Writer h cl d
   unfolding client
   writer-at w = record {
     held = i;
@@ -42,7 +45,7 @@ module _ (m : Mem) (d : ℕ) (h : Held) (i : IsHeld h (m .clients) d) (x : h .ki
   }
 
   module _ (tray : List ℕ) (e : stepCode m tray d ≡ 0) where
-    pub writes-on : Writer h (m .clients) d
+    pub writes-on : Writer h cl d
     writes-on = writer-at (step-passed m tray d e .1)
 
     pub write-due : stepOf m tray d ≡ stepResult m tray d
@@ -50,7 +53,7 @@ module _ (m : Mem) (d : ℕ) (h : Held) (i : IsHeld h (m .clients) d) (x : h .ki
     write-due = rw (eq-eqb (stepCode m tray d) 0 e, writes)
 
   module _ (e : abandonCode m d ≡ 0) where
-    pub gives-up : Writer h (m .clients) d
+    pub gives-up : Writer h cl d
     gives-up = writer-at (abandon-passed m d e)
 
     pub abandon-due : abandonOf m d ≡ abandonResult m d

@@ -15,19 +15,20 @@ use Rattle.lists.specs.Lists.{same, listed}
 use Rattle.laws.proofs.ListLaws.{ne-same, and-left, and-right, listed-snoc}
 use Rattle.query.specs.Query.{Query, writeNode, writeCount}
 use Rattle.query.specs.Encoding.{columnsIn}
-use Rattle.query.specs.Shape.{maxColumns, narrow}
+use Rattle.query.specs.Shape.{maxColumns}
 use Rattle.query.proofs.NodeLists.{write-count-most, write-nodes-differ}
 use Rattle.query.proofs.EncodingLaws.{columns-length, label-words-injective}
 use Rattle.rules.specs.Layout.{maxRevision, lookRoom}
 use Rattle.rules.specs.Nodes.{Words, Store, pending, revision, nodePlace, isPresent, nodeOf, isPending}
 use Rattle.rules.specs.Nodes.{released, lifted, mayRetire, retired}
-use Rattle.rules.specs.Memory.{storeIn, withStore}
+use Rattle.rules.specs.Memory.{current, storeIn, withStore}
 use Rattle.nodes.specs.NodeContracts as contracts
 use Rattle.nodes.specs.NodeContracts.{Fit, tried, nodeAt, retirableSpot, retiredAt}
 use Rattle.nodes.specs.declared.Spot.{Spot}
 use Rattle.nodes.specs.declared.Spot.the-variants.{At, Nowhere}
-use Rattle.nodes.proofs.NodeStores.{Sized, Keeps, count-nodes, sized-in, store-back, store-self, store-twice}
-use Rattle.nodes.proofs.NodeSizes.{place-retired, retired-at, length-retired-at, sized-retired-at}
+use Rattle.nodes.proofs.NodeStores.{Keeps, count-nodes, sized-in, store-back, store-self, store-twice}
+use Rattle.rules.proofs.NodeSizes.{Sized}
+use Rattle.nodes.proofs.NodeSpots.{place-retired, retired-at, length-retired-at, sized-retired-at}
 use Rattle.nodes.proofs.NodesKept.{keeps-retired-at}
 use Rattle.revisions.specs.EffectiveRevision.{one, tally}
 use Rattle.revisions.proofs.Retirements.{Apart, allRetirable, retiredEach, retired-tests}
@@ -77,21 +78,21 @@ found-cond false s = refl
 
 module _ (lift : Bool) (q : Query) (i n : ℕ) (s : List ℕ) where
   pub test-start : i + n ≤ writeCount q
-      → isFound (retired narrow lift (labelsFrom q i n) (storeIn narrow s)) ≡ allRetirable lift (rest q i n 0) (storeIn narrow s)
+      → isFound (retired current lift (labelsFrom q i n) (storeIn current s)) ≡ allRetirable current lift (rest q i n 0) (storeIn current s)
   unfolding labelsFrom
   test-start h =
       let l : List Words = listed (labelAt q) i n in
-      let t : Store = storeIn narrow s in
+      let t : Store = storeIn current s in
       rw (← rest-all q i n)
-      (ap isFound (retired-tests lift l t (apart q i n h)) ∙ found-cond (allRetirable lift l t) (retiredEach lift l t))
+      (ap isFound (retired-tests current lift l t (apart q i n h)) ∙ found-cond (allRetirable current lift l t) (retiredEach lift l t))
 
-  module _ (b : Bool) (j : ℕ) (e : b ≡ allRetirable lift (rest q i n j) (storeIn narrow s)) where
+  module _ (b : Bool) (j : ℕ) (e : b ≡ allRetirable current lift (rest q i n j) (storeIn current s)) where
     pub test-end : n ≤ j → true ≡ b
     unfolding allRetirable
     test-end h = sym (e ∙ rw (rest-none q i n j h))
 
-    module _ (p : Words) (r : Bool) (f : p ≡ labelAt q (i + j)) (g : r ≡ mayRetire narrow lift p (storeIn narrow s)) (h : j < n) where
-      pub test-next : r ≡ true → b ≡ allRetirable lift (rest q i n (j + 1)) (storeIn narrow s)
+    module _ (p : Words) (r : Bool) (f : p ≡ labelAt q (i + j)) (g : r ≡ mayRetire current lift p (storeIn current s)) (h : j < n) where
+      pub test-next : r ≡ true → b ≡ allRetirable current lift (rest q i n (j + 1)) (storeIn current s)
       unfolding allRetirable
       test-next z = e ∙ rw (rest-more q i n j h, ← f, ← g, z)
 
@@ -109,13 +110,13 @@ spot-none true j e = let z : _≡_ {A = ℕ} 0 1 = cc in absurd (omega arith)
 spot-none false j e = refl
 
 module _ (lift : Bool) (p : Words) (s : Store) (x : Spot) (e : x ≡ retirableSpot lift p s) where
-  pub spot-there : (i : ℕ) → x ≡ At i → (mayRetire narrow lift p s ≡ true) × (i ≡ nodePlace p (s .nodes))
+  pub spot-there : (i : ℕ) → x ≡ At i → (mayRetire current lift p s ≡ true) × (i ≡ nodePlace p (s .nodes))
   unfolding retirableSpot
-  spot-there i f = spot-given (mayRetire narrow lift p s) i (nodePlace p (s .nodes)) (sym f ∙ e)
+  spot-there i f = spot-given (mayRetire current lift p s) i (nodePlace p (s .nodes)) (sym f ∙ e)
 
-  pub spot-missing : x ≡ Nowhere → mayRetire narrow lift p s ≡ false
+  pub spot-missing : x ≡ Nowhere → mayRetire current lift p s ≡ false
   unfolding retirableSpot
-  spot-missing f = spot-none (mayRetire narrow lift p s) (nodePlace p (s .nodes)) (sym f ∙ e)
+  spot-missing f = spot-none (mayRetire current lift p s) (nodePlace p (s .nodes)) (sym f ∙ e)
 
 places-snoc : (ps : List Words) (p : Words) (s : Store) → placesOf (ps ++ (p ∷ [])) s ≡ placesOf ps s ++ (nodePlace p (s .nodes) ∷ [])
 unfolding placesOf
@@ -161,11 +162,11 @@ few-nodes k m vs n e l =
 pub record Taking (lift : Bool) (l s₀ s : List ℕ) (j : ℕ) : Type 0 where
   pub fit : Fit s
   pub size : length s ≡ length s₀
-  pub can : CanTakeOff lift (drop j l) (storeIn narrow s)
-  pub left : takenOff lift (drop j l) (storeIn narrow s) ≡ takenOff lift l (storeIn narrow s₀)
-  pub mem : s ≡ withStore narrow s₀ (storeIn narrow s)
+  pub can : CanTakeOff lift (drop j l) (storeIn current s)
+  pub left : takenOff lift (drop j l) (storeIn current s) ≡ takenOff lift l (storeIn current s₀)
+  pub mem : s ≡ withStore current s₀ (storeIn current s)
 
-pub taking-none : (lift : Bool) (l s : List ℕ) → Fit s → CanTakeOff lift l (storeIn narrow s) → Taking lift l s s 0
+pub taking-none : (lift : Bool) (l s : List ℕ) → Fit s → CanTakeOff lift l (storeIn current s) → Taking lift l s s 0
 taking-none lift l s f c = record { fit = f; size = refl; can = c; left = refl; mem = sym (store-self s f) }
 
 module _ (lift : Bool) (l s₀ s : List ℕ) (j : ℕ) (x : Taking lift l s₀ s j) where
@@ -174,85 +175,85 @@ module _ (lift : Bool) (l s₀ s : List ℕ) (j : ℕ) (x : Taking lift l s₀ s
     next = drop-cons l j 0 h ∙ ap (λ (m : ℕ). getD l j 0 ∷ drop m l) (sym (add-one j))
 
     can-take :
-        CanRetire lift (getD l j 0) (storeIn narrow s)
-        × CanTakeOff lift (drop (j + 1) l) (retiredAt lift (getD l j 0) (storeIn narrow s))
+        CanRetire lift (getD l j 0) (storeIn current s)
+        × CanTakeOff lift (drop (j + 1) l) (retiredAt lift (getD l j 0) (storeIn current s))
     unfolding CanTakeOff
-    can-take = subst (λ (m : List ℕ). CanTakeOff lift m (storeIn narrow s)) next (x .can)
+    can-take = subst (λ (m : List ℕ). CanTakeOff lift m (storeIn current s)) next (x .can)
 
-    pub taking-marked : (getD l j 0 < getD s 1 0) × (0 < pending (nodeAt (getD l j 0) (storeIn narrow s)))
+    pub taking-marked : (getD l j 0 < getD s 1 0) × (0 < pending (nodeAt (getD l j 0) (storeIn current s)))
     taking-marked =
-        let n : length (storeIn narrow s .nodes) ≡ getD s 1 0 = count-nodes s in
-        let b : getD l j 0 < length (storeIn narrow s .nodes) = can-take .0 .below in
+        let n : length (storeIn current s .nodes) ≡ getD s 1 0 = count-nodes s in
+        let b : getD l j 0 < length (storeIn current s .nodes) = can-take .0 .below in
         (omega arith, can-take .0 .marked)
 
-    pub taking-room : lift ≡ true → revision narrow (nodeAt (getD l j 0) (storeIn narrow s)) < maxRevision narrow
+    pub taking-room : lift ≡ true → revision (nodeAt (getD l j 0) (storeIn current s)) < maxRevision current
     taking-room = can-take .0 .room
 
-    pub taking-more : Fit s₀ → (u : List ℕ) → u ≡ withStore narrow s (retiredAt lift (getD l j 0) (storeIn narrow s))
+    pub taking-more : Fit s₀ → (u : List ℕ) → u ≡ withStore current s (retiredAt lift (getD l j 0) (storeIn current s))
         → Taking lift l s₀ u (j + 1)
     unfolding takenOff
     taking-more f₀ u e =
-        let t : Store = retiredAt lift (getD l j 0) (storeIn narrow s) in
-        let z : Sized t = sized-retired-at lift (getD l j 0) (storeIn narrow s) (can-take .0 .below) (sized-in s (x .fit)) in
-        let k : Keeps s (withStore narrow s t) = keeps-retired-at s (x .fit) lift (getD l j 0) (taking-marked .0) in
-        let b : storeIn narrow u ≡ t = ap (storeIn narrow) e ∙ store-back s t (x .fit) z in
-        let n : length (t .nodes) ≡ length (storeIn narrow s .nodes) = length-retired-at lift (getD l j 0) (storeIn narrow s) in
+        let t : Store = retiredAt lift (getD l j 0) (storeIn current s) in
+        let z : Sized t = sized-retired-at lift (getD l j 0) (storeIn current s) (sized-in s (x .fit)) in
+        let k : Keeps s (withStore current s t) = keeps-retired-at s (x .fit) lift (getD l j 0) in
+        let b : storeIn current u ≡ t = ap (storeIn current) e ∙ store-back s t (x .fit) z in
+        let n : length (t .nodes) ≡ length (storeIn current s .nodes) = length-retired-at lift (getD l j 0) (storeIn current s) in
         record {
           fit = rw e (k .fit);
           size = ap length e ∙ k .size ∙ x .size;
           can = subst (CanTakeOff lift (drop (j + 1) l)) (sym b) (can-take .1);
-          left = ap (takenOff lift (drop (j + 1) l)) b ∙ sym (ap (λ (m : List ℕ). takenOff lift m (storeIn narrow s)) next) ∙ x .left;
+          left = ap (takenOff lift (drop (j + 1) l)) b ∙ sym (ap (λ (m : List ℕ). takenOff lift m (storeIn current s)) next) ∙ x .left;
           mem =
-              e ∙ ap (λ (y : List ℕ). withStore narrow y t) (x .mem)
-              ∙ store-twice s₀ (storeIn narrow s) t f₀ (sized-in s (x .fit)) z (λ y. omega arith)
-              ∙ ap (withStore narrow s₀) (sym b);
+              e ∙ ap (λ (y : List ℕ). withStore current y t) (x .mem)
+              ∙ store-twice s₀ (storeIn current s) t f₀ (sized-in s (x .fit)) z (λ y. omega arith)
+              ∙ ap (withStore current s₀) (sym b);
         }
 
-  pub taking-all : length l ≤ j → s ≡ withStore narrow s₀ (takenOff lift l (storeIn narrow s₀))
+  pub taking-all : length l ≤ j → s ≡ withStore current s₀ (takenOff lift l (storeIn current s₀))
   unfolding takenOff
   taking-all h =
       x .mem
-      ∙ ap (withStore narrow s₀) (sym (ap (λ (m : List ℕ). takenOff lift m (storeIn narrow s)) (drop-of-length-le l h)) ∙ x .left)
+      ∙ ap (withStore current s₀) (sym (ap (λ (m : List ℕ). takenOff lift m (storeIn current s)) (drop-of-length-le l h)) ∙ x .left)
 
 -- ---- by places as by labels
-found-first : (lift : Bool) (p : Words) (l : List Words) (s : Store) → isFound (retired narrow lift (p ∷ l) s) ≡ true
-    → (mayRetire narrow lift p s ≡ true) × (retired narrow lift (p ∷ l) s ≡ retired narrow lift l (released p (lifted narrow lift p s)))
+found-first : (lift : Bool) (p : Words) (l : List Words) (s : Store) → isFound (retired current lift (p ∷ l) s) ≡ true
+    → (mayRetire current lift p s ≡ true) × (retired current lift (p ∷ l) s ≡ retired current lift l (released p (lifted lift p s)))
 unfolding retired isFound
-found-first lift p l s h = go (mayRetire narrow lift p s) h
+found-first lift p l s h = go (mayRetire current lift p s) h
   where
     o : Option Store
-    o = retired narrow lift l (released p (lifted narrow lift p s))
+    o = retired current lift l (released p (lifted lift p s))
 
     go : (b : Bool) → isFound (cond b o none) ≡ true → (b ≡ true) × (cond b o none ≡ o)
     go true h = (refl, refl)
     go false h = let z : _≡_ {A = ℕ} 0 1 = cc in absurd (omega arith)
 
 -- a mark taken off moves no node
-places-stay : (lift : Bool) (p : Words) (ps : List Words) (s : Store) → placesOf ps (released p (lifted narrow lift p s)) ≡ placesOf ps s
+places-stay : (lift : Bool) (p : Words) (ps : List Words) (s : Store) → placesOf ps (released p (lifted lift p s)) ≡ placesOf ps s
 unfolding placesOf
 places-stay lift p [] s = refl
 places-stay lift p (q ∷ ps) s = ap₂ (λ (i : ℕ) (l : List ℕ). i ∷ l) (place-retired lift p q s) (places-stay lift p ps s)
 
-may-there : (lift : Bool) (p : Words) (s : Store) → mayRetire narrow lift p s ≡ true → CanRetire lift (nodePlace p (s .nodes)) s
+may-there : (lift : Bool) (p : Words) (s : Store) → mayRetire current lift p s ≡ true → CanRetire lift (nodePlace p (s .nodes)) s
 unfolding mayRetire isPending isPresent nodeOf
 may-there lift p s h =
     let i : ℕ = nodePlace p (s .nodes) in
     let n : ℕ = pending (nodeAt i s) in
-    let r : Bool = ltb (revision narrow (nodeAt i s)) (maxRevision narrow) in
+    let r : Bool = ltb (revision (nodeAt i s)) (maxRevision current) in
     let x : Bool = ltb i (length (s .nodes)) in
     let a : x && ltb 0 n ≡ true = and-left (x && ltb 0 n) (not lift || r) h in
     record {
       below = ltb-true i (length (s .nodes)) (and-left x (ltb 0 n) a);
       marked = ltb-true 0 n (and-right x (ltb 0 n) a);
-      room = λ e. ltb-true (revision narrow (nodeAt i s)) (maxRevision narrow) (rw e at (and-right (x && ltb 0 n) (not lift || r) h));
+      room = λ e. ltb-true (revision (nodeAt i s)) (maxRevision current) (rw e at (and-right (x && ltb 0 n) (not lift || r) h));
     }
 
-by-places : (lift : Bool) (ps : List Words) (s : Store) → isFound (retired narrow lift ps s) ≡ true
-    → CanTakeOff lift (placesOf ps s) s × (retired narrow lift ps s ≡ some (takenOff lift (placesOf ps s) s))
+by-places : (lift : Bool) (ps : List Words) (s : Store) → isFound (retired current lift ps s) ≡ true
+    → CanTakeOff lift (placesOf ps s) s × (retired current lift ps s ≡ some (takenOff lift (placesOf ps s) s))
 unfolding placesOf takenOff CanTakeOff retired
 by-places lift [] s h = (tt, refl)
 by-places lift (p ∷ ps) s h =
-    let t : Store = released p (lifted narrow lift p s) in
+    let t : Store = released p (lifted lift p s) in
     let f = found-first lift p ps s h in
     let r = by-places lift ps t (ap isFound (sym (f .1)) ∙ h) in
     let e : placesOf ps t ≡ placesOf ps s = places-stay lift p ps s in
@@ -263,16 +264,16 @@ by-places lift (p ∷ ps) s h =
 
 module _
     (lift : Bool) (ps : List Words) (s l : List ℕ)
-    (o : isFound (retired narrow lift ps (storeIn narrow s)) ≡ true) (e : l ≡ placesOf ps (storeIn narrow s)) where
-  pub can-take-off : CanTakeOff lift l (storeIn narrow s)
-  can-take-off = subst (λ (m : List ℕ). CanTakeOff lift m (storeIn narrow s)) (sym e) (by-places lift ps (storeIn narrow s) o .0)
+    (o : isFound (retired current lift ps (storeIn current s)) ≡ true) (e : l ≡ placesOf ps (storeIn current s)) where
+  pub can-take-off : CanTakeOff lift l (storeIn current s)
+  can-take-off = subst (λ (m : List ℕ). CanTakeOff lift m (storeIn current s)) (sym e) (by-places lift ps (storeIn current s) o .0)
 
-  pub took-off : (u : List ℕ) → u ≡ withStore narrow s (takenOff lift l (storeIn narrow s))
-      → contracts.attempt true u ≡ tried s (retired narrow lift ps (storeIn narrow s))
+  pub took-off : (u : List ℕ) → u ≡ withStore current s (takenOff lift l (storeIn current s))
+      → contracts.attempt true u ≡ tried s (retired current lift ps (storeIn current s))
   unfolding tried
   took-off u f =
-      ap (contracts.attempt true) (f ∙ ap (λ (m : List ℕ). withStore narrow s (takenOff lift m (storeIn narrow s))) e)
-      ∙ ap (tried s) (sym (by-places lift ps (storeIn narrow s) o .1))
+      ap (contracts.attempt true) (f ∙ ap (λ (m : List ℕ). withStore current s (takenOff lift m (storeIn current s))) e)
+      ∙ ap (tried s) (sym (by-places lift ps (storeIn current s) o .1))
 
 pub took-none : (s : List ℕ) (o : Option Store) → isFound o ≡ false → contracts.attempt false s ≡ tried s o
 unfolding tried isFound

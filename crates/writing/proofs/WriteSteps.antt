@@ -16,7 +16,7 @@ use Rattle.query.specs.declared.Column.{Column}
 use Rattle.query.specs.declared.Column.the-variants.{Is, Wildcard}
 use Rattle.query.specs.Query.{Query, Record, writeCount}
 use Rattle.query.specs.Encoding.{recordOf, columnValue, keyWords, queryIn, isKey, bareKey}
-use Rattle.query.specs.Shape.{Shape, maxColumns, narrow}
+use Rattle.query.specs.Shape.{Shape, maxColumns}
 use Rattle.query.proofs.EncodingLaws.{columns-length, query-in-length}
 use Rattle.rules.specs.declared.Outcome.{Outcome}
 use Rattle.rules.specs.declared.Outcome.the-variants.{Refused, Accepted, Ended, Full}
@@ -26,7 +26,7 @@ use Rattle.rules.specs.Nodes.{Words, Store, announced, retired}
 use Rattle.rules.specs.Work.{Write, writeLabels, writeIn, changeIn, stepsInAll}
 use Rattle.rules.specs.Answers.{keyIn}
 use Rattle.rules.specs.Client.{Client, entryOf, didChange, foundFull, idle, queryAt, writeAt, stepped, wrote}
-use Rattle.rules.specs.Memory.{shapeIn, Mem, mem, recordsIn, withRecords, storeIn, withStore, clientIn, withClient}
+use Rattle.rules.specs.Memory.{current, shapeIn, Mem, mem, recordsIn, withRecords, storeIn, withStore, clientIn, withClient}
 use Rattle.rules.specs.Outcome.{result, resultWith}
 use Rattle.rules.specs.Refusals.{client}
 use Rattle.rules.specs.Steps.{nowAt, storeBack, announceResult, writeTableResult, endOf, raiseResult, writeResult}
@@ -116,10 +116,10 @@ module _ {h : Held} {s : List ℕ} {d : ℕ} (w : Writer h s d) where
   step-small = omega (arith, step-most, writer-few w)
 
   -- what it does to the table
-  record-held : take (h .columns) (h .values) ≡ recordOf (queryAt (shapeIn s) (clientIn narrow s d))
+  record-held : take (h .columns) (h .values) ≡ recordOf (queryAt (shapeIn s) (clientIn current s d))
   unfolding queryAt
   record-held =
-      let key : List ℕ = keyIn (entryOf (clientIn narrow s d)) in
+      let key : List ℕ = keyIn (entryOf (clientIn current s d)) in
       let k : isKey (shapeIn s) key ≡ true = rw (writer-bare w) at (busy-key (w .busy)) in
       rw (w .held .columns, w .held .values, writer-bare w) (record-in (shapeIn s) key (w .busy .most) k)
 
@@ -133,7 +133,7 @@ module _ {h : Held} {s : List ℕ} {d : ℕ} (w : Writer h s d) where
   held-width = go (eqb (h .kind) inserts)
     where
       q : Query
-      q = queryIn (shapeIn s) (bareKey (keyIn (entryOf (clientIn narrow s d))))
+      q = queryIn (shapeIn s) (bareKey (keyIn (entryOf (clientIn current s d))))
 
       n : length (take (h .columns) (h .values)) ≡ h .columns
       n = ap length (record-held ∙ sym (record-values q)) ∙ length-map q columnValue ∙ query-in-length (shapeIn s) _ ∙ sym (w .held .columns)
@@ -190,16 +190,16 @@ module _ {h : Held} {s : List ℕ} {d : ℕ} (w : Writer h s d) where
 
 -- ---- the steps
 module _ (t n a s y : List ℕ) (d : ℕ) (w : Write) (i : ℕ) (u : List ℕ) (st : Store) (v : List ℕ) where
-  announce-stored : i < length (writeLabels w) → announced narrow (getD (writeLabels w) i []) (storeIn narrow n) ≡ some st
-      → u ≡ withStore narrow n st → v ≡ withClient narrow s d (stepped (clientIn narrow s d))
+  announce-stored : i < length (writeLabels w) → announced (getD (writeLabels w) i []) (storeIn current n) ≡ some st
+      → u ≡ withStore current n st → v ≡ withClient current s d (stepped (clientIn current s d))
       → resultWith Accepted (mem t u a v) y ≡ writeResult (mem t n a s) y d w i
   unfolding writeResult announceResult nowAt storeBack client
   announce-stored h e f l = rw (lt-ltb i (length (writeLabels w)) h, e, f, l)
 
   raise-stored : length (writeLabels w) < i
-      → retired narrow (didChange (clientIn narrow s d)) (getD (writeLabels w) (i - (length (writeLabels w) + 1)) [] ∷ []) (storeIn narrow n) ≡ some st
-      → u ≡ withStore narrow n st → (last : Bool) (o : Outcome) → last ≡ eqb i (length (writeLabels w) + length (writeLabels w))
-      → (o ≡ raiseEnd last (clientIn narrow s d)) × (v ≡ withClient narrow s d (raiseLeft last (clientIn narrow s d)))
+      → retired current (didChange (clientIn current s d)) (getD (writeLabels w) (i - (length (writeLabels w) + 1)) [] ∷ []) (storeIn current n) ≡ some st
+      → u ≡ withStore current n st → (last : Bool) (o : Outcome) → last ≡ eqb i (length (writeLabels w) + length (writeLabels w))
+      → (o ≡ raiseEnd last (clientIn current s d)) × (v ≡ withClient current s d (raiseLeft last (clientIn current s d)))
       → resultWith o (mem t u a v) y ≡ writeResult (mem t n a s) y d w i
   unfolding writeResult raiseResult nowAt storeBack client raiseEnd raiseLeft
   raise-stored h e f last o m l =
@@ -207,76 +207,76 @@ module _ (t n a s y : List ℕ) (d : ℕ) (w : Write) (i : ℕ) (u : List ℕ) (
       (go last)
     where
       left : Client → Mem
-      left c = mem t (withStore narrow n st) a (withClient narrow s d c)
+      left c = mem t (withStore current n st) a (withClient current s d c)
 
       go : (f : Bool)
-          → resultWith (cond f (endOf (clientIn narrow s d)) Accepted) (left (cond f (idle narrow) (stepped (clientIn narrow s d)))) y
-          ≡ cond f (resultWith (endOf (clientIn narrow s d)) (left (idle narrow)) y)
-          (resultWith Accepted (left (stepped (clientIn narrow s d))) y)
+          → resultWith (cond f (endOf (clientIn current s d)) Accepted) (left (cond f idle (stepped (clientIn current s d)))) y
+          ≡ cond f (resultWith (endOf (clientIn current s d)) (left idle) y)
+          (resultWith Accepted (left (stepped (clientIn current s d))) y)
       go true = refl
       go false = refl
 
 module _ (t n a s y : List ℕ) (d : ℕ) (w : Write) (i : ℕ) (b : Bool) (u : List ℕ) where
   module _
-      (p : Words) (e : p ≡ getD (writeLabels w) i []) (g : attempt b u ≡ tried n (announced narrow p (storeIn narrow n)))
+      (p : Words) (e : p ≡ getD (writeLabels w) i []) (g : attempt b u ≡ tried n (announced p (storeIn current n)))
       (h : i < length (writeLabels w)) where
     pub announce-refused : b ≡ false → resultWith (Refused 3) (mem t u a s) y ≡ writeResult (mem t n a s) y d w i
     unfolding writeResult announceResult
     announce-refused z =
-        let x = went-not n (announced narrow p (storeIn narrow n)) u (rw z at g) in
+        let x = went-not n (announced p (storeIn current n)) u (rw z at g) in
         rw (lt-ltb i (length (writeLabels w)) h, ← e, x .0, x .1)
 
-    pub announce-done : b ≡ true → (v : List ℕ) → v ≡ withClient narrow s d (stepped (clientIn narrow s d))
+    pub announce-done : b ≡ true → (v : List ℕ) → v ≡ withClient current s d (stepped (clientIn current s d))
         → resultWith Accepted (mem t u a v) y ≡ writeResult (mem t n a s) y d w i
     announce-done z v l =
-        let x : Went n (announced narrow p (storeIn narrow n)) u = went-well n (announced narrow p (storeIn narrow n)) u (rw z at g) in
-        let o = ap (λ (m : Words). announced narrow m (storeIn narrow n)) (sym e) ∙ x .is in
+        let x : Went n (announced p (storeIn current n)) u = went-well n (announced p (storeIn current n)) u (rw z at g) in
+        let o = ap (λ (m : Words). announced m (storeIn current n)) (sym e) ∙ x .is in
         announce-stored t n a s y d w i u (x .store) v h o (x .mem) l
 
   module _
-      (ps : List Words) (e : ps ≡ getD (writeLabels w) (i - (length (writeLabels w) + 1)) [] ∷ []) (lift : Bool) (c : lift ≡ didChange (clientIn narrow s d))
-      (g : attempt b u ≡ tried n (retired narrow lift ps (storeIn narrow n))) (h : length (writeLabels w) < i) where
+      (ps : List Words) (e : ps ≡ getD (writeLabels w) (i - (length (writeLabels w) + 1)) [] ∷ []) (lift : Bool) (c : lift ≡ didChange (clientIn current s d))
+      (g : attempt b u ≡ tried n (retired current lift ps (storeIn current n))) (h : length (writeLabels w) < i) where
     pub raise-refused : b ≡ false → resultWith (Refused 3) (mem t u a s) y ≡ writeResult (mem t n a s) y d w i
     unfolding writeResult raiseResult client
     raise-refused z =
-        let x = went-not n (retired narrow lift ps (storeIn narrow n)) u (rw z at g) in
+        let x = went-not n (retired current lift ps (storeIn current n)) u (rw z at g) in
         rw (le-ltb i (length (writeLabels w)) (omega arith), ne-eqb i (length (writeLabels w)) (λ m. omega arith), ← e, ← c, x .0, x .1)
 
     pub raise-done : b ≡ true → (last : Bool) (o : Outcome) (v : List ℕ) → last ≡ eqb i (length (writeLabels w) + length (writeLabels w))
-        → (o ≡ raiseEnd last (clientIn narrow s d)) × (v ≡ withClient narrow s d (raiseLeft last (clientIn narrow s d)))
+        → (o ≡ raiseEnd last (clientIn current s d)) × (v ≡ withClient current s d (raiseLeft last (clientIn current s d)))
         → resultWith o (mem t u a v) y ≡ writeResult (mem t n a s) y d w i
     raise-done z last o v m l =
-        let x : Went n (retired narrow lift ps (storeIn narrow n)) u = went-well n _ u (rw z at g) in
-        let r = ap (λ (l : List Words). retired narrow (didChange (clientIn narrow s d)) l (storeIn narrow n)) (sym e)
-        ∙ ap (λ (o : Bool). retired narrow o ps (storeIn narrow n)) (sym c) ∙ x .is in
+        let x : Went n (retired current lift ps (storeIn current n)) u = went-well n _ u (rw z at g) in
+        let r = ap (λ (l : List Words). retired current (didChange (clientIn current s d)) l (storeIn current n)) (sym e)
+        ∙ ap (λ (o : Bool). retired current o ps (storeIn current n)) (sym c) ∙ x .is in
         raise-stored t n a s y d w i u (x .store) v h r (x .mem) last o m l
 
 -- ---- the abandoning
 -- marks are taken off the nodes of some labels, and the client is idle: with and without a lift, and with any outcome
-off-stored : (t n a s : List ℕ) (d : ℕ) (o : Outcome) (r : Option Store) (u : List ℕ) (st : Store) (v : List ℕ) → r ≡ some st → u ≡ withStore narrow n st
-    → v ≡ withClient narrow s d (idle narrow) → result o (mem t u a v) ≡ retireResult (mem t n a s) d o r
+off-stored : (t n a s : List ℕ) (d : ℕ) (o : Outcome) (r : Option Store) (u : List ℕ) (st : Store) (v : List ℕ) → r ≡ some st → u ≡ withStore current n st
+    → v ≡ withClient current s d idle → result o (mem t u a v) ≡ retireResult (mem t n a s) d o r
 unfolding retireResult nowAt storeBack
 off-stored t n a s d o r u st v e f l = rw (e, f, l)
 
 module _
     (t n a s : List ℕ) (d : ℕ) (lift must b : Bool) (c : lift ≡ must) (u : List ℕ) (ps qs : List Words) (e : ps ≡ qs)
-    (g : attempt b u ≡ tried n (retired narrow lift ps (storeIn narrow n))) (o : Outcome) where
+    (g : attempt b u ≡ tried n (retired current lift ps (storeIn current n))) (o : Outcome) where
   pub off-refused : b ≡ false
-      → result (Refused 3) (mem t u a s) ≡ retireResult (mem t n a s) d o (retired narrow must qs (storeIn narrow n))
+      → result (Refused 3) (mem t u a s) ≡ retireResult (mem t n a s) d o (retired current must qs (storeIn current n))
   unfolding retireResult
   off-refused z =
-      let x = went-not n (retired narrow lift ps (storeIn narrow n)) u (rw z at g) in
+      let x = went-not n (retired current lift ps (storeIn current n)) u (rw z at g) in
       rw (← e, ← c, x .0, x .1)
 
-  pub off-done : b ≡ true → (r : Outcome) (v : List ℕ) → (r ≡ o) × (v ≡ withClient narrow s d (idle narrow))
-      → result r (mem t u a v) ≡ retireResult (mem t n a s) d o (retired narrow must qs (storeIn narrow n))
+  pub off-done : b ≡ true → (r : Outcome) (v : List ℕ) → (r ≡ o) × (v ≡ withClient current s d idle)
+      → result r (mem t u a v) ≡ retireResult (mem t n a s) d o (retired current must qs (storeIn current n))
   off-done z r v l =
-      let x : Went n (retired narrow lift ps (storeIn narrow n)) u = went-well n _ u (rw z at g) in
-      rw (← e, ← c, l .0) (off-stored t n a s d o (retired narrow lift ps (storeIn narrow n)) u (x .store) v (x .is) (x .mem) (l .1))
+      let x : Went n (retired current lift ps (storeIn current n)) u = went-well n _ u (rw z at g) in
+      rw (← e, ← c, l .0) (off-stored t n a s d o (retired current lift ps (storeIn current n)) u (x .store) v (x .is) (x .mem) (l .1))
 
 pub table-done : (t n a s y : List ℕ) (d k : ℕ) (w : Write) (c : Change) (i : ℕ) (x v : List ℕ) (r : Report) → i ≡ length (writeLabels w)
     → k ≡ shapeIn s .columns → c ≡ w .change → (r ≡ reported c (recordsIn k t)) × (x ≡ withRecords k t (effect c (recordsIn k t)))
-    → v ≡ withClient narrow s d (wrote (r .changed) (r .full) (clientIn narrow s d))
+    → v ≡ withClient current s d (wrote (r .changed) (r .full) (clientIn current s d))
     → resultWith Accepted (mem x n a v) y ≡ writeResult (mem t n a s) y d w i
 unfolding writeResult writeTableResult nowAt client reported
 table-done t n a s y d k w c i x v r h e f l m =
@@ -285,14 +285,14 @@ table-done t n a s y d k w c i x v r h e f l m =
 -- the client keeps whether the two lists differ (S-6)
 pub table-says : (t s : List ℕ) (d k : ℕ) (c : Change) (x v : List ℕ) (r : Report) → ClientContracts.Fit s d → TableContracts.Fit k t → OfWidth k c
     → (r ≡ reported c (recordsIn k t)) × (x ≡ withRecords k t (effect c (recordsIn k t)))
-    → v ≡ withClient narrow s d (wrote (r .changed) (r .full) (clientIn narrow s d))
-    → SaysChanged (didChange (clientIn narrow v d)) (recordsIn k t) (recordsIn k x)
+    → v ≡ withClient current s d (wrote (r .changed) (r .full) (clientIn current s d))
+    → SaysChanged (didChange (clientIn current v d)) (recordsIn k t) (recordsIn k x)
 unfolding reported
 table-says t s d k c x v r f g o l m =
-    let b : Client = clientIn narrow s d in
-    let w : length b ≡ clientWidth narrow = length-client s d f in
-    let e : didChange (clientIn narrow v d) ≡ r .changed =
-    ap (λ (y : List ℕ). didChange (clientIn narrow y d)) m
+    let b : Client = clientIn current s d in
+    let w : length b ≡ clientWidth = length-client s d f in
+    let e : didChange (clientIn current v d) ≡ r .changed =
+    ap (λ (y : List ℕ). didChange (clientIn current y d)) m
     ∙ ap didChange (client-same s d f (wrote (r .changed) (r .full) b) (wrote-wide b w (r .changed) (r .full))) ∙ wrote-change b w (r .changed) (r .full) in
     rw (e, l .0, l .1, write-records k t c g o) (changes-says c (recordsIn k t))
 
@@ -340,12 +340,12 @@ module _ (c : Client) (b : Bool) (e : b ≡ foundFull c) where
   end-given h x f = rw (← e, h, f)
 
 module _ (s : List ℕ) (d : ℕ) (last : Bool) (v : List ℕ) where
-  pub last-ends : (o : Outcome) → last ≡ true → (o ≡ endOf (clientIn narrow s d)) × (v ≡ withClient narrow s d (idle narrow))
-      → (o ≡ raiseEnd last (clientIn narrow s d)) × (v ≡ withClient narrow s d (raiseLeft last (clientIn narrow s d)))
+  pub last-ends : (o : Outcome) → last ≡ true → (o ≡ endOf (clientIn current s d)) × (v ≡ withClient current s d idle)
+      → (o ≡ raiseEnd last (clientIn current s d)) × (v ≡ withClient current s d (raiseLeft last (clientIn current s d)))
   unfolding raiseEnd raiseLeft
   last-ends o h e = rw h e
 
-  pub last-not : last ≡ false → v ≡ withClient narrow s d (stepped (clientIn narrow s d))
-      → (Accepted ≡ raiseEnd last (clientIn narrow s d)) × (v ≡ withClient narrow s d (raiseLeft last (clientIn narrow s d)))
+  pub last-not : last ≡ false → v ≡ withClient current s d (stepped (clientIn current s d))
+      → (Accepted ≡ raiseEnd last (clientIn current s d)) × (v ≡ withClient current s d (raiseLeft last (clientIn current s d)))
   unfolding raiseEnd raiseLeft
   last-not h e = rw h (refl, e)

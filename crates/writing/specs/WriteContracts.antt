@@ -10,7 +10,6 @@ use lib.ListN.{length, take}
 use Rattle.lists.specs.Lists.{listed}
 use Rattle.query.specs.Query.{Query, writeNode}
 use Rattle.query.specs.Encoding.{labelWords}
-use Rattle.query.specs.Shape.{narrow}
 use Rattle.rules.specs.declared.Outcome.{Outcome}
 use Rattle.rules.specs.declared.Outcome.the-variants.{Accepted}
 use Rattle.rules.specs.Layout.{maxRevision, inserts}
@@ -18,8 +17,9 @@ use Rattle.rules.specs.Table.{Table, Change, insert, delete, changes, noRoom}
 use Rattle.rules.specs.Nodes.{Words, Store, pending, revision, nodePlace, retired}
 use Rattle.rules.specs.Work.{writeLabels}
 use Rattle.rules.specs.Client.{Client, steps, didChange, idle, stepped}
-use Rattle.rules.specs.Memory.{Mem, clientIn, storeIn}
+use Rattle.rules.specs.Memory.{current, Mem, clientIn, storeIn}
 use Rattle.rules.specs.Outcome.{Result, StepResult}
+use Rattle.rules.specs.Refusals.{form}
 use Rattle.rules.specs.Steps.{writeResult, endOf}
 use Rattle.rules.specs.Calls.{announcedLabels, labelsLeft, retireResult, abandonedWrite}
 use Rattle.nodes.specs.NodeContracts.{nodeAt, retiredAt}
@@ -29,7 +29,7 @@ use Rattle.writing.specs.declared.Report.{Report}
 
 -- how many steps the write has made; the labels of its nodes, and how many there are
 abbrev pub stepAt : List ℕ → ℕ → ℕ
-stepAt s d = steps (clientIn narrow s d)
+stepAt s d = steps (clientIn current s d)
 
 abbrev pub labelsAt : List ℕ → ℕ → List Words
 labelsAt s d = writeLabels (writtenAt s d)
@@ -43,12 +43,12 @@ stepOf m tray d = writeResult m tray d (writtenAt (m .clients) d) (stepAt (m .cl
 
 -- what the taking back of its marks leaves; and what the raises that are left leave, all at once (S-4), with a lift if the table changed (S-6)
 abbrev pub backOf : Mem → ℕ → Result
-backOf m d = retireResult m d Accepted (retired narrow false (announcedLabels (writtenAt (m .clients) d) (stepAt (m .clients) d)) (storeIn narrow (m .nodes)))
+backOf m d = retireResult m d Accepted (retired (form m) false (announcedLabels (writtenAt (m .clients) d) (stepAt (m .clients) d)) (storeIn (form m) (m .nodes)))
 
 abbrev pub raisedOf : Mem → ℕ → Result
 raisedOf m d =
-    retireResult m d (endOf (clientIn narrow (m .clients) d))
-    (retired narrow (didChange (clientIn narrow (m .clients) d)) (labelsLeft (writtenAt (m .clients) d) (stepAt (m .clients) d)) (storeIn narrow (m .nodes)))
+    retireResult m d (endOf (clientIn (form m) (m .clients) d))
+    (retired (form m) (didChange (clientIn (form m) (m .clients) d)) (labelsLeft (writtenAt (m .clients) d) (stepAt (m .clients) d)) (storeIn (form m) (m .nodes)))
 
 -- what its abandoning leaves: the one before its table step, the other after it
 abbrev pub abandonOf : Mem → ℕ → Result
@@ -70,7 +70,7 @@ unfoldable pub raiseEnd : Bool → Client → Outcome
 raiseEnd isLast c = cond isLast (endOf c) Accepted
 
 unfoldable pub raiseLeft : Bool → Client → Client
-raiseLeft isLast c = cond isLast (idle narrow) (stepped c)
+raiseLeft isLast c = cond isLast idle (stepped c)
 
 -- ---- marks taken off, by the labels of the nodes and by their places
 -- the label of the write's node i, in five numbers; and the labels of n nodes, from number i on
@@ -99,7 +99,7 @@ takenOff lift (i ∷ l) s = takenOff lift l (retiredAt lift i s)
 pub record CanRetire (lift : Bool) (i : ℕ) (s : Store) : Type 0 where
   pub below : i < length (s .nodes)
   pub marked : 0 < pending (nodeAt i s)
-  pub room : lift ≡ true → revision narrow (nodeAt i s) < maxRevision narrow
+  pub room : lift ≡ true → revision (nodeAt i s) < maxRevision current
 
 -- each is so when its turn comes
 unfoldable pub CanTakeOff : Bool → List ℕ → Store → Type 0

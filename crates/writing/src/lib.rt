@@ -8,11 +8,10 @@ ghost use mathlib.Core.Path.{_≡_};
 ghost use mathlib.Core.List.{List};
 ghost use Prim.Native.Nat.{ℕ, _≤_, _<_};
 ghost use lib.ListN.{take};
-ghost use Rattle.query.specs.Shape.{narrow};
 ghost use Rattle.rules.specs.Layout.{maxWord};
 ghost use Rattle.rules.specs.Table.{insert, effect, SaysChanged};
 ghost use Rattle.rules.specs.Client.{didChange, idle};
-ghost use Rattle.rules.specs.Memory.{mem, recordsIn, withRecords, clientIn, withClient};
+ghost use Rattle.rules.specs.Memory.{current, mem, recordsIn, withRecords, clientIn, withClient};
 ghost use Rattle.rules.specs.Outcome.{result, resultWith};
 ghost use Rattle.rules.specs.Steps.{endOf};
 ghost use Rattle.nodes.specs.NodeContracts;
@@ -97,7 +96,7 @@ fn write_table_step(table: &mut [u32], clients: &mut [u32], d: usize, h: Held) -
     requires { ⌜ TableContracts.Fit (h .columns) (now table) ⌝ }
     requires { ⌜ stepAt (now clients) d ≡ countAt (now clients) d ⌝ }
     ensures { λ r. ⌜ ((n a y : List ℕ) → resultWith r (mem (now (table .exit)) n a (now (clients .exit))) y ≡ stepOf (mem (now (table .entry)) n a (now (clients .entry))) y d) ⌝ }
-    ensures { λ r. ⌜ SaysChanged (didChange (clientIn narrow (now (clients .exit)) d)) (recordsIn (h .columns) (now (table .entry))) (recordsIn (h .columns) (now (table .exit))) ⌝ }
+    ensures { λ r. ⌜ SaysChanged (didChange (clientIn current (now (clients .exit)) d)) (recordsIn (h .columns) (now (table .entry))) (recordsIn (h .columns) (now (table .exit))) ⌝ }
 {
     let said = change(table, h);
     clients::set_wrote(clients, d, said.changed, said.full);
@@ -108,7 +107,7 @@ fn write_table_step(table: &mut [u32], clients: &mut [u32], d: usize, h: Held) -
 // Ends a write: the client is idle, and what it kept of the table step is the outcome.
 fn end(clients: &mut [u32], d: usize) -> Outcome
     requires { ⌜ ClientContracts.Fit (now clients) d ⌝ }
-    ensures { λ r. ⌜ (r ≡ endOf (clientIn narrow (now (clients .entry)) d)) × (now (clients .exit) ≡ withClient narrow (now (clients .entry)) d (idle narrow)) ⌝ }
+    ensures { λ r. ⌜ (r ≡ endOf (clientIn current (now (clients .entry)) d)) × (now (clients .exit) ≡ withClient current (now (clients .entry)) d idle) ⌝ }
 {
     let full = clients::found_full(clients, d);
     let changed = clients::did_change(clients, d);
@@ -122,7 +121,7 @@ fn end(clients: &mut [u32], d: usize) -> Outcome
 // What a raise leaves of the client: the last one ends the write.
 fn after_raise(clients: &mut [u32], d: usize, last: bool) -> Outcome
     requires { ⌜ ClientContracts.Fit (now clients) d × (stepAt (now clients) d < maxWord) ⌝ }
-    ensures { λ r. ⌜ (r ≡ raiseEnd last (clientIn narrow (now (clients .entry)) d)) × (now (clients .exit) ≡ withClient narrow (now (clients .entry)) d (raiseLeft last (clientIn narrow (now (clients .entry)) d))) ⌝ }
+    ensures { λ r. ⌜ (r ≡ raiseEnd last (clientIn current (now (clients .entry)) d)) × (now (clients .exit) ≡ withClient current (now (clients .entry)) d (raiseLeft last (clientIn current (now (clients .entry)) d))) ⌝ }
 {
     if last {
         return end(clients, d);

@@ -9,9 +9,9 @@ ghost use mathlib.Core.Bool.{true};
 ghost use Prim.Native.Nat.{_+_, _≤_};
 ghost use lib.ListN.{length, take};
 ghost use Rattle.query.specs.Query.{writeCount};
-ghost use Rattle.query.specs.Shape.{maxColumns, narrow};
+ghost use Rattle.query.specs.Shape.{maxColumns};
 ghost use Rattle.rules.specs.Nodes.{retired};
-ghost use Rattle.rules.specs.Memory.{storeIn, withStore};
+ghost use Rattle.rules.specs.Memory.{current, storeIn, withStore};
 ghost use Rattle.clients.specs.ClientContracts.{heldQuery};
 ghost use Rattle.nodes.specs.NodeContracts.{Fit, attempt, tried};
 ghost use Rattle.writing.specs.WriteContracts.{labelsFrom, isFound, placesOf, takenOff, CanTakeOff};
@@ -28,7 +28,7 @@ pub fn can_retire(
 ) -> bool
     requires { ⌜ Fit (now nodes) × ((h .columns ≤ maxColumns) × (from + n ≤ writeCount (heldQuery h))) ⌝ }
     requires { ⌜ n ≤ length (now places) ⌝ }
-    ensures { λ r. ⌜ (r ≡ isFound (retired narrow lift (labelsFrom (heldQuery h) from n) (storeIn narrow (now (nodes .entry))))) × (r ≡ true → take n (now (places .exit)) ≡ placesOf (labelsFrom (heldQuery h) from n) (storeIn narrow (now (nodes .entry)))) ⌝ }
+    ensures { λ r. ⌜ (r ≡ isFound (retired current lift (labelsFrom (heldQuery h) from n) (storeIn current (now (nodes .entry))))) × (r ≡ true → take n (now (places .exit)) ≡ placesOf (labelsFrom (heldQuery h) from n) (storeIn current (now (nodes .entry)))) ⌝ }
 {
     let values = h.values;
     let mut j = 0;
@@ -47,8 +47,8 @@ pub fn can_retire(
 // Takes a mark off the node at each place.
 fn take_off(nodes: &mut [u32], places: &[usize], lift: bool)
     requires { ⌜ Fit (now nodes) ⌝ }
-    requires { ⌜ CanTakeOff lift (now places) (storeIn narrow (now nodes)) ⌝ }
-    ensures { λ _. ⌜ now (nodes .exit) ≡ withStore narrow (now (nodes .entry)) (takenOff lift (now (places .entry)) (storeIn narrow (now (nodes .entry)))) ⌝ }
+    requires { ⌜ CanTakeOff lift (now places) (storeIn current (now nodes)) ⌝ }
+    ensures { λ _. ⌜ now (nodes .exit) ≡ withStore current (now (nodes .entry)) (takenOff lift (now (places .entry)) (storeIn current (now (nodes .entry)))) ⌝ }
 {
     let mut done = 0;
     while done < places.len() {
@@ -61,7 +61,7 @@ fn take_off(nodes: &mut [u32], places: &[usize], lift: bool)
 // its revision is to be lifted and is the largest.
 pub fn retire(nodes: &mut [u32], h: Held, from: usize, n: usize, lift: bool) -> bool
     requires { ⌜ Fit (now nodes) × ((h .columns ≤ maxColumns) × (from + n ≤ writeCount (heldQuery h))) ⌝ }
-    ensures { λ r. ⌜ attempt r (now (nodes .exit)) ≡ tried (now (nodes .entry)) (retired narrow lift (labelsFrom (heldQuery h) from n) (storeIn narrow (now (nodes .entry)))) ⌝ }
+    ensures { λ r. ⌜ attempt r (now (nodes .exit)) ≡ tried (now (nodes .entry)) (retired current lift (labelsFrom (heldQuery h) from n) (storeIn current (now (nodes .entry)))) ⌝ }
 {
     let mut places = [0; Hall::LOOKS];
     if !can_retire(nodes, h, from, n, lift, &mut places) {

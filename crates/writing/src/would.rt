@@ -8,10 +8,10 @@ ghost use mathlib.Core.Path.{_≡_};
 ghost use mathlib.Core.List.{List};
 ghost use Prim.Native.Nat.{ℕ, _+_, _≤_};
 ghost use Rattle.query.specs.Query.{writeCount};
-ghost use Rattle.query.specs.Shape.{maxColumns, narrow};
+ghost use Rattle.query.specs.Shape.{maxColumns};
 ghost use Rattle.rules.specs.declared.Count.the-variants.{NoCount, WriteAbandoned};
 ghost use Rattle.rules.specs.Nodes.{retired};
-ghost use Rattle.rules.specs.Memory.{mem, clientIn, storeIn};
+ghost use Rattle.rules.specs.Memory.{current, mem, clientIn, storeIn};
 ghost use Rattle.rules.specs.Steps.{endOf};
 ghost use Rattle.rules.specs.Tally.{countOf};
 ghost use Rattle.nodes.specs.NodeContracts;
@@ -22,7 +22,7 @@ ghost use Rattle.writing.specs.WriteContracts.{stepOf, abandonOf, labels
 // What the write's end raises, by what the client keeps of its table step.
 fn end_would(clients: &[u32], d: usize) -> Count
     requires { ⌜ ClientContracts.Fit (now clients) d ⌝ }
-    ensures { λ r. ⌜ r ≡ countOf NoCount (endOf (clientIn narrow (now (clients .entry)) d)) ⌝ }
+    ensures { λ r. ⌜ r ≡ countOf NoCount (endOf (clientIn current (now (clients .entry)) d)) ⌝ }
 {
     if clients::found_full(clients, d) {
         return Count::EndedUnchanged;
@@ -36,7 +36,7 @@ fn end_would(clients: &[u32], d: usize) -> Count
 // Whether a mark can be taken off each of the write's n nodes from number `from` on. Their places are of no use here.
 fn could_retire(nodes: &[u32], h: Held, from: usize, n: usize, lift: bool) -> bool
     requires { ⌜ NodeContracts.Fit (now nodes) × ((h .columns ≤ maxColumns) × (from + n ≤ writeCount (heldQuery h))) ⌝ }
-    ensures { λ r. ⌜ r ≡ isFound (retired narrow lift (labelsFrom (heldQuery h) from n) (storeIn narrow (now (nodes .entry)))) ⌝ }
+    ensures { λ r. ⌜ r ≡ isFound (retired current lift (labelsFrom (heldQuery h) from n) (storeIn current (now (nodes .entry)))) ⌝ }
 {
     let mut places = [0; Hall::LOOKS];
     retire::can_retire(nodes, h, from, n, lift, &mut places)

@@ -4,7 +4,6 @@ use mathlib.Core.Bool.{true}
 use Prim.Native.Nat.{_-_, _≤_}
 use Rattle.lists.specs.Lists.{allBelow}
 use Rattle.laws.proofs.ListLaws.{below-none, below-next, below-not}
-use Rattle.query.specs.Shape.{narrow}
 use Rattle.rules.specs.Answers.{atLeast}
 use Rattle.answers.proofs.AnswerScan.{newer, older, below-end}
 use borrow.Author.Needs.{needs}
@@ -12,7 +11,7 @@ use Rattle.answers.proofs.is_recent.Statement.{statement}
 use Rattle.answers.proofs.is_recent.Tie as tie
 
 abbrev Inv-loop : tie.InvT-loop
-Inv-loop e x n j₀ j = (allBelow j (atLeast narrow x e) ≡ true) × (j ≤ n)
+Inv-loop e x n j₀ j = (allBelow j (atLeast x e) ≡ true) × (j ≤ n)
 
 abbrev μ-loop : tie.MeasureT-loop
 μ-loop e x n j₀ j = n - j

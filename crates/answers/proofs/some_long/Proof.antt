@@ -5,16 +5,15 @@ use lib.ListN.{drop}
 use Rattle.lists.specs.Lists.{place}
 use Rattle.rules.specs.Answers.{isLong}
 use Rattle.lists.specs.Lists.{header}
-use Rattle.query.specs.Shape.{narrow}
 use Rattle.rules.specs.Layout.{entryWidth}
-use Rattle.rules.specs.Memory.{answersIn}
+use Rattle.rules.specs.Memory.{current, answersIn}
 use Rattle.answers.proofs.AnswerScan.{scan-start, scan-found, scan-next, scan-none, long-found, long-none}
 use borrow.Author.Needs.{needs}
 use Rattle.answers.proofs.some_long.Statement.{statement}
 use Rattle.answers.proofs.some_long.Tie as tie
 
 abbrev Inv-loop : tie.InvT-loop
-Inv-loop answers count at₀ i₀ at i = (i ≤ count) × ((at ≡ header + i * entryWidth narrow) × (place isLong (answersIn narrow answers) ≡ i + place isLong (drop i (answersIn narrow answers))))
+Inv-loop answers count at₀ i₀ at i = (i ≤ count) × ((at ≡ header + i * entryWidth) × (place isLong (answersIn current answers) ≡ i + place isLong (drop i (answersIn current answers))))
 
 abbrev μ-loop : tie.MeasureT-loop
 μ-loop answers count at₀ i₀ at i = count - i

@@ -39,19 +39,19 @@ good : (c : tie.Else2) → let a = start c .args in Sound (mem (a .table .now) (
 good c = let i = c .before in sound _ (start c .pre) (sym (sym (i .if1 .left) ∙ i .before .is-unsound .ensures))
 
 read-requires : tie.Need-read-requires
-read-requires c κs = client-fit _ (good c) _ (omega (arith, c .if2 .left))
+read-requires c κs = client-fit (good c) _ (omega (arith, c .if2 .left))
 
 client-code-requires : tie.Need-client-code-requires
 client-code-requires c κs =
     let g = good (c .before) in
-    (client-fit _ g _ (omega (arith, c .before .if2 .left)), (c .read .ensures, omega (arith, g .most, c .read .ensures .columns)))
+    (client-fit g _ (omega (arith, c .before .if2 .left)), (c .read .ensures, omega (arith, g .most, c .read .ensures .columns)))
 
 returns-3 : tie.Need-returns-3
 returns-3 c =
     let r = c .before in
     let i = r .before in
     record {
-      code = client-there _ _ (sym (i .before .if1 .left) ∙ i .before .before .is-unsound .ensures) (omega (arith, i .if2 .left)) _ (c .client-code .ensures);
+      code = client-there _ _ _ _ _ (sym (i .before .if1 .left) ∙ i .before .before .is-unsound .ensures) (omega (arith, i .if2 .left)) _ (c .client-code .ensures);
       held = λ z. r .read .ensures;
     }
 

@@ -30,7 +30,7 @@ is-worn-requires c κs =
     let e = c .before in
     let f = e .before .before .before .before in
     let s = f .before .before .before .before .before in
-    nodes-fit _ (idle-passed _ _ (s .pre) (sym (f .at-client .ensures .code) ∙ e .if2 .left))
+    nodes-fit (idle-passed _ _ (s .pre) (sym (f .at-client .ensures .code) ∙ e .if2 .left))
 
 returns-4 : tie.Need-returns-4
 returns-4 c =

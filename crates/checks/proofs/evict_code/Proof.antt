@@ -23,13 +23,13 @@ enum-told-2 : tie.Need-enum-told-2
 enum-told-2 c = search needs
 
 node-code-requires : tie.Need-node-code-requires
-node-code-requires c κs = let i = c .before .before in nodes-fit _ (sound-memories _ (sym (i .before .sound-code .ensures) ∙ i .if1 .left))
+node-code-requires c κs = let i = c .before .before in nodes-fit (sound-memories _ (sym (i .before .sound-code .ensures) ∙ i .if1 .left))
 
 returns-2 : tie.Need-returns-2
 returns-2 c = let i = c .before .before .before in evict-answer _ _ (i .before .sound-code .ensures) (i .if1 .left) _ _ _ (c .before .enum-told .given .1) (c .answer-code .ensures)
 
 returns-3 : tie.Need-returns-3
-returns-3 c = let i = c .before .before .before in evict-node _ _ (i .before .sound-code .ensures) (i .if1 .left) _ _ _ (c .before .enum-told2 .given .1) (c .node-code .ensures)
+returns-3 c = let i = c .before .before .before in evict-node _ _ _ _ _ (i .before .sound-code .ensures) (i .if1 .left) _ _ _ (c .before .enum-told2 .given .1) (c .node-code .ensures)
 
 pub evict-code-spec : {M : Type 1} → statement M
 evict-code-spec =

@@ -17,10 +17,10 @@ all-idle-requires : tie.Need-all-idle-requires
 all-idle-requires c κs = omega (arith, sound-memories _ (sym (c .before .sound-code .ensures) ∙ c .if1 .left))
 
 returns-2 : tie.Need-returns-2
-returns-2 c = renew-busy _ _ (c .before .before .before .sound-code .ensures) (c .before .before .if1 .left) _ (c .before .all-idle .ensures) (c .if2 .taken)
+returns-2 c = renew-busy _ _ _ _ _ (c .before .before .before .sound-code .ensures) (c .before .before .if1 .left) _ (c .before .all-idle .ensures) (c .if2 .taken)
 
 returns-3 : tie.Need-returns-3
-returns-3 c = renew-fine _ _ (c .before .before .before .sound-code .ensures) (c .before .before .if1 .left) _ (c .before .all-idle .ensures) (c .if2 .left)
+returns-3 c = renew-fine _ _ _ _ _ (c .before .before .before .sound-code .ensures) (c .before .before .if1 .left) _ (c .before .all-idle .ensures) (c .if2 .left)
 
 pub renew-code-spec : {M : Type 1} → statement M
 renew-code-spec =

@@ -1,14 +1,15 @@
 -- `nodes::is_worn` meets its contract. Invariant: the revision of every node before place i is low enough. Assumes nothing.
 use Prim.Native.Nat.{_-_, _≤_}
 use borrow.Author.Needs.{needs}
-use Rattle.query.specs.Shape.{narrow, Shape}
+use Rattle.query.specs.Shape.{Shape}
 use Rattle.rules.specs.Nodes.{isHigh}
 use Rattle.nodes.proofs.NodeScans.{Past, scan-start, scan-next, low-test, worn-floor, worn-node, worn-not}
 use Rattle.nodes.proofs.is_worn.Statement.{statement}
 use Rattle.nodes.proofs.is_worn.Tie as tie
+use Rattle.rules.specs.Memory.{current}
 
 abbrev Inv-loop : tie.InvT-loop
-Inv-loop nodes n i₀ i = (i ≤ n) × ((sh : Shape) → Past (isHigh narrow sh) nodes i)
+Inv-loop nodes n i₀ i = (i ≤ n) × ((sh : Shape) → Past (isHigh current sh) nodes i)
 
 abbrev μ-loop : tie.MeasureT-loop
 μ-loop nodes n i₀ i = n - i

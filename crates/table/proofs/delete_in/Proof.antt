@@ -11,7 +11,8 @@ use Rattle.columns.specs.MaskContracts.{queryUnder}
 use Rattle.rules.specs.Layout.{tableLeast}
 use Rattle.rules.specs.Table.{delete, outside}
 use Rattle.rules.specs.Memory.{recordsIn}
-use Rattle.table.proofs.TableMemory.{write-length, scan-in, scan-end, length-records, part-is, part-long, tested}
+use Rattle.rules.proofs.MemoryLaws.{length-records}
+use Rattle.table.proofs.TableMemory.{write-length, scan-in, scan-end, part-is, part-long, tested}
 use Rattle.table.proofs.Passing.{bit-most, bit-wide}
 use Rattle.table.proofs.Deleting.{Deleting, delete-none, stays, goes, one-more, no-more, turn-stays, turn-goes, delete-all}
 use Rattle.table.proofs.delete_in.Statement.{statement}

@@ -7,7 +7,8 @@ use lib.ListN.{length}
 use borrow.Author.Needs.{needs}
 use Rattle.rules.specs.Layout.{tableLeast}
 use Rattle.rules.specs.Memory.{recordsIn}
-use Rattle.table.proofs.TableMemory.{scan-in, length-records, part-is, part-long}
+use Rattle.rules.proofs.MemoryLaws.{length-records}
+use Rattle.table.proofs.TableMemory.{scan-in, part-is, part-long}
 use Rattle.table.proofs.Seeking.{Seeking, seek-none, turn-behind, turn-past, turn-greater, seek-there, seek-all}
 use Rattle.table.proofs.seek.Statement.{statement}
 use Rattle.table.proofs.seek.Tie as tie

@@ -42,7 +42,7 @@ begin-requires c κs =
     let i = c .before .before .before in
     let k = i .before .before in
     let t = begin-passed _ _ _ (sym (k .begin-check .ensures .code) ∙ i .if1 .left) in
-    (client-fit _ (t .memories) _ (t .below), search needs)
+    (client-fit (t .memories) _ (t .below), search needs)
 
 same-length-5 : tie.Need-same-length-5
 same-length-5 c = search needs

@@ -31,7 +31,7 @@ set-idle-requires c κs =
     let i = c .before .before .before .before in
     let k = i .before .before in
     let t = abandon-passed _ _ (sym (k .abandon-check .ensures .code) ∙ i .if1 .left) in
-    client-fit _ (t .0) _ (t .1)
+    client-fit (t .0) _ (t .1)
 
 same-length-5 : tie.Need-same-length-5
 same-length-5 c = search needs
@@ -52,7 +52,7 @@ returns-2 c =
     let i = r .before .before .before in
     let k = i .before .before in
     let f = k .abandon-check .ensures in
-    reader-gives-up _ _ _ (f .code) (i .if1 .left) (f .held (sym (f .code) ∙ i .if1 .left)) (r .if2 .taken) _ (s .set-idle .ensures)
+    reader-gives-up _ _ _ _ _ _ (f .code) (i .if1 .left) (f .held (sym (f .code) ∙ i .if1 .left)) (r .if2 .taken) _ (s .set-idle .ensures)
 
 abandon-write-requires : tie.Need-abandon-write-requires
 abandon-write-requires c κs =
@@ -60,7 +60,7 @@ abandon-write-requires c κs =
     let i = r .before .before .before in
     let f = i .before .before .abandon-check .ensures in
     let z = sym (f .code) ∙ i .if1 .left in
-    (gives-up _ _ _ (f .held z) (r .if2 .left) z, nodes-fit _ (abandon-passed _ _ z .0))
+    (gives-up _ _ _ _ _ _ (f .held z) (r .if2 .left) z, nodes-fit (abandon-passed _ _ z .0))
 
 same-length-9 : tie.Need-same-length-9
 same-length-9 c = search needs
@@ -81,7 +81,7 @@ returns-3 c =
     let i = r .before .before .before in
     let f = i .before .before .abandon-check .ensures in
     let z = sym (f .code) ∙ i .if1 .left in
-    b .abandon-write .ensures _ _ ∙ abandon-due _ _ _ (f .held z) (r .if2 .left) z
+    b .abandon-write .ensures _ _ ∙ abandon-due _ _ _ _ _ _ (f .held z) (r .if2 .left) z
 
 pub abandon-spec : {M : Type 1} → statement M
 abandon-spec =

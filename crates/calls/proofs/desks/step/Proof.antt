@@ -36,7 +36,7 @@ read-step-requires c κs =
     let i = r .before .before .before in
     let f = i .before .before .step-check .ensures in
     let z = sym (f .code) ∙ i .if1 .left in
-    reads-on _ _ (f .held z) (r .if2 .taken) _ z
+    reads-on _ _ _ _ _ (f .held z) (r .if2 .taken) _ z
 
 same-length-6 : tie.Need-same-length-6
 same-length-6 c = search needs
@@ -60,7 +60,7 @@ returns-2 c =
     let i = r .before .before .before in
     let f = i .before .before .step-check .ensures in
     let z = sym (f .code) ∙ i .if1 .left in
-    b .read-step .ensures ∙ sym (read-due _ _ (f .held z) (r .if2 .taken) _ z)
+    b .read-step .ensures ∙ sym (read-due _ _ _ _ _ (f .held z) (r .if2 .taken) _ z)
 
 write-step-requires : tie.Need-write-step-requires
 write-step-requires c κs =
@@ -69,7 +69,7 @@ write-step-requires c κs =
     let f = i .before .before .step-check .ensures in
     let z = sym (f .code) ∙ i .if1 .left in
     let s = step-passed _ _ _ z .1 .0 in
-    (writes-on _ _ _ (f .held z) (r .if2 .left) _ z, (nodes-fit _ s, table-held _ _ _ (f .held z) s))
+    (writes-on _ _ _ _ _ _ (f .held z) (r .if2 .left) _ z, (nodes-fit s, table-held _ _ _ (f .held z) s))
 
 same-length-11 : tie.Need-same-length-11
 same-length-11 c = search needs
@@ -93,7 +93,7 @@ returns-3 c =
     let i = r .before .before .before in
     let f = i .before .before .step-check .ensures in
     let z = sym (f .code) ∙ i .if1 .left in
-    b .write-step .ensures _ _ ∙ write-due _ _ _ (f .held z) (r .if2 .left) _ z
+    b .write-step .ensures _ _ ∙ write-due _ _ _ _ _ _ (f .held z) (r .if2 .left) _ z
 
 pub step-spec : {M : Type 1} → statement M
 step-spec =

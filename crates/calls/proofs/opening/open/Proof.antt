@@ -65,7 +65,7 @@ returns-2 c =
     let n = a .before .before .before .before in
     let t = n .before .before .before .before in
     let i = t .before .before in
-    opens _ _ _ (i .before .open-code .ensures) _ _ _ _ (i .if1 .left) (t .clear-table .ensures) (n .clear-nodes .ensures)
+    opens _ _ _ _ _ _ (i .before .open-code .ensures) _ _ _ _ (i .if1 .left) (t .clear-table .ensures) (n .clear-nodes .ensures)
     (a .clear-answers .ensures) (d .clear-clients .ensures)
 
 pub open-spec : {M : Type 1} → statement M

@@ -36,7 +36,7 @@ evict-requires c κs =
     let i = e .before .before in
     let t = evict-answer-passed _ _ (answer-code-is _ _ _ _ (i .before .evict-code .ensures) (i .if1 .left) (e .enum-told .given .1)) in
     let l = t .1 in
-    (answers-fit _ (t .0), omega arith)
+    (answers-fit (t .0), omega arith)
 
 enum-told-2 : tie.Need-enum-told-2
 enum-told-2 c = search needs
@@ -47,7 +47,7 @@ evict-requires-2 c κs =
     let i = e .before .before in
     let t = evict-node-passed _ _ (node-code-is _ _ _ _ (i .before .evict-code .ensures) (i .if1 .left) (e .enum-told2 .given .1)) in
     let l = t .1 in
-    (nodes-fit _ (t .0), omega arith)
+    (nodes-fit (t .0), omega arith)
 
 same-length-5 : tie.Need-same-length-5
 same-length-5 c = search needs

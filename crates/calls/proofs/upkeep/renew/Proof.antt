@@ -29,10 +29,10 @@ unfolding renewResult
 returns c = refused _ _ _ (c .before .renew-code .ensures) _ (c .if1 .taken)
 
 empty-requires : tie.Need-empty-requires
-empty-requires c κs = let i = c .before in nodes-fit _ (renew-passed _ (sym (i .before .renew-code .ensures) ∙ i .if1 .left) .0)
+empty-requires c κs = let i = c .before in nodes-fit (renew-passed _ (sym (i .before .renew-code .ensures) ∙ i .if1 .left) .0)
 
 empty-requires-2 : tie.Need-empty-requires-2
-empty-requires-2 c κs = let i = c .before .before .before .before .before in answers-fit _ (renew-passed _ (sym (i .before .renew-code .ensures) ∙ i .if1 .left) .0)
+empty-requires-2 c κs = let i = c .before .before .before .before .before in answers-fit (renew-passed _ (sym (i .before .renew-code .ensures) ∙ i .if1 .left) .0)
 
 same-length-5 : tie.Need-same-length-5
 same-length-5 c = search needs

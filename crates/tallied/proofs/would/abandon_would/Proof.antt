@@ -25,14 +25,14 @@ returns-2 c =
     let i = c .before .before .before in
     let f = i .before .before .abandon-check .ensures in
     let h = f .held (sym (f .code) ∙ i .if1 .left) in
-    abandon-raises _ _ (reader-gives-up _ _ _ (f .code) (i .if1 .left) h (c .if2 .taken) _ refl) (λ x l. reader-left _ _ _ (h .kind) (c .if2 .taken)) refl
+    abandon-raises _ _ (reader-gives-up _ _ _ _ _ _ (f .code) (i .if1 .left) h (c .if2 .taken) _ refl) (λ x l. reader-left _ _ _ (h .kind) (c .if2 .taken)) refl
 
 abandon-would-requires : tie.Need-abandon-would-requires
 abandon-would-requires c κs =
     let i = c .before .before .before in
     let f = i .before .before .abandon-check .ensures in
     let z = sym (f .code) ∙ i .if1 .left in
-    (gives-up _ _ _ (f .held z) (c .if2 .left) z, nodes-fit _ (abandon-passed _ _ z .0))
+    (gives-up _ _ _ _ _ _ (f .held z) (c .if2 .left) z, nodes-fit (abandon-passed _ _ z .0))
 
 returns-3 : tie.Need-returns-3
 returns-3 c =
@@ -41,7 +41,7 @@ returns-3 c =
     let f = i .before .before .abandon-check .ensures in
     let z = sym (f .code) ∙ i .if1 .left in
     let h = f .held z in
-    abandon-raises _ _ (abandon-due _ _ _ h (r .if2 .left) z) (λ x l. writer-left _ _ _ (h .kind) (r .if2 .left)) (c .abandon-would .ensures _ _)
+    abandon-raises _ _ (abandon-due _ _ _ _ _ _ h (r .if2 .left) z) (λ x l. writer-left _ _ _ (h .kind) (r .if2 .left)) (c .abandon-would .ensures _ _)
 
 pub abandon-would-spec : {M : Type 1} → statement M
 abandon-would-spec =

@@ -1,6 +1,7 @@
 -- `tallied::would::abandoned_count` meets its contract: the kind at the desk decides. Assumes nothing.
 use native.Mathlib.Omega.{arith}
-use Rattle.tallied.proofs.TalliedLaws.{reader-left, writer-left, kind-at}
+use Rattle.clients.proofs.ClientMemory.{kind-at}
+use Rattle.tallied.proofs.TalliedLaws.{reader-left, writer-left}
 use borrow.Author.Needs.{needs}
 use Rattle.tallied.proofs.would.abandoned_count.Statement.{statement}
 use Rattle.tallied.proofs.would.abandoned_count.Tie as tie

@@ -23,7 +23,7 @@ step-would-requires c κs =
     let i = c .before .before .before in
     let f = i .before .before .step-check .ensures in
     let z = sym (f .code) ∙ i .if1 .left in
-    let on = reads-on _ _ (f .held z) (c .if2 .taken) _ z in
+    let on = reads-on _ _ _ _ _ (f .held z) (c .if2 .taken) _ z in
     record { read = on .read; listed = on .listed; fit = on .fit }
 
 returns-2 : tie.Need-returns-2
@@ -32,14 +32,14 @@ returns-2 c =
     let i = r .before .before .before in
     let f = i .before .before .step-check .ensures in
     let z = sym (f .code) ∙ i .if1 .left in
-    step-raises _ _ _ (sym (read-due _ _ (f .held z) (r .if2 .taken) _ z)) (c .step-would .ensures _ _)
+    step-raises _ _ _ (sym (read-due _ _ _ _ _ (f .held z) (r .if2 .taken) _ z)) (c .step-would .ensures _ _)
 
 step-would-requires-2 : tie.Need-step-would-requires-2
 step-would-requires-2 c κs =
     let i = c .before .before .before in
     let f = i .before .before .step-check .ensures in
     let z = sym (f .code) ∙ i .if1 .left in
-    (writes-on _ _ _ (f .held z) (c .if2 .left) _ z, nodes-fit _ (step-passed _ _ _ z .1 .0))
+    (writes-on _ _ _ _ _ _ (f .held z) (c .if2 .left) _ z, nodes-fit (step-passed _ _ _ z .1 .0))
 
 returns-3 : tie.Need-returns-3
 returns-3 c =
@@ -47,7 +47,7 @@ returns-3 c =
     let i = r .before .before .before in
     let f = i .before .before .step-check .ensures in
     let z = sym (f .code) ∙ i .if1 .left in
-    step-raises _ _ _ (write-due _ _ _ (f .held z) (r .if2 .left) _ z) (c .step-would2 .ensures _ _ _)
+    step-raises _ _ _ (write-due _ _ _ _ _ _ (f .held z) (r .if2 .left) _ z) (c .step-would2 .ensures _ _ _)
 
 pub step-would-spec : {M : Type 1} → statement M
 step-would-spec =

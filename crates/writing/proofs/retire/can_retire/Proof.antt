@@ -5,8 +5,7 @@ use Prim.Native.Nat.{_-_, _≤_}
 use native.Mathlib.Omega.{arith}
 use Rattle.laws.proofs.TestLaws.{clash}
 use Rattle.rules.specs.Nodes.{retired}
-use Rattle.rules.specs.Memory.{storeIn}
-use Rattle.query.specs.Shape.{narrow}
+use Rattle.rules.specs.Memory.{current, storeIn}
 use Rattle.revisions.proofs.Retirements.{allRetirable}
 use Rattle.clients.specs.ClientContracts.{heldQuery}
 use Rattle.writing.specs.WriteContracts.{labelsFrom, isFound}
@@ -19,9 +18,9 @@ use Rattle.writing.proofs.retire.can_retire.Tie as tie
 abbrev Inv-loop : tie.InvT-loop
 Inv-loop nodes h from n lift places₀ values j₀ places j =
     (j ≤ n)
-    × ((isFound (retired narrow lift (labelsFrom (heldQuery h) from n) (storeIn narrow nodes))
-    ≡ allRetirable lift (rest (heldQuery h) from n j) (storeIn narrow nodes))
-    × Kept (heldQuery h) from (storeIn narrow nodes) places₀ places j)
+    × ((isFound (retired current lift (labelsFrom (heldQuery h) from n) (storeIn current nodes))
+    ≡ allRetirable current lift (rest (heldQuery h) from n j) (storeIn current nodes))
+    × Kept (heldQuery h) from (storeIn current nodes) places₀ places j)
 
 abbrev μ-loop : tie.MeasureT-loop
 μ-loop nodes h from n lift places₀ values j₀ places j = n - j

@@ -1,5 +1,6 @@
--- What the changes of a client do to its parts: kind, steps, flags and entry. Leans on rules' Client and HoldingLaws, and on the laws of
--- lists. Assumes nothing.
+-- Laws of a client: what each change that the rules make to one does to its parts (kind, steps, flags and entry) and to its width. What a client is
+-- in numbers is opened here and in ClientLaws and HoldingLaws, and above them only in the crate of that memory. Leans on Client and HoldingLaws, and on
+-- the laws of lists. Assumes nothing.
 use mathlib.Core.Path.{_≡_, sym, ap, _∙_}
 use mathlib.Core.Bool.{Bool, false, cond, not, _||_, or-true, or-false}
 use mathlib.Core.List.{List, [], _∷_, _++_}
@@ -14,14 +15,13 @@ use Rattle.laws.proofs.TestLaws.{byTest}
 use Rattle.laws.proofs.ListLaws.{length-padded, getD-padded}
 use Rattle.laws.proofs.WrittenLaws.{drop-take, take-written, getD-before, length-written}
 use Rattle.query.specs.Encoding.{labelWidth, keyWidth}
-use Rattle.query.specs.Shape.{Shape, narrow}
+use Rattle.query.specs.Shape.{Shape}
 use Rattle.rules.specs.Work.{Value, Work, kindOf, keyOf}
-use Rattle.rules.specs.Answers.{Entry, keyIn, lengthIn, isCount, mostIn, isLong}
+use Rattle.rules.specs.Answers.{Entry, keyIn, lengthIn, revisionsIn, isCount, mostIn, isLong}
 use Rattle.rules.proofs.ClientLaws.{flag-read}
 use Rattle.rules.specs.Client.{Client, kind, steps, sawPending, didChange, foundFull, entryOf, begun, stepped, flag, noted, holding, wrote}
 use Rattle.rules.specs.Layout.{lookRoom, listOffset, listRoom, entryWidth, clientWidth, notedOffset, heldListOffset}
 use Rattle.rules.proofs.HoldingLaws.{counted, holding-entry, holding-key, long-counted}
-use Rattle.refinement.proofs.Abstraction.{revisionsIn}
 
 -- ---- Three numbers stored in a list
 module _ (s : List ℕ) (i x j y l z : ℕ) where
@@ -44,15 +44,15 @@ pub record Next (c t : Client) : Type 0 where
   pub kinds : kind t ≡ kind c
   pub keys : keyIn (entryOf t) ≡ keyIn (entryOf c)
   pub one : steps t ≡ steps c + 1
-  pub wide : length t ≡ clientWidth narrow
+  pub wide : length t ≡ clientWidth
 
-module _ (c : Client) (w : length c ≡ clientWidth narrow) where
+module _ (c : Client) (w : length c ≡ clientWidth) where
   -- a number in front of the entry
   entry-front : (i x : ℕ) → i < 5 → entryOf (set c i x) ≡ entryOf c
   unfolding entryOf
   entry-front i x h = drop-set-lt 5 c i x h
 
-  pub length-entry : length (entryOf c) ≡ entryWidth narrow
+  pub length-entry : length (entryOf c) ≡ entryWidth
   unfolding entryOf
   length-entry = rw length-drop (omega arith)
 
@@ -82,41 +82,45 @@ module _ (c : Client) (w : length c ≡ clientWidth narrow) where
   stepped-full = rw (getD-set-other c 1 4 (steps c + 1) 0 (λ e. omega arith))
 
   -- a look: revision r, p pending writes
-  module _ (j r p : ℕ) (h : j < 16) where
-    looked-at : notedOffset narrow j ≡ labelWidth + (8 + j)
+  pub noted-wide : (j r p : ℕ) → length (noted j r p c) ≡ clientWidth
+  unfolding noted stepped
+  noted-wide j r p = three-length c 1 _ (notedOffset j) r 2 _ ∙ w
+
+  module _ (j r p : ℕ) (h : j < lookRoom) where
+    looked-at : notedOffset j ≡ labelWidth + (8 + j)
     looked-at = omega arith
 
-    noted-entry : entryOf (noted narrow j r p c) ≡ set (entryOf c) (8 + j) r
+    noted-entry : entryOf (noted j r p c) ≡ set (entryOf c) (8 + j) r
     unfolding noted entryOf stepped
     noted-entry =
-        drop-set-lt 5 (set (set c 1 (steps c + 1)) (notedOffset narrow j) r) 2 (cond (eqb p 0) (getD c 2 0) 1) (omega arith)
+        drop-set-lt 5 (set (set c 1 (steps c + 1)) (notedOffset j) r) 2 (cond (eqb p 0) (getD c 2 0) 1) (omega arith)
         ∙ ap (λ (i : ℕ). drop 5 (set (set c 1 (steps c + 1)) i r)) looked-at
         ∙ drop-set-add 5 (set c 1 (steps c + 1)) (8 + j) r
         ∙ ap (λ (e : Entry). set e (8 + j) r) (drop-set-lt 5 c 1 _ (omega arith))
 
-    pub noted-next : Next c (noted narrow j r p c)
+    pub noted-next : Next c (noted j r p c)
     unfolding noted kind steps stepped keyIn
     noted-next =
         let x : ℕ = getD c 1 0 + 1 in
         let z : ℕ = cond (eqb p 0) (getD c 2 0) 1 in
         record {
-          kinds = three-other c 1 x (notedOffset narrow j) r 2 z 0 (λ e. omega arith) (λ e. omega arith) (λ e. omega arith);
+          kinds = three-other c 1 x (notedOffset j) r 2 z 0 (λ e. omega arith) (λ e. omega arith) (λ e. omega arith);
           keys = ap (take keyWidth) noted-entry ∙ take-set-le 7 (entryOf c) (8 + j) r (omega arith);
-          one = three-first c 1 x (notedOffset narrow j) r 2 z (λ e. omega arith) (λ e. omega arith) (omega arith);
-          wide = three-length c 1 x (notedOffset narrow j) r 2 z ∙ w;
+          one = three-first c 1 x (notedOffset j) r 2 z (λ e. omega arith) (λ e. omega arith) (omega arith);
+          wide = noted-wide j r p;
         }
 
-    pub noted-revisions : revisionsIn (suc j) (entryOf (noted narrow j r p c)) ≡ revisionsIn j (entryOf c) ++ (r ∷ [])
+    pub noted-revisions : revisionsIn (suc j) (entryOf (noted j r p c)) ≡ revisionsIn j (entryOf c) ++ (r ∷ [])
     unfolding revisionsIn
     noted-revisions =
         let l : length (drop 8 (entryOf c)) ≡ 144 = length-drop 8 (entryOf c) ∙ (let z = length-entry in omega arith) in
         rw (noted-entry, drop-set-add 8 (entryOf c) j r) (take-suc-set (drop 8 (entryOf c)) j r (omega arith))
 
-    noted-length : lengthIn (entryOf (noted narrow j r p c)) ≡ lengthIn (entryOf c)
+    noted-length : lengthIn (entryOf (noted j r p c)) ≡ lengthIn (entryOf c)
     unfolding lengthIn
     noted-length = rw noted-entry (getD-set-other (entryOf c) (8 + j) 7 r 0 (λ e. omega arith))
 
-    pub noted-short : isLong (entryOf c) ≡ false → isLong (entryOf (noted narrow j r p c)) ≡ false
+    pub noted-short : isLong (entryOf c) ≡ false → isLong (entryOf (noted j r p c)) ≡ false
     unfolding isLong mostIn isCount
     noted-short s = rw (noted-length, noted-next .keys) s
 
@@ -126,10 +130,10 @@ module _ (c : Client) (w : length c ≡ clientWidth narrow) where
         (λ e. let z : p ≡ 0 = eqb-true p 0 e in rw (e, le-ltb 0 p (omega arith)) (sym (or-false (not (eqb x 0)))))
         (λ e. let z : p ≡ 0 → ⊥ = eqb-false p 0 e in rw (e, lt-ltb 0 p (omega arith)) (sym (or-true (not (eqb x 0)))))
 
-    pub noted-saw : sawPending (noted narrow j r p c) ≡ (sawPending c || ltb 0 p)
+    pub noted-saw : sawPending (noted j r p c) ≡ (sawPending c || ltb 0 p)
     unfolding noted sawPending stepped
     noted-saw =
-        ap (λ (x : ℕ). not (eqb x 0)) (three-last c 1 (steps c + 1) (notedOffset narrow j) r 2 (cond (eqb p 0) (getD c 2 0) 1) (omega arith)) ∙ saw-or (getD c 2 0)
+        ap (λ (x : ℕ). not (eqb x 0)) (three-last c 1 (steps c + 1) (notedOffset j) r 2 (cond (eqb p 0) (getD c 2 0) 1) (omega arith)) ∙ saw-or (getD c 2 0)
 
   -- a write past its table step
   module _ (changed full : Bool) where
@@ -156,7 +160,7 @@ module _ (c : Client) (w : length c ≡ clientWidth narrow) where
     wrote-full = ap (λ (x : ℕ). not (eqb x 0)) (three-last c 1 (steps c + 1) 3 (flag changed) 4 (flag full) (omega arith)) ∙ flag-read full
 
 -- ---- A list or a count taken
-module _ (c : Client) (w : length c ≡ clientWidth narrow) (sh : Shape) (v : Value) (room : length (v .numbers) ≤ listRoom) where
+module _ (c : Client) (w : length c ≡ clientWidth) (sh : Shape) (v : Value) (room : length (v .numbers) ≤ listRoom) where
   -- what is written of the list
   abbrev numbers : List ℕ
   numbers = padded listRoom (v .numbers)
@@ -164,21 +168,21 @@ module _ (c : Client) (w : length c ≡ clientWidth narrow) (sh : Shape) (v : Va
   length-numbers : length numbers ≡ listRoom
   length-numbers = length-padded listRoom (v .numbers) room
 
-  holding-front : (i : ℕ) → i < 5 → getD (holding narrow sh v c) i 0 ≡ getD (stepped c) i 0
+  holding-front : (i : ℕ) → i < 5 → getD (holding sh v c) i 0 ≡ getD (stepped c) i 0
   unfolding holding
   holding-front i h =
-      getD-before (set (stepped c) 12 (v .count)) (heldListOffset narrow sh) numbers (rw (length-set, stepped-next c w .wide) (omega arith)) i 0 (omega arith)
+      getD-before (set (stepped c) 12 (v .count)) (heldListOffset sh) numbers (rw (length-set, stepped-next c w .wide) (omega arith)) i 0 (omega arith)
       ∙ getD-set-other (stepped c) 12 i (v .count) 0 (λ e. omega arith)
 
-  holding-wide : length (holding narrow sh v c) ≡ clientWidth narrow
+  pub holding-wide : length (holding sh v c) ≡ clientWidth
   unfolding holding
   holding-wide =
       let a = stepped-next c w .wide in
       let b = length-set (stepped c) 12 (v .count) in
       let d = length-numbers in
-      length-written (set (stepped c) 12 (v .count)) (heldListOffset narrow sh) numbers (omega arith) ∙ b ∙ a
+      length-written (set (stepped c) 12 (v .count)) (heldListOffset sh) numbers (omega arith) ∙ b ∙ a
 
-  pub holding-next : Next c (holding narrow sh v c)
+  pub holding-next : Next c (holding sh v c)
   unfolding kind steps
   holding-next = record {
     kinds = holding-front 0 (omega arith) ∙ stepped-next c w .kinds;
@@ -187,44 +191,44 @@ module _ (c : Client) (w : length c ≡ clientWidth narrow) (sh : Shape) (v : Va
     wide = holding-wide;
   }
 
-  pub holding-revisions : (n : ℕ) → n ≤ lookRoom → revisionsIn n (entryOf (holding narrow sh v c)) ≡ revisionsIn n (entryOf c)
+  pub holding-revisions : (n : ℕ) → n ≤ lookRoom → revisionsIn n (entryOf (holding sh v c)) ≡ revisionsIn n (entryOf c)
   unfolding revisionsIn
   holding-revisions n h =
       let e : 8 + n - 8 ≡ n = omega arith in
       let a : (l : Entry) → take n (drop 8 l) ≡ drop 8 (take (8 + n) l) = λ l. rw (drop-take 8 (8 + n) l, e) in
       ap (λ (l : Entry). take n (drop 8 l)) (holding-entry c w sh v)
-      ∙ a (written (counted c (v .count)) (listOffset narrow sh) numbers)
-      ∙ ap (drop 8) (take-written (counted c (v .count)) (listOffset narrow sh) numbers (long-counted c w sh v) (8 + n) (omega arith))
+      ∙ a (written (counted c (v .count)) (listOffset sh) numbers)
+      ∙ ap (drop 8) (take-written (counted c (v .count)) (listOffset sh) numbers (long-counted c w sh v) (8 + n) (omega arith))
       ∙ sym (a (counted c (v .count)))
       ∙ ap (take n) (drop-set-lt 8 (entryOf c) 7 (v .count) (omega arith))
 
 -- ---- As a begin of work x leaves it
 module _ (x : Work) where
-  begun-word : (j : ℕ) → getD (begun narrow x) j 0 ≡ getD (kindOf x ∷ 0 ∷ 0 ∷ 0 ∷ 0 ∷ keyOf x) j 0
+  begun-word : (j : ℕ) → getD (begun x) j 0 ≡ getD (kindOf x ∷ 0 ∷ 0 ∷ 0 ∷ 0 ∷ keyOf x) j 0
   unfolding begun
-  begun-word j = getD-padded (clientWidth narrow) (kindOf x ∷ 0 ∷ 0 ∷ 0 ∷ 0 ∷ keyOf x) j
+  begun-word j = getD-padded clientWidth (kindOf x ∷ 0 ∷ 0 ∷ 0 ∷ 0 ∷ keyOf x) j
 
-  pub begun-kind : kind (begun narrow x) ≡ kindOf x
+  pub begun-kind : kind (begun x) ≡ kindOf x
   unfolding kind
   begun-kind = begun-word 0
 
-  pub begun-steps : steps (begun narrow x) ≡ 0
+  pub begun-steps : steps (begun x) ≡ 0
   unfolding steps
   begun-steps = begun-word 1
 
-  pub begun-saw : sawPending (begun narrow x) ≡ false
+  pub begun-saw : sawPending (begun x) ≡ false
   unfolding sawPending
   begun-saw = rw (begun-word 2)
 
   module _ (h : length (keyOf x) ≡ keyWidth) where
-    pub begun-wide : length (begun narrow x) ≡ clientWidth narrow
+    pub begun-wide : length (begun x) ≡ clientWidth
     unfolding begun
-    begun-wide = length-padded (clientWidth narrow) (kindOf x ∷ 0 ∷ 0 ∷ 0 ∷ 0 ∷ keyOf x) (omega arith)
+    begun-wide = length-padded clientWidth (kindOf x ∷ 0 ∷ 0 ∷ 0 ∷ 0 ∷ keyOf x) (omega arith)
 
-    pub begun-key : keyIn (entryOf (begun narrow x)) ≡ keyOf x
+    pub begun-key : keyIn (entryOf (begun x)) ≡ keyOf x
     unfolding keyIn entryOf begun padded
     begun-key = take-at (keyOf x) _ 7 h
 
-    pub begun-length : lengthIn (entryOf (begun narrow x)) ≡ 0
+    pub begun-length : lengthIn (entryOf (begun x)) ≡ 0
     unfolding lengthIn entryOf
-    begun-length = getD-drop 5 (begun narrow x) 7 0 ∙ begun-word 12 ∙ List·getD-eq-default (keyOf x) 0 {n = 7} (omega arith)
+    begun-length = getD-drop 5 (begun x) 7 0 ∙ begun-word 12 ∙ List·getD-eq-default (keyOf x) 0 {n = 7} (omega arith)
