@@ -14,12 +14,12 @@ use Rattle.query.specs.Shape.{Shape}
 use Rattle.rules.specs.declared.Outcome.{Outcome}
 use Rattle.rules.specs.declared.Outcome.the-variants.{Refused, Accepted}
 use Rattle.rules.specs.Layout.{reads, inserts, deletes, firstFloor}
-use Rattle.rules.specs.Work.{Work, kindOf, changeKind, keyOf, workOf}
+use Rattle.rules.specs.Work.{Work, kindOf, changeKind, workOf}
 use Rattle.rules.specs.Nodes.{store, evictNode}
 use Rattle.rules.specs.Client.{begun, idle}
 use Rattle.rules.specs.Memory.{current, Mem, mem, withNodes, withFiled, withClients, storeIn, withStore, answersIn, withAnswers, withClient, renewed}
 use Rattle.rules.specs.Outcome.{Result, result, resultWith}
-use Rattle.rules.specs.Refusals.{form, shape, client, stepCode, beginCode, abandonCode, evictAnswerCode, evictNodeCode, renewCode}
+use Rattle.rules.specs.Refusals.{form, shape, stepCode, beginCode, abandonCode, evictAnswerCode, evictNodeCode, renewCode}
 use Rattle.rules.specs.Steps.{nowAt, storeBack}
 use Rattle.rules.specs.Calls.{unless, beginResult, stepResult, abandonedOf, abandoned, abandonResult, evictAnswerResult, evictNodeResult, renewResult}
 use Rattle.rules.specs.History.{untrayed}

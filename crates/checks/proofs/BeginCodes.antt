@@ -16,7 +16,7 @@ use Rattle.query.specs.declared.Range.{Range}
 use Rattle.query.specs.declared.Range.the-variants.{None, Between}
 use Rattle.query.specs.Range.{isNamed, isRange, isReversed}
 use Rattle.query.specs.Query.{Query, naming}
-use Rattle.query.specs.Encoding.{columnOf, queryOf, isQuery, namesAll, recordOf, keyWords, wantedKey}
+use Rattle.query.specs.Encoding.{columnOf, queryOf, isQuery, keyWords, wantedKey}
 use Rattle.query.specs.Shape.{Shape, shapeOf, maxColumns}
 use Rattle.query.proofs.EncodingLaws.{is-query-length}
 use Rattle.columns.specs.declared.Taken.{Taken}
@@ -24,9 +24,9 @@ use Rattle.columns.specs.ColumnContracts.{four, takenOf}
 use Rattle.columns.specs.KeyContracts.{IsNear}
 use Rattle.columns.proofs.ColumnLoops.{four-back}
 use Rattle.columns.proofs.TakeLoop.{taken-key}
-use Rattle.rules.specs.Layout.{columnsOffset, reads, inserts, refusedShort, refusedColumns, refusedReversed, refusedTaken, refusedIdle, refusedWorn}
+use Rattle.rules.specs.Layout.{reads, inserts, refusedShort, refusedColumns, refusedReversed, refusedTaken, refusedIdle, refusedWorn}
 use Rattle.rules.specs.Table.{target}
-use Rattle.rules.specs.Work.{askFault, keyOf, askKey, Request, readOf, insertOf, deleteOf, isWrite, askOf, workOf, faultOf}
+use Rattle.rules.specs.Work.{askFault, keyOf, askKey, Request, readOf, insertOf, isWrite, askOf, workOf, faultOf}
 use Rattle.rules.specs.Nodes.{isWorn}
 use Rattle.rules.specs.Client.{isIdle, isBad}
 use Rattle.rules.specs.Memory.{Mem, storeIn}

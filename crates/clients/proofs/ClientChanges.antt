@@ -15,7 +15,7 @@ use Rattle.laws.proofs.WrittenLaws.{length-written, written-front, take-written
 use Rattle.rules.specs.Work.{Value, Work, kindOf, keyOf}
 use Rattle.rules.specs.Client.{Client, steps, idle, begun, stepped, flag, noted, holding, wrote}
 use Rattle.query.specs.Encoding.{keyWidth}
-use Rattle.query.specs.Shape.{Shape, shapeOf}
+use Rattle.query.specs.Shape.{Shape}
 use Rattle.rules.specs.Layout.{listRoom, stepsOffset, entryOffset, clientWidth, clientOffset, heldLengthOffset, notedOffset, heldListOffset}
 use Rattle.rules.specs.Memory.{current, clientIn, withClient}
 use Rattle.rules.proofs.ClientLaws.{idle-wide}

@@ -22,7 +22,6 @@ use Rattle.rules.specs.Table.{target}
 use Rattle.rules.specs.Work.{Ask, readLabels, Write, writeLabels, writeIn, Work, asking, writing, keyOf, stepsInAll}
 use Rattle.rules.specs.Client.{Client, kind, steps, entryOf, queryAt, writeAt, workAt}
 use Rattle.rules.specs.Memory.{current, shapeIn, clientIn}
-use Rattle.rules.specs.Sound.{Busy}
 use Rattle.rules.proofs.WorkLaws.{target-length}
 use Rattle.rules.proofs.ClientLaws.{key-wide, busy-key, writes-at, asked-counts, steps-at, look-count-of, read-label-of, announcement-count-of, write-label-of}
 use Rattle.clients.specs.declared.Held.{Held}

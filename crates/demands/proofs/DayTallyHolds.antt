@@ -9,12 +9,11 @@ use native.Mathlib.Omega.{arith}
 use lib.Dec.{eqb}
 use lib.ListN.{length, getD, take}
 use Rattle.laws.proofs.TestLaws.{byTest}
-use Rattle.rules.specs.declared.Outcome.the-variants.{Refused, Accepted}
+use Rattle.rules.specs.declared.Outcome.the-variants.{Accepted}
 use Rattle.rules.specs.declared.Tally.{Tally}
 use Rattle.rules.specs.declared.Count.{Count}
 use Rattle.rules.specs.declared.Count.the-variants.{NoCount, ReadBegun, FromFile, FromTable, EndedLong, ReadAbandoned}
 use Rattle.rules.specs.declared.Count.the-variants.{WriteBegun, EndedChanged, EndedUnchanged, WriteAbandoned}
-use Rattle.rules.specs.Layout.{refusedTallyFull}
 use Rattle.query.specs.Shape.{shapeOf}
 use Rattle.rules.specs.Memory.{Mem, opened}
 use Rattle.rules.specs.Refusals.{openCode, evictAnswerCode, evictNodeCode, renewCode}
@@ -24,7 +23,7 @@ use Rattle.rules.specs.History.{Call, begin, step, abandon, evictAnswer, evictN
 use Rattle.rules.specs.Tally.{countIn, rank, one, raised, countOf, acceptedCount, wouldRaise, isFull, isFullFor, isTallyFull, clearedTally, Made, made, madeResult, tallyAfter, memAfter}
 use Rattle.rules.proofs.TallyLaws.{raised-none}
 use Rattle.demands.specs.WholeHistory.{History, memAt, madeAt, callAt, resultAt}
-use Rattle.demands.specs.DayTally.{howMany, someCall, isRead, begins, underWay, endsBegun, readsBegun, fromFile, fromTable, endedLong, readsAbandoned}
+use Rattle.demands.specs.DayTally.{howMany, someCall, isRead, underWay, endsBegun, readsBegun, fromFile, fromTable, endedLong, readsAbandoned}
 use Rattle.demands.specs.DayTally.{writesBegun, endedChanged, endedUnchanged, writesAbandoned, Sums, tallyAt, canRaise, HandedOn, lentOn, CanHandOn, Counts, TallySums, DayTally}
 use Rattle.demands.proofs.HistoryRuns.{plain-result, full-result}
 use Rattle.demands.proofs.OneWorkHolds.{one-work-ends}

@@ -20,9 +20,9 @@ use Rattle.rules.specs.declared.Outcome.{Outcome}
 use Rattle.rules.specs.declared.Outcome.the-variants.{Refused, Accepted, Answered, Long, Ended, Full}
 use Rattle.rules.specs.Work.{Ask, Value, ofRecords, valueOf, mayAnswer, readLabels, Write, writeLabels, Work, asking, writing, Request, workOf, ofNumber, valueFor, listWithin}
 use Rattle.rules.specs.Nodes.{Words, Store, store}
-use Rattle.rules.specs.Answers.{Entry, valueIn}
+use Rattle.rules.specs.Answers.{Entry}
 use Rattle.rules.specs.Client.{Client, steps, sawPending, foundFull, entryOf}
-use Rattle.rules.specs.Memory.{Mem, storeIn, answersIn, opened, renewed, recordsIn}
+use Rattle.rules.specs.Memory.{Mem, storeIn, answersIn, renewed, recordsIn}
 use Rattle.rules.specs.Outcome.{Result, resultWith, number}
 use Rattle.rules.specs.Refusals.{form, shape, columns, client, badColumns, isShort, openCode, beginCode, stepCode, abandonCode, evictAnswerCode, evictNodeCode, renewCode}
 use Rattle.rules.specs.Steps.{nowAt, answered, lookResult, fetchResult, tableResult, fileResult, readResult, announceResult, writeTableResult, endOf, raiseResult, writeResult, progressOf, progress}

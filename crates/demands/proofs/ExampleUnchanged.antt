@@ -30,7 +30,7 @@ use Rattle.rules.specs.Answers.{Entry, keyIn, lengthIn, revisionIn, valueIn, ha
 use Rattle.rules.specs.Client.{kind, steps, sawPending, didChange, foundFull, entryOf, idle, isIdle, begun, writeAt, workAt, isBad, stepped, flag, noted, holding, wrote}
 use Rattle.rules.specs.Layout.{maxClients}
 use Rattle.rules.specs.Memory.{Mem, recordsIn, withRecords, storeIn, withStore, answersIn, withAnswers, clientIn, withClient, cleared, opened}
-use Rattle.rules.specs.Memory.{current, wideFloor, withWideFloor, nodeFrom, nodeTo, entryFrom, entryTo, told}
+use Rattle.rules.specs.Memory.{wideFloor, withWideFloor, nodeFrom, nodeTo, entryFrom, entryTo, told}
 use Rattle.rules.specs.Checks.{checkOf, misfit, labelled, bared, checkFor}
 use Rattle.rules.specs.Outcome.{number}
 use Rattle.rules.specs.Refusals.{form, client, isShort, badColumns, isUnsound, noClient, beginCode, atClient, stepCode}

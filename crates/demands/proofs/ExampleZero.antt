@@ -25,7 +25,7 @@ use Rattle.rules.specs.Answers.{keyIn, lengthIn, revisionIn, listIn, valueIn, h
 use Rattle.rules.specs.Client.{kind, steps, sawPending, didChange, foundFull, entryOf, idle, isIdle, begun, askAt, writeAt, workAt, isBad, stepped, flag, noted, holding, wrote}
 use Rattle.query.specs.Shape.{shapeOf}
 use Rattle.rules.specs.Memory.{Mem, mem, recordsIn, withRecords, storeIn, withStore, answersIn, withAnswers, clientIn, withClient, cleared, opened}
-use Rattle.rules.specs.Memory.{current, wideFloor, withWideFloor, nodeFrom, nodeTo, entryFrom, entryTo, told}
+use Rattle.rules.specs.Memory.{wideFloor, withWideFloor, nodeFrom, nodeTo, entryFrom, entryTo, told}
 use Rattle.rules.specs.Checks.{checkOf, misfit, labelled, bared, checkFor}
 use Rattle.rules.specs.Refusals.{form, client, isShort, badColumns, isUnsound, noClient, openCode, beginCode, atClient, stepCode, shape}
 use Rattle.rules.specs.Steps.{nowAt, storeBack, answered, lookResult, fetchResult, tableResult, fileResult, readResult, announceResult, writeTableResult}

@@ -35,7 +35,7 @@ use Rattle.rules.proofs.WorkLaws.{write-labels-some, write-label-wide, target-l
 use Rattle.refinement.proofs.RefusedCalls.{begin-code}
 use Rattle.demands.proofs.NodeFaults.{isNone, look-none, mark-none, raise-none, retired-none, released-none, marks-apart, raises-apart}
 use Rattle.demands.specs.RefusalRows.{Row, firstOf, someApplies, isThere, isBusy, isUnsoundAt, isUnsoundAbandoned, isLongAt, isFullAt, isFullAbandoned}
-use Rattle.demands.specs.RefusalRows.{openRows, beginRows, stepRows, endRows, abandonRows, abandonEndRows, evictAnswerRows, evictNodeRows, renewRows, rowsOf, endsOf, Gives, RefusalRows, Smallest, SmallestGiven, hasReversed, IsReversedBegin, OnlyReversed, GivenNoLonger}
+use Rattle.demands.specs.RefusalRows.{openRows, beginRows, stepRows, endRows, abandonRows, abandonEndRows, evictAnswerRows, evictNodeRows, renewRows, rowsOf, endsOf, Gives, Smallest, hasReversed, IsReversedBegin}
 
 -- ---- The first of two lists of rows
 pub first-refused : (a b : List Row) → someApplies a ≡ true → firstOf (a ++ b) ≡ firstOf a

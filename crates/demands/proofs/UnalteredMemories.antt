@@ -1,15 +1,15 @@
 -- What each change that the rules make to a memory leaves past its least length, for memories of any contents that pass the refusals.
 -- Leans on rules' Memory and Steps, and on its laws of the memories. Assumes nothing.
 use mathlib.Core.Path.{_≡_, refl, sym, subst, _∙_}
-use mathlib.Core.List.{List, []}
+use mathlib.Core.List.{List}
 use Prim.Native.Nat.{ℕ, _+_, _≤_, _<_}
 use native.Mathlib.Omega.{arith}
-use lib.ListN.{length, getD}
+use lib.ListN.{length}
 use Rattle.lists.specs.Lists.{written}
 use Rattle.laws.proofs.RowLaws.{Wide}
 use Rattle.laws.proofs.WrittenLaws.{length-written, drop-written}
 use Rattle.query.specs.Shape.{Form, Shape}
-use Rattle.rules.specs.Layout.{maxRecords, maxNodes, maxAnswers, maxClients, tableLeast, nodesLeast, answersLeast, clientsLeast, entryWidth, answersEnd, clientWidth}
+use Rattle.rules.specs.Layout.{maxRecords, maxAnswers, maxClients, tableLeast, nodesLeast, answersLeast, clientsLeast, entryWidth, answersEnd, clientWidth}
 use Rattle.rules.specs.Table.{Table}
 use Rattle.rules.specs.Nodes.{Store}
 use Rattle.rules.specs.Answers.{Entry}

@@ -4,11 +4,10 @@ use mathlib.Core.Path.{_≡_}
 use mathlib.Core.Bool.{Bool, true, false, cond}
 use mathlib.Core.List.{List, [], map}
 use Prim.Native.Nat.{ℕ, _+_, _-_, _*_, _≤_, _<_}
-use native.Mathlib.Omega.{arith}
 use lib.Dec.{eqb, ltb, leb}
 use lib.ListN.{length, getD, take}
 use Rattle.lists.specs.Lists.{In}
-use Rattle.query.specs.Shape.{Shape, maxColumns, Form, narrow, wide}
+use Rattle.query.specs.Shape.{Shape, maxColumns}
 use Rattle.rules.specs.Layout.{maxRecords, maxNodes, maxAnswers, maxClients}
 use Rattle.rules.specs.Layout.{recordCountOffset, nodeCountOffset, answerCountOffset, entryWidth, answersEnd}
 use Rattle.rules.specs.declared.Outcome.{Outcome}

@@ -6,9 +6,8 @@ use mathlib.Core.List.{List, [], _∷_}
 use Prim.Native.Nat.{ℕ, _+_, _-_, _≤_, _<_}
 use native.Mathlib.Omega.{arith}
 use lib.Dec.{eqb, ltb}
-use lib.ListN.{length, getD, length-replicate}
+use lib.ListN.{length}
 use borrow.Author.Tests.{le-leb, lt-leb, eq-eqb, ne-eqb}
-use Rattle.laws.proofs.ListLaws.{same-refl, same-eq}
 use Rattle.laws.proofs.TestLaws.{byTest}
 use Rattle.query.specs.Query.{Record, naming}
 use Rattle.query.specs.Encoding.{keyWidth, keyWords, recordOf, bareKey}
@@ -18,7 +17,7 @@ use Rattle.rules.specs.Layout.{maxRecords, maxList, clientWidth, reads}
 use Rattle.rules.specs.Table.{Change, insert, delete, target}
 use Rattle.rules.specs.Work.{Ask, readLabels, askKey, askIn, Write, writeLabels, Work, asking, writing, changeKind, kindOf, keyOf, changeIn, writeIn}
 use Rattle.rules.specs.Work.{workIn, workFault, stepsInAll}
-use Rattle.rules.specs.Answers.{revisionsIn, Entry, keyIn, isCount, mostIn, isLong, valueIn}
+use Rattle.rules.specs.Answers.{revisionsIn, keyIn, isCount, mostIn, isLong, valueIn}
 use Rattle.rules.specs.Client.{Client, kind, steps, sawPending, didChange, foundFull, entryOf, isIdle, askAt, workAt, isBad, begun}
 use Rattle.rules.specs.Client as rules
 use Rattle.rules.specs.Sound.{Busy}

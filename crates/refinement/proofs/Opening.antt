@@ -1,8 +1,8 @@
 -- Memories that an accepted opening leaves fit, and stand for the machine's opened state. Leans on Abstraction and ClientPhases, and on rules'
 -- OpenedLaws. Assumes nothing.
-use mathlib.Core.Path.{_≡_, refl, ap, fun-ext, _∙_}
-use mathlib.Core.List.{List, [], map}
-use Prim.Native.Nat.{ℕ, _≤_, _<_}
+use mathlib.Core.Path.{_≡_, fun-ext}
+use mathlib.Core.List.{[], map}
+use Prim.Native.Nat.{ℕ, _≤_}
 use native.Mathlib.Omega.{arith}
 use lib.Dec.{ltb}
 use borrow.Author.Tests.{ltb-true}
@@ -12,7 +12,7 @@ use Rattle.query.specs.Shape.{Shape, shapeOf, maxColumns}
 use Rattle.rules.specs.Layout.{maxClients}
 use Rattle.rules.specs.Memory.{Mem, answersIn, storeIn, opened}
 use Rattle.rules.specs.Nodes.{store}
-use Rattle.rules.specs.Refusals.{form, shape, columns, client, openCode}
+use Rattle.rules.specs.Refusals.{form, shape, columns, openCode}
 use Rattle.rules.specs.Client as rules
 use Rattle.rules.specs.Sound.{Long}
 use Rattle.rules.proofs.ClientLaws.{idle-is, idle-sound}

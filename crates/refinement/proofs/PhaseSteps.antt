@@ -6,11 +6,10 @@ use mathlib.Core.List.{List, [], _∷_, _++_}
 use Prim.Native.Nat.{ℕ, suc, _+_, _-_, _≤_, _<_}
 use native.Mathlib.Omega.{arith}
 use lib.Dec.{ltb}
-use lib.ListN.{length, drop, length-drop}
-use lib.Seq.{length-take-le}
+use lib.ListN.{length}
 use borrow.Author.Tests.{le-ltb}
 use Rattle.query.specs.Shape.{Shape, maxColumns}
-use Rattle.rules.specs.Layout.{maxRecords, maxList, lookRoom, revisionsOffset, listRoom}
+use Rattle.rules.specs.Layout.{maxRecords, maxList, lookRoom, listRoom}
 use Rattle.rules.specs.Work.{Ask, Value, readLabels, Write, writeLabels, asking, writing, stepsInAll}
 use Rattle.rules.specs.Answers.{revisionsIn, isCount, mostIn, isLong}
 use Rattle.rules.specs.Client.{Client, steps, sawPending, didChange, foundFull, entryOf, stepped, noted, holding, wrote}

@@ -12,7 +12,7 @@ use Rattle.lists.specs.Lists.{In}
 use Rattle.laws.proofs.TestLaws.{byTest}
 use Rattle.laws.proofs.RowLaws.{Wide}
 use Rattle.query.specs.Shape.{Shape, shapeOf}
-use Rattle.rules.specs.Layout.{maxRecords, maxNodes, maxAnswers, maxClients, entryWidth, clientWidth, keptClient, clientOffset}
+use Rattle.rules.specs.Layout.{maxRecords, maxNodes, maxAnswers, maxClients, entryWidth, keptClient, clientOffset}
 use Rattle.rules.specs.declared.Outcome.{Outcome}
 use Rattle.rules.specs.Table.{Table}
 use Rattle.rules.specs.Nodes.{Store}

@@ -1,21 +1,20 @@
 -- What every step leans on: the desk that goes, marks taken off, and the tray. Leans on StatesAfter and ClientPhases. Assumes nothing.
-use mathlib.Core.Path.{_≡_, refl, sym, _∙_}
+use mathlib.Core.Path.{_≡_, sym, _∙_}
 use mathlib.Core.Option.{Option, none, some}
 use mathlib.Core.Bool.{Bool, true, false}
 use mathlib.Core.List.{List}
 use Prim.Native.Nat.{ℕ, _+_, _-_, _*_, _≤_, _<_}
 use native.Mathlib.Omega.{arith}
-use lib.ListN.{length, drop, length-drop}
-use lib.Seq.{length-take-le}
+use lib.ListN.{length}
 use borrow.Author.Tests.{lt-ltb}
 use Rattle.lists.specs.Lists.{written}
 use Rattle.laws.proofs.TestLaws.{byTest}
 use Rattle.laws.proofs.WrittenLaws.{written-read}
-use Rattle.query.specs.Shape.{Shape, maxColumns}
-use Rattle.rules.specs.Layout.{maxClients, listOffset, entryWidth}
+use Rattle.query.specs.Shape.{Shape}
+use Rattle.rules.specs.Layout.{maxClients}
 use Rattle.rules.specs.declared.Outcome.the-variants.{Answered}
 use Rattle.rules.specs.Work.{Value, Write, writing, writeLabels}
-use Rattle.rules.specs.Answers.{Entry, lengthIn, isCount, isLong, listIn, valueIn}
+use Rattle.rules.specs.Answers.{Entry}
 use Rattle.rules.specs.Client.{Client, steps, didChange, foundFull, entryOf, isIdle, workAt}
 use Rattle.rules.specs.Client as rules-client
 use Rattle.rules.specs.Memory.{Mem, storeIn}
@@ -25,7 +24,7 @@ use Rattle.rules.specs.Outcome.{resultWith}
 use Rattle.rules.specs.Steps.{nowAt, storeBack, endOf}
 use Rattle.rules.specs.Steps as rules-steps
 use Rattle.rules.specs.Sound.{Busy}
-use Rattle.rules.proofs.ClientLaws.{busy-of, client-room, client-wide, list-room, list-short}
+use Rattle.rules.proofs.ClientLaws.{busy-of, client-room, client-wide}
 use Rattle.rules.proofs.HoldingLaws.{Whole}
 use Rattle.revisions.specs.EffectiveRevision.{NoDup, Retired}
 use Rattle.revisions.proofs.NodeOperations.{RetiredOk, retired-ok}

@@ -1,22 +1,22 @@
 -- Laws of check words: a node read with what its check tells, and kept. What is read back is what was written, for any numbers; of numbers below
 -- 2^32 what is written back is what was there. Leans on Checks and on the laws of halves. Assumes nothing.
 use mathlib.Core.Path.{_≡_, refl, sym, ap, _∙_}
-use mathlib.Core.Bool.{Bool, true, false, cond, _&&_}
-use mathlib.Core.List.{List, [], _∷_, _++_}
-use Prim.Native.Nat.{ℕ, zero, suc, _+_, _*_, _-_, _/_, _%_, _≤_, _<_}
+use mathlib.Core.Bool.{false, _&&_}
+use mathlib.Core.List.{List, _∷_}
+use Prim.Native.Nat.{ℕ, _+_, _*_, _-_, _/_, _%_, _≤_, _<_}
 use native.Mathlib.Omega.{arith}
 use lib.Dec.{eqb}
 use lib.ListN.{length, getD, take, drop, set, length-set, length-drop}
 use lib.Seq.{set-getD, getD-set-same, getD-set-other, set-set, take-set-lt, length-take-le, getD-take, getD-drop}
 use borrow.Author.Tests.{eqb-true, eqb-false, eq-eqb, ne-eqb}
-use Rattle.lists.specs.Lists.{same, radix, wholes, halves, wholesAt, halvesAt}
+use Rattle.lists.specs.Lists.{same, radix, wholesAt, halvesAt}
 use Rattle.laws.proofs.TestLaws.{byTest, same-test}
 use Rattle.laws.proofs.ListLaws.{and-true, and-left, and-right, same-eq, eq-same}
 use Rattle.laws.proofs.HalfLaws.{length-wholesAt, length-halvesAt, wholesAt-halvesAt, halvesAt-wholesAt, Below, take-wholesAt, getD-wholesAt, whole-at}
 use Rattle.query.specs.Shape.{wide}
 use Rattle.query.specs.Encoding.{labelWidth}
 use Rattle.rules.specs.Layout.{nodeWidth, keptNode, revisionOffset}
-use Rattle.rules.specs.Nodes.{Words, Node, hasLabel, labelIn, withPending, withRevision, pending, revision}
+use Rattle.rules.specs.Nodes.{Words, Node, hasLabel, labelIn, pending, revision}
 use Rattle.rules.specs.Checks.{checkOf, misfit, labelled, bared, checkFor}
 use Rattle.rules.specs.Memory.{nodeFrom, nodeTo}
 

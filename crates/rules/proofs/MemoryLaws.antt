@@ -3,8 +3,8 @@
 -- in the crate of that memory. Those of the clients stand in ClientLaws. Leans on Memory and on the laws of entries and parts. Assumes nothing.
 use mathlib.Core.Path.{_≡_, refl, sym, ap, _∙_}
 use mathlib.Core.Logic.{inl, inr}
-use mathlib.Core.List.{List, [], _∷_, map}
-use Prim.Native.Nat.{ℕ, _+_, _-_, _*_, _/_, _%_, _≤_, _<_}
+use mathlib.Core.List.{List, map}
+use Prim.Native.Nat.{ℕ, _+_, _-_, _*_, _/_, _%_, _≤_}
 use native.Mathlib.Nat.{mul-le-mul-right}
 use native.Mathlib.Omega.{arith}
 use lib.ListN.{length, getD, drop, set, length-set}
@@ -15,7 +15,7 @@ use Rattle.laws.proofs.EntryLaws.{length-entries, wide-entries, entries-header,
 use Rattle.laws.proofs.PartLaws.{Clear, Apart, length-each, wide-each, back-each, length-kept, kept-header, wide-kept, length-with-kept, count-with-kept, kept-with, past-with-kept}
 use Rattle.laws.proofs.HalfLaws.{length-halvesAt, length-wholesAt, wholesAt-halvesAt}
 use Rattle.query.specs.Shape.{Form, narrow, wide, Shape, maxColumns}
-use Rattle.rules.specs.Layout.{maxRecords, maxNodes, maxAnswers, tableLeast, nodesLeast, answersLeast, floorOffset, upperFloorOffset, nodeCountOffset, answerCountOffset}
+use Rattle.rules.specs.Layout.{maxRecords, maxNodes, maxAnswers, tableLeast, nodesLeast, answersLeast, floorOffset, upperFloorOffset}
 use Rattle.rules.specs.Layout.{nodeWidth, nodeParts, nodesEnd, keptNode, revisionsOffset, lookRoom, entryWidth, keptEntry, answerParts, answersEnd}
 use Rattle.rules.specs.Table.{Table}
 use Rattle.rules.specs.Nodes.{Store}

@@ -1,7 +1,7 @@
 -- Laws of a node: its label, its pending writes and its revision after each change that the rules make to one, and its width. What a node is in
 -- numbers is opened here and nowhere above. Leans on Nodes. Assumes nothing.
 use mathlib.Core.Path.{_≡_, refl, _∙_}
-use mathlib.Core.List.{List, [], _∷_, _++_}
+use mathlib.Core.List.{List, [], _∷_}
 use Prim.Native.Nat.{ℕ, zero, suc, _+_, _*_, _≤_}
 use native.Mathlib.Omega.{arith}
 use lib.ListN.{length, getD, set, length-append, length-set}

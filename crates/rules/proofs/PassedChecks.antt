@@ -12,13 +12,12 @@ use Rattle.laws.proofs.ListLaws.{below-at, and-left, and-right}
 use Rattle.laws.proofs.TestLaws.{or-false, passed}
 use Rattle.query.specs.Encoding.{queryOf, isQuery, namesAll}
 use Rattle.query.specs.declared.Range.{Range}
-use Rattle.rules.specs.Layout.{recordCountOffset, nodeCountOffset, answerCountOffset, maxRecords, maxNodes, maxAnswers, maxClients, tableLeast, nodesLeast, answersLeast, clientsLeast, trayLeast}
+use Rattle.rules.specs.Layout.{nodeCountOffset, answerCountOffset, maxClients, answersLeast, clientsLeast, trayLeast}
 use Rattle.rules.specs.Nodes.{isWorn, pending}
-use Rattle.rules.specs.Answers.{someLong}
 use Rattle.rules.specs.Client.{isIdle, isBad, workAt}
 use Rattle.rules.specs.Work.{Request, readOf, insertOf, deleteOf, askFault, askOf, isWrite, faultOf}
 use Rattle.rules.specs.Layout.{refusedColumns}
-use Rattle.rules.specs.Memory.{Mem, storeIn, answersIn}
+use Rattle.rules.specs.Memory.{Mem, storeIn}
 use Rattle.query.specs.Shape.{Form, narrow, wide, Shape, shapeOf, maxColumns}
 use Rattle.rules.specs.Sound.{Long, Sound, Busy}
 use Rattle.rules.proofs.ClientLaws.{busy-of, client-room, client-wide}

@@ -3,7 +3,7 @@
 -- Leans on Memory. Definitions only. Assumes nothing.
 use mathlib.Core.Path.{_≡_}
 use mathlib.Core.Bool.{false}
-use Prim.Native.Nat.{ℕ, _≤_, _<_}
+use Prim.Native.Nat.{_≤_, _<_}
 use lib.ListN.{length, getD}
 use Rattle.query.specs.Shape.{Shape, maxColumns}
 use Rattle.rules.specs.Layout.{maxRecords, maxNodes, maxAnswers, tableLeast, nodesLeast, answersLeast, clientsLeast, clientWidth}

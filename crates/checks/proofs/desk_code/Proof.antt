@@ -3,7 +3,6 @@ use mathlib.Core.Path.{sym, _∙_}
 use Rattle.rules.proofs.PassedChecks.{idle-passed}
 use Rattle.checks.proofs.SoundMemories.{nodes-fit}
 use Rattle.checks.proofs.BeginCodes.{reads-only, writes-only, desk-busy, desk-other, desk-read, desk-worn, desk-write}
-use borrow.Author.Needs.{needs}
 use Rattle.checks.proofs.desk_code.Statement.{statement}
 use Rattle.checks.proofs.desk_code.Tie as tie
 

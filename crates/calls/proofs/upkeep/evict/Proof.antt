@@ -1,5 +1,4 @@
 -- `calls::upkeep::evict` meets its contract: a refusal, or the entry at the place taken out. Assumes nothing.
-use mathlib.Core.Path.{sym, _∙_}
 use native.Mathlib.Omega.{arith}
 use Rattle.rules.proofs.PassedChecks.{evict-answer-passed, evict-node-passed}
 use Rattle.checks.proofs.SoundMemories.{nodes-fit, answers-fit}
