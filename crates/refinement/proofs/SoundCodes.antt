@@ -7,35 +7,27 @@ use Prim.Native.Nat.{ℕ, _≤_, _<_}
 use native.Mathlib.Omega.{arith}
 use lib.Dec.{eqb, ltb, leb}
 use lib.ListN.{length, getD}
-use borrow.Author.Tests.{le-ltb, lt-leb, leb-false, ne-eqb}
+use borrow.Author.Tests.{le-ltb, lt-leb, leb-false}
 use Rattle.laws.proofs.TestLaws.{clash}
 use Rattle.laws.proofs.SearchLaws.{place-all}
 use Rattle.laws.proofs.Members.{in-at}
-use Rattle.query.specs.Shape.{Shape, maxColumns}
-use Rattle.rules.specs.Layout.{maxRecords, maxNodes, maxAnswers, maxClients, trayLeast, tableLeast, nodesLeast, answersLeast, clientsLeast}
-use Rattle.rules.specs.Layout.{recordCountOffset, nodeCountOffset, answerCountOffset}
+use Rattle.query.specs.Shape.{Shape}
+use Rattle.rules.specs.Layout.{maxClients, trayLeast}
+use Rattle.rules.specs.Layout.{nodeCountOffset, answerCountOffset}
 use Rattle.rules.specs.Nodes.{isWorn, pending}
 use Rattle.rules.specs.Answers.{Entry, isLong, someLong}
 use Rattle.rules.specs.Client.{isIdle, isBad}
 use Rattle.rules.specs.Memory.{Mem, storeIn, answersIn}
-use Rattle.rules.specs.Refusals.{form, columns, client, isShort, badColumns, isUnsound, noClient, allIdle, atClient, beginCode, stepCode, abandonCode}
+use Rattle.rules.specs.Refusals.{form, client, isShort, isUnsound, noClient, allIdle, atClient, beginCode, stepCode, abandonCode}
 use Rattle.rules.specs.Refusals.{evictAnswerCode, evictNodeCode, renewCode, shape}
 use Rattle.rules.specs.Work.{Request, faultOf, isWrite}
+use Rattle.rules.specs.Sound.{Sound}
+use Rattle.rules.proofs.PassedChecks as passed
 use Rattle.refinement.proofs.Abstraction.{Fits}
 use Rattle.refinement.proofs.RefusedCalls.{fault-code}
 
 -- ---- No test is met but those of the call itself
 module _ (m : Mem) (f : Fits m) where
-  pub not-short : isShort (shape m) m ≡ false
-  unfolding isShort
-  not-short =
-      rw (
-        le-ltb (length (m .table)) tableLeast (f .long .table),
-        le-ltb (length (m .nodes)) (nodesLeast (form m)) (f .long .nodes),
-        le-ltb (length (m .answers)) (answersLeast (form m) (shape m)) (f .long .answers),
-        le-ltb (length (m .clients)) (clientsLeast (form m) (shape m)) (f .long .clients),
-      ) refl
-
   none-long : someLong (answersIn (form m) (m .answers)) ≡ false
   unfolding someLong
   none-long =
@@ -43,18 +35,14 @@ module _ (m : Mem) (f : Fits m) where
       let a = place-all isLong es [] (λ j l. f .kept (getD es j []) (in-at [] es j l) .short) in
       rw a (le-ltb (length es) (length es) (omega arith))
 
+  pub sound-of : Sound m
+  sound-of = record { long = f .long; least = f .some; most = f .few; records = f .records; nodes = f .nodes; answers = f .answers; lists = none-long }
+
+  pub not-short : isShort (shape m) m ≡ false
+  not-short = passed.not-short m (f .long)
+
   pub sound : isUnsound m ≡ false
-  unfolding isUnsound badColumns
-  sound =
-      let k = f .some in
-      rw (
-        ne-eqb (columns m) 0 (λ e. omega arith),
-        le-ltb maxColumns (columns m) (f .few),
-        le-ltb maxRecords (getD (m .table) recordCountOffset 0) (f .records),
-        le-ltb maxNodes (getD (m .nodes) nodeCountOffset 0) (f .nodes),
-        le-ltb maxAnswers (getD (m .answers) answerCountOffset 0) (f .answers),
-        none-long,
-      ) refl
+  sound = passed.not-unsound m sound-of
 
 -- ---- No code is 3
 no-three : (b : Bool) (n rest : ℕ) → (b ≡ true → n ≡ 3 → ⊥) → (b ≡ false → rest ≡ 3 → ⊥) → cond b n rest ≡ 3 → ⊥

@@ -6,13 +6,13 @@ use mathlib.Core.List.{List, []}
 use Prim.Native.Nat.{ℕ, _≤_, _<_}
 use native.Mathlib.Omega.{arith}
 use lib.Dec.{eqb, ltb, leb}
-use borrow.Author.Tests.{ltb-false, leb-false, eqb-true, eqb-false, not-false}
+use borrow.Author.Tests.{ltb-false, le-ltb, leb-false, eqb-true, eqb-false, ne-eqb, not-false}
 use lib.ListN.{length, getD}
 use Rattle.laws.proofs.ListLaws.{below-at, and-left, and-right}
 use Rattle.laws.proofs.TestLaws.{or-false, passed}
 use Rattle.query.specs.Encoding.{queryOf, isQuery, namesAll}
 use Rattle.query.specs.declared.Range.{Range}
-use Rattle.rules.specs.Layout.{nodeCountOffset, answerCountOffset, maxClients, answersLeast, clientsLeast, trayLeast}
+use Rattle.rules.specs.Layout.{recordCountOffset, nodeCountOffset, answerCountOffset, maxRecords, maxNodes, maxAnswers, maxClients, tableLeast, nodesLeast, answersLeast, clientsLeast, trayLeast}
 use Rattle.rules.specs.Nodes.{isWorn, pending}
 use Rattle.rules.specs.Client.{isIdle, isBad, workAt}
 use Rattle.rules.specs.Work.{Request, readOf, insertOf, deleteOf, askFault, askOf, isWrite, faultOf}
@@ -72,6 +72,30 @@ sound m s e =
       answers = ltb-false _ _ (d .0);
       lists = d .1;
     }
+
+-- and the other way
+pub not-short : (m : Mem) → Long m → isShort (shape m) m ≡ false
+unfolding isShort
+not-short m l =
+    rw (
+      le-ltb (length (m .table)) tableLeast (l .table),
+      le-ltb (length (m .nodes)) (nodesLeast (form m)) (l .nodes),
+      le-ltb (length (m .answers)) (answersLeast (form m) (shape m)) (l .answers),
+      le-ltb (length (m .clients)) (clientsLeast (form m) (shape m)) (l .clients),
+    ) refl
+
+pub not-unsound : (m : Mem) → Sound m → isUnsound m ≡ false
+unfolding isUnsound badColumns
+not-unsound m s =
+    let k = s .least in
+    rw (
+      ne-eqb (columns m) 0 (λ e. omega arith),
+      le-ltb maxColumns (columns m) (s .most),
+      le-ltb maxRecords (getD (m .table) recordCountOffset 0) (s .records),
+      le-ltb maxNodes (getD (m .nodes) nodeCountOffset 0) (s .nodes),
+      le-ltb maxAnswers (getD (m .answers) answerCountOffset 0) (s .answers),
+      s .lists,
+    ) refl
 
 -- ---- A busy client
 client-passed : (d : ℕ) → noClient d ≡ false → d < maxClients

@@ -1,0 +1,9 @@
+pub mod AlikeParts
+pub mod AlikeCodes
+pub mod AlikeCalls
+pub mod Carried
+pub mod FormStays
+pub mod LaterCalls
+pub mod CarryRefusals
+pub mod CarryLeaves
+pub mod CarriedMidWork
