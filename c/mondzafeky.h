@@ -110,7 +110,10 @@ typedef struct {
 #define MONDZAFEKY_FROM_FILE 1u  /* a read or a count, answered with a filed answer */
 #define MONDZAFEKY_FROM_TABLE 2u /* a read or a count, answered from the table */
 #define MONDZAFEKY_CHANGED 3u    /* a write, and it changed the table */
-#define MONDZAFEKY_UNCHANGED 4u  /* a write, and the table is as it was: filed answers still hold */
+#define MONDZAFEKY_UNCHANGED 4u  /* a write, and it left the table as it was and raised no counter:
+                                    it costs a read that begins later no filed answer, unless a node
+                                    of that answer was put out, as those that a write adds may do
+                                    where 1,024 are there */
 
 /*
  * The day's tally: how many reads and writes were begun and how they ended, so that it can be seen
@@ -203,7 +206,7 @@ mondzafeky_reply mondzafeky_open(
  * A 0 in a record means "not measured": a star finds it, a named value never does, 0 neither. So a
  * read, count or delete that names 0 finds no record.
  *
- * begin_read: a read of the records that fit. It takes at most 19 steps. Refusals: 1 to 5.
+ * begin_read: a read of the records that fit. It takes at most 19 accepted steps. Refusals: 1 to 5.
  */
 mondzafeky_reply mondzafeky_begin_read(
     uint32_t *table, size_t table_len, uint32_t *nodes, size_t nodes_len,
@@ -211,9 +214,9 @@ mondzafeky_reply mondzafeky_begin_read(
     uint32_t client, const uint32_t *query, size_t query_len);
 
 /*
- * begin_count: a read that wants only how many records fit. It makes a read's steps, at most 19,
- * and is answered with the reply's count, 0 to 2,048, never with 12. A tray that is long enough
- * must be lent to its steps as to all others; none of them writes it. Refusals: 1 to 5.
+ * begin_count: a read that wants only how many records fit. It makes a read's steps, at most 19
+ * accepted ones, and is answered with the reply's count, 0 to 2,048, never with 12. A tray that is
+ * long enough must be lent to its steps as to all others; none of them writes it. Refusals: 1 to 5.
  */
 mondzafeky_reply mondzafeky_begin_count(
     uint32_t *table, size_t table_len, uint32_t *nodes, size_t nodes_len,
@@ -243,14 +246,17 @@ mondzafeky_reply mondzafeky_begin_count_within(
 
 /*
  * begin_insert: an insert of one record; every column has its value, 0 where none was measured. It
- * takes at most 33 steps. Refusals: 1 to 5, and 10.
+ * takes at most 33 accepted steps. Refusals: 1 to 5, and 10.
  */
 mondzafeky_reply mondzafeky_begin_insert(
     uint32_t *table, size_t table_len, uint32_t *nodes, size_t nodes_len,
     uint32_t *answers, size_t answers_len, uint32_t *clients, size_t clients_len,
     uint32_t client, const uint32_t *query, size_t query_len);
 
-/* begin_delete: a delete of every record that fits. At most 33 steps. Refusals: 1 to 5, and 10. */
+/*
+ * begin_delete: a delete of every record that fits. It takes at most 33 accepted steps.
+ * Refusals: 1 to 5, and 10.
+ */
 mondzafeky_reply mondzafeky_begin_delete(
     uint32_t *table, size_t table_len, uint32_t *nodes, size_t nodes_len,
     uint32_t *answers, size_t answers_len, uint32_t *clients, size_t clients_len,
@@ -260,8 +266,9 @@ mondzafeky_reply mondzafeky_begin_delete(
  * One step of what is under way at the desk. It may write each of the four memories. A read's
  * answer writes count records of k numbers each from the tray's start, in ascending order, and
  * leaves the rest of the tray; other steps, those of a count too, leave the tray. The desk is idle
- * after an ending other than 0, and after the numbers 12 and 13. Refusals: 1 (of the tray too), 3,
- * 4, 6.
+ * after an ending other than 0, and after the numbers 12 and 13. In memories that only these calls
+ * have written into since an opening, a step at a busy desk with a tray of 128 numbers or more is
+ * accepted. Refusals: 1 (of the tray too), 3, 4, 6.
  */
 mondzafeky_reply mondzafeky_step(
     uint32_t *table, size_t table_len, uint32_t *nodes, size_t nodes_len,
@@ -269,12 +276,13 @@ mondzafeky_reply mondzafeky_step(
     uint32_t *tray, size_t tray_len, uint32_t client);
 
 /*
- * Ends what is under way at the desk in one call and at any time. Of a read nothing is left, nor of
- * a write before its table step, whose marks are taken back: number and ending are 0. A write that
- * has made its table step has taken effect: all of its remaining raises are made, and the reply is
- * its end as its last step would have told it, the ending 3 or 4, or the number 13. The counters go
- * up only if it changed the table. No mark of the write stays, and the desk is idle. Writes nodes
- * and clients. Refusals: 1, 3, 4, 6.
+ * Ends what is under way at the desk in one call and at any time. A read is given up, and so is a
+ * write before its table step, whose marks are taken back: number and ending are 0. The nodes that
+ * it has added stay, and those put out for them are gone. A write that has made its table step has
+ * taken effect: all of its remaining raises are made, and the reply is its end as its last step
+ * would have told it, the ending 3 or 4, or the number 13. The counters go up only if it changed
+ * the table. No mark of the write stays, and the desk is idle. Writes nodes and clients. Refusals:
+ * 1, 3, 4, 6.
  */
 mondzafeky_reply mondzafeky_abandon(
     uint32_t *table, size_t table_len, uint32_t *nodes, size_t nodes_len,
@@ -438,7 +446,7 @@ static inline mondzafeky_reply mondzafeky_hall_open(mondzafeky_hall *hall, uint3
 
 /*
  * Begins a read of the records that fit the query, at a desk, 0 to 11. columns: how many the query
- * has; k. It takes at most 19 steps. Refusals: 2 to 5.
+ * has; k. It takes at most 19 accepted steps. Refusals: 2 to 5.
  */
 static inline mondzafeky_reply mondzafeky_hall_begin_read(
     mondzafeky_hall *hall, uint32_t client, const mondzafeky_column *query, size_t columns)
@@ -485,14 +493,17 @@ static inline mondzafeky_reply mondzafeky_hall_begin_count_within(
                                          column, lowest, highest);
 }
 
-/* Begins an insert of one record; no column is a star. At most 33 steps. Refusals: 2 to 5, 10. */
+/*
+ * Begins an insert of one record; no column is a star. It takes at most 33 accepted steps.
+ * Refusals: 2 to 5, 10.
+ */
 static inline mondzafeky_reply mondzafeky_hall_begin_insert(
     mondzafeky_hall *hall, uint32_t client, const mondzafeky_column *query, size_t columns)
 {
     return mondzafeky_begin_insert(MONDZAFEKY_MEMORIES_(hall), client, (const uint32_t *)query, 2u * columns);
 }
 
-/* Begins a delete of all records that fit. At most 33 steps. Refusals: 2 to 5, 10. */
+/* Begins a delete of all records that fit. At most 33 accepted steps. Refusals: 2 to 5, 10. */
 static inline mondzafeky_reply mondzafeky_hall_begin_delete(
     mondzafeky_hall *hall, uint32_t client, const mondzafeky_column *query, size_t columns)
 {
@@ -514,8 +525,10 @@ static inline mondzafeky_reply mondzafeky_hall_step(mondzafeky_hall *hall, uint3
 /*
  * Ends what is under way at the desk, at any time: for a bench that was pulled out. If the reply
  * is an end (mondzafeky_ended), a write had reached the table, and has ended so: changed, unchanged
- * or 13. If it is accepted without an end, nothing is left of what was there: a read, or a write
- * that had not reached the table. The desk is idle after both. Refusals: 3, 4, 6.
+ * or 13. If it is accepted without an end, what was there is given up, a read, or a write that had
+ * not reached the table: the table is as if it had not been begun and its marks are taken back; the
+ * nodes that it has added stay, and those put out for them are gone. The desk is idle after both.
+ * Refusals: 3, 4, 6.
  */
 static inline mondzafeky_reply mondzafeky_hall_abandon(mondzafeky_hall *hall, uint32_t client)
 {

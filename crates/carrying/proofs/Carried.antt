@@ -29,7 +29,7 @@ use Rattle.refinement.proofs.Abstraction.{Fits, stateOf}
 use Rattle.refinement.proofs.SoundCodes.{sound-of}
 use Rattle.rules.proofs.NodeSizes.{Sized}
 use Rattle.rules.proofs.MemoryLaws.{length-records, wide-records, wide-nodes, wide-answers, records-with, length-with-records, length-nodes, store-with, length-with-store, answers-room, length-answers, answers-with, length-with-answers}
-use Rattle.rules.proofs.OpenedLaws.{length-cleared, cleared-at, told-length, told-columns, some-nodes, some-answers, some-clients}
+use Rattle.rules.proofs.OpenedLaws.{length-cleared, cleared-at, told-length, told-columns, told-wide, some-nodes, some-answers, some-clients}
 use Rattle.refinement.proofs.NeverRefused.{Lasting}
 use Rattle.carrying.specs.Alike.{Alike, Wider}
 use Rattle.carrying.specs.Carrying.{withClientsOf, carried}
@@ -252,10 +252,6 @@ carried-fits o n f l =
     }
 
 -- the number that tells the form
-told-form : (f : Form) (s : List ℕ) → f ≡ wide → 2 ≤ length s → getD (told f s) formOffset 0 ≡ tellsWide
-unfolding told
-told-form f s e h = rw e (getD-set-same s formOffset tellsWide 0 (omega arith))
-
 pub told-carried : (o n : Mem) → Sound o → Long n → form n ≡ wide → getD (carried o n .clients) formOffset 0 ≡ tellsWide
 unfolding carried
 told-carried o n f l e =
@@ -264,7 +260,7 @@ told-carried o n f l e =
     let y = some-clients (form n) (shape o) in
     let b = length-set (cleared (clientsLeast (form n) (shape o)) (n .clients)) columnsOffset (columns o) in
     front-clients (form n) (shape o) (header-only o n f l) (header-long o n f l) (client o) 1 (omega arith) maxClients (omega arith) (desks-wide o n f l)
-    ∙ told-form (form n) (set (cleared (clientsLeast (form n) (shape o)) (n .clients)) columnsOffset (columns o)) e (omega arith)
+    ∙ told-wide (form n) (set (cleared (clientsLeast (form n) (shape o)) (n .clients)) columnsOffset (columns o)) e (omega arith)
 
 -- what a history leaves, carried over, is as a history leaves it
 more-room : (f g : Form) (s t : State) → Wider f g → s ≡ t → Headroom f s → Headroom g t

@@ -7,20 +7,19 @@ use mathlib.Core.List.{List, [], _∷_}
 use Prim.Native.Nat.{ℕ}
 use native.Mathlib.Omega.{arith}
 use lib.Dec.{eqb}
-use lib.ListN.{getD, set}
-use lib.Seq.{getD-set-other}
+use lib.ListN.{getD}
 use borrow.Author.Tests.{eqb-true, eq-eqb}
 use Rattle.laws.proofs.TestLaws.{byTest}
 use Rattle.laws.proofs.ListLaws.{all-below}
-use Rattle.query.specs.Shape.{Form, narrow, wide, Shape, shapeOf}
-use Rattle.rules.specs.Layout.{refusedWorn, maxClients, columnsOffset, formOffset, tellsWide, clientsLeast}
+use Rattle.query.specs.Shape.{Form, narrow, wide, shapeOf}
+use Rattle.rules.specs.Layout.{refusedWorn, maxClients, formOffset, tellsWide}
 use Rattle.rules.specs.declared.Outcome.{Outcome}
 use Rattle.rules.specs.declared.Outcome.the-variants.{Refused, Accepted}
 use Rattle.rules.specs.declared.Tally.{Tally}
 use Rattle.rules.specs.declared.Count.{Count}
 use Rattle.rules.specs.declared.Count.the-variants.{NoCount}
 use Rattle.rules.specs.Client.{workAt, isBad}
-use Rattle.rules.specs.Memory.{Mem, opened, cleared, told}
+use Rattle.rules.specs.Memory.{Mem, opened}
 use Rattle.rules.specs.Refusals.{form, shape, client, openCode, abandonCode, isShort}
 use Rattle.rules.specs.Outcome.{Result, result}
 use Rattle.rules.specs.Calls.{unless, abandonResult}
@@ -32,7 +31,7 @@ use Rattle.machine.specs.Machine as machine
 use Rattle.machine.proofs.StateInv.{StateInv, opened-inv}
 use Rattle.machine.proofs.Headroom.{Headroom, opened-headroom}
 use Rattle.refinement.proofs.Abstraction.{Fits}
-use Rattle.rules.proofs.OpenedLaws.{opened-form, cleared-at}
+use Rattle.rules.proofs.OpenedLaws.{opened-form, opened-narrow}
 use Rattle.refinement.proofs.Opening.{opened-fits}
 use Rattle.refinement.proofs.SoundCodes.{sound-of, not-short, sound}
 use Rattle.refinement.proofs.Refinement.{form-stays}
@@ -147,15 +146,6 @@ carry-goes : (o n : Mem) → carryCode o n ≡ 0 → carryResult o n ≡ result 
 unfolding carryResult unless
 carry-goes o n e = rw e refl
 
--- an old hall tells its form by 0
-opened-tells : (sh : Shape) (m : Mem) → form m ≡ narrow → getD (opened sh m .clients) formOffset 0 ≡ 0
-unfolding opened
-opened-tells sh m e = rw e (old-tells sh (m .clients))
-  where
-    old-tells : (sh : Shape) (s : List ℕ) → getD (told narrow (set (cleared (clientsLeast narrow sh) s) columnsOffset (sh .columns))) formOffset 0 ≡ 0
-    old-tells sh s = unfold told in
-        getD-set-other (cleared (clientsLeast narrow sh) s) columnsOffset formOffset (sh .columns) 0 (λ z. omega arith) ∙ cleared-at (clientsLeast narrow sh) s formOffset (omega arith)
-
 -- ---- S-8: an old hall is opened, has any calls, and is carried over into memories n that are long enough in the wide form, whatever they hold;
 -- then come any calls
 pub carrying-holds : (m : Mem) (k : ℕ) → form m ≡ narrow → openCode m k ≡ 0 → (xs : List Made) (n : Mem) → form n ≡ wide
@@ -168,7 +158,7 @@ carrying-holds m k e z xs n g l ys =
     let p : form o ≡ narrow = form-after s h xs ∙ opened-form m (shapeOf k) (open-passed m k z .0) ∙ e in
     let v = subst (λ (f : Form). Wider f (form n)) (sym p) (subst (λ (f : Form). Wider narrow f) (sym g) narrow-wide) in
     let t = lasting-after s h xs in
-    let c = carry-goes o n (carry-taken o n (t .fits) (stays-after s h xs ∙ opened-tells (shapeOf k) m e) l) in
+    let c = carry-goes o n (carry-taken o n (t .fits) (stays-after s h xs ∙ opened-narrow m (shapeOf k) (open-passed m k z .0) e) l) in
     let q = long (shape o) n l in
     let y : Mem = carried o n in
     record {

@@ -4,7 +4,7 @@
 -- unchanged later, the sentence would be false (`never-would-fail`). What the calls return is computed, in one pass over them; the rest follows
 -- from the theorems. Leans on Unlent, Demand2Holds, StepsMade and on Example, whose memories it opens. Assumes nothing.
 use mathlib.Core.Path.{_≡_, refl, sym, ap, _∙_}
-use mathlib.Core.Logic.{_⊎_, inr}
+use mathlib.Core.Logic.{_⊎_, inl, inr}
 use mathlib.Core.Bool.{Bool, true, false, cond, not, _&&_, _||_}
 use mathlib.Core.List.{List, [], _∷_}
 use Prim.Native.Nat.{ℕ, _+_, _≤_, _<_}
@@ -249,7 +249,7 @@ of-two P i l m w d a o p q =
 was-quiescent : Quiescent example x 6 18 21
 was-quiescent = record {
   quiet = λ i l m w d a o s. of-two (λ d a. EndedUnchanged example d a 18) i l (omega arith) w d a o
-      (record { request = inserting; by = 14; before = omega arith; ending = both .0 .0; says = both .0 .1 })
+      (record { request = inserting; by = 14; before = omega arith; ending = both .0 .0; says = inl (both .0 .1) })
       (λ y. absurd (omega arith));
   kept = kept 21 (omega arith);
 }

@@ -20,7 +20,8 @@ use Rattle.query.specs.Shape.{Shape, shapeOf}
 -- "A history is an accepted opening, with any k, and after it a list of calls, the empty one too"; a call may be lent a tally (S-7), any one each
 -- time
 pub record History : Type 0 where
-  -- the memories, with the form in which they are read: a history is one of either form
+  -- the memories, with the form in which they are read: a history is one of either form. Those of the calls as they are served now are of the
+  -- form `current` (rules, Memory)
   pub lent : Mem
   pub k : ℕ
   pub accepted : openCode lent k ≡ 0

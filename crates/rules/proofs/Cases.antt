@@ -1,8 +1,8 @@
 -- Document 01, "On each side of a line": cases 1 to 12 as rows of one table, S-1's counts beside case 10, S-3's ranges, S-4's abandoned writes,
--- S-5's zeros and S-6's writes that change nothing, with one computed test in the form that the calls serve, and those that go by a revision in the wide one. Rows 1 to 5 are those that query states about nodes; 6 to 12 are played on memories of full size that held
+-- S-5's zeros, S-6's writes that change nothing and S-7's tally, and the rules that none of these plays, with one computed test in the form that the calls serve, and those that go by a revision in the wide one. Rows 1 to 5 are those that query states about nodes; 6 to 12 are played on memories of full size that held
 -- other numbers before the opening. Leans on the rules' definitions. Assumes nothing.
 use mathlib.Core.Bool.{Bool, true, false, not, _&&_}
-use mathlib.Core.List.{List, [], _∷_, _++_}
+use mathlib.Core.List.{List, [], _∷_, _++_, map}
 use Prim.Native.Nat.{ℕ, zero, suc, _+_, _-_}
 use lib.Dec.{T, eqb}
 use lib.ListN.{length, getD, take, drop, set, replicate}
@@ -19,22 +19,24 @@ use Rattle.rules.specs.declared.Outcome.the-variants.{Refused, Accepted,
 use Rattle.rules.specs.Table.{listOf, has, putIn, target, isFull, outside, effect, noRoom, changes}
 use Rattle.rules.specs.Work.{Request, readOf, insertOf, deleteOf, ofRecords, ofNumber, askFault, listWithin, valueOf, mayAnswer, readLabels, askKey, askIn, writeLabels, changeKind, kindOf, keyOf, changeIn, writeIn, workIn, workFault, stepsInAll, isWrite, askOf, workOf, faultOf}
 use Rattle.query.specs.Shape.{Form, narrow, wide, shapeOf}
-use Rattle.rules.specs.Layout.{tableLeast, nodesLeast, answersLeast, clientsLeast, checksOffset}
+use Rattle.rules.specs.Layout.{lengthOffset, revisionsOffset, entryWidth, entryOffset, tableLeast, nodesLeast, answersLeast, clientsLeast, checksOffset}
 use Rattle.rules.specs.Checks.{checkOf, misfit, labelled, bared, checkFor}
 use Rattle.rules.specs.Nodes.{Node, store, labelIn, pending, revision, withPending, withRevision, hasLabel, nodePlace, isPresent, nodeOf, withNode, evictNode, newNode, added, isFree, oldestFree, makeRoom, addedIn, ensured, announcedIn, announced, isPending, released, lifted, mayRetire, retired, isHigh, isWorn}
-use Rattle.rules.specs.Answers.{keyIn, lengthIn, revisionIn, isCount, mostIn, listIn, valueIn, hasKeyOf, atLeast, serves, fetchPlace, keyPlace, filed, isLong, someLong}
+use Rattle.rules.specs.Answers.{Entry, keyIn, lengthIn, revisionIn, isCount, mostIn, listIn, valueIn, hasKeyOf, atLeast, serves, fetchPlace, keyPlace, filed, isLong, someLong}
 use Rattle.rules.specs.Client.{kind, steps, sawPending, didChange, foundFull, entryOf, idle, isIdle, begun, workAt, isBad, stepped, flag, noted, holding, wrote}
 use Rattle.rules.specs.Memory.{current, wideFloor, withWideFloor, nodeFrom, nodeTo, entryFrom, entryTo, Mem, memIn, withTable, withNodes, withClients, recordsIn, withRecords, storeIn, withStore, answersIn, withAnswers, clientIn, withClient, told, cleared, opened, renewed}
 use Rattle.rules.specs.Refusals.{form, columns, client, isShort, badColumns, isUnsound, noClient, allIdle, openCode, beginCode, atClient, stepCode, abandonCode, evictAnswerCode, evictNodeCode, renewCode}
 use Rattle.rules.specs.Steps.{nowAt, storeBack, answered, lookResult, fetchResult, tableResult, fileResult, readResult, announceResult, writeTableResult, endOf, raiseResult, writeResult, progressOf, progress}
 use Rattle.rules.specs.Calls.{unless, openResult, beginResult, stepResult, pastTable, retireResult, abandonedWrite, abandonedOf, abandoned, abandonResult, evictAnswerResult, evictNodeResult, renewResult}
-use Rattle.rules.specs.History.{Call, begin, step, abandon, evictNode as dropNode, untrayed, callResult}
-use Rattle.rules.specs.Tally.{isFullFor, isTallyFull, madeResult, unlent, memAfter}
+use Rattle.rules.specs.History.{Call, begin, step, abandon, evictAnswer as dropAnswer, evictNode as dropNode, renew, untrayed, callResult, trayOf}
+use Rattle.rules.specs.declared.Tally.{Tally}
+use Rattle.rules.specs.declared.Count.the-variants.{ReadBegun, FromFile, FromTable, EndedLong, ReadAbandoned, WriteBegun, EndedChanged, EndedUnchanged, WriteAbandoned}
+use Rattle.rules.specs.Tally.{countIn, rank, one as raise, clearedTally, raised, countOf, begunCount, abandonedCount, acceptedCount, wouldRaise, isFull as isCountFull, isFullFor, isTallyFull, madeResult, tallyAfter, talliedResult, unlent, memAfter}
 
 -- what a row expects of a call, or of the memories
 pub data Expect : Type 0 where
   goesOn : Expect
-  answers : List ℕ → Bool → Expect
+  lists : ℕ → List ℕ → Bool → Expect
   counts : ℕ → Bool → Expect
   refuses : ℕ → Expect
   long : Expect
@@ -56,12 +58,12 @@ meets goesOn (Answered n b) t = false
 meets goesOn Long t = false
 meets goesOn (Ended b) t = false
 meets goesOn Full t = false
-meets (answers l f) Accepted t = false
-meets (answers l f) (Refused n) t = false
-meets (answers l f) (Answered n b) t = eqb n (length l) && (agree f b && same t (written tray 0 l))
-meets (answers l f) Long t = false
-meets (answers l f) (Ended b) t = false
-meets (answers l f) Full t = false
+meets (lists x l f) Accepted t = false
+meets (lists x l f) (Refused n) t = false
+meets (lists x l f) (Answered n b) t = eqb n x && (agree f b && same t (written tray 0 l))
+meets (lists x l f) Long t = false
+meets (lists x l f) (Ended b) t = false
+meets (lists x l f) Full t = false
 meets (counts x f) Accepted t = false
 meets (counts x f) (Refused n) t = false
 meets (counts x f) (Answered n b) t = eqb n x && (agree f b && same t tray)
@@ -93,12 +95,18 @@ meets full Long t = false
 meets full (Ended b) t = false
 meets full Full t = true
 
+-- a list of records of one column
+abbrev pub answers : List ℕ → Bool → Expect
+answers l f = lists (length l) l f
+
 -- one line of a row: a call and what it returns; or numbers that the memories hold then
 pub data Line : Type 0 where
   does : Call → Expect → Line
   noted-at : ℕ → List ℕ → Line
   filed-under : ℕ → List ℕ → Line
   filed-count : ℕ → Line
+  filed-for : ℕ → ℕ → Line
+  node-count : ℕ → Line
   table-count : ℕ → Line
   floor-is : ℕ → Line
   node-is : ℕ → Label → ℕ → Line
@@ -111,6 +119,8 @@ plays m (does c x ∷ ls) = let r = callResult m c in meets x (r .out) (r .tray)
 plays m (noted-at d l ∷ ls) = same (take (length l) (drop 13 (clientIn (form m) (m .clients) d))) l && plays m ls
 plays m (filed-under i l ∷ ls) = same (take (length l) (drop 8 (getD (answersIn (form m) (m .answers)) i []))) l && plays m ls
 plays m (filed-count n ∷ ls) = eqb (length (answersIn (form m) (m .answers))) n && plays m ls
+plays m (filed-for i v ∷ ls) = eqb (getD (keyIn (getD (answersIn (form m) (m .answers)) i [])) 1 0) v && plays m ls
+plays m (node-count n ∷ ls) = eqb (length (storeIn (form m) (m .nodes) .nodes)) n && plays m ls
 plays m (table-count n ∷ ls) = eqb (length (recordsIn 1 (m .table))) n && plays m ls
 plays m (node-is i p x ∷ ls) =
     let n = getD (storeIn (form m) (m .nodes) .nodes) i [] in
@@ -122,10 +132,20 @@ plays m (floor-is f ∷ ls) = eqb (storeIn (form m) (m .nodes) .floor) f && play
 pub data Row : Type 0 where
   states : nodes.Row → Row
   from : Mem → List Line → Row
+  handed : Mem → List Call → List ℕ → Row
+
+-- a cleared tally handed on from call to call: its nine counts
+abbrev nine : Tally → List ℕ
+nine t = map (countIn t) (ReadBegun ∷ FromFile ∷ FromTable ∷ EndedLong ∷ ReadAbandoned ∷ WriteBegun ∷ EndedChanged ∷ EndedUnchanged ∷ WriteAbandoned ∷ [])
+
+abbrev handedOn : Mem → Tally → List Call → List ℕ
+handedOn m t [] = nine t
+handedOn m t (c ∷ cs) = let r = talliedResult m t c in handedOn (r .mem) (r .tally) cs
 
 abbrev pub holds : Row → Bool
 holds (states r) = nodes.holds r
 holds (from m ls) = plays m ls
+holds (handed m cs l) = same (handedOn m clearedTally cs) l
 
 abbrev pub all : List Row → Bool
 all [] = true
@@ -413,11 +433,126 @@ module _ (f : Form) where
       from (floorAt (highest f)) (does (begin 0 (insertOf (one 5))) goesOn ∷ [])
       ∷ from (floorAt (highest f + 1)) (does (begin 0 (insertOf (one 5))) (refuses 10) ∷ []) ∷ []
 
+  -- ---- Rules that none of the above plays
+  -- the same with these answers filed: of the read of v, an empty list under no revision; of the count of all, n under revision 1
+  abbrev withFiled : List Entry → Mem
+  withFiled es = let m = fresh 1 in memIn f (m .table) (m .nodes) (withAnswers f (m .answers) es) (m .clients)
+
+  abbrev listFor : ℕ → Entry
+  listFor v = padded entryWidth (1 ∷ v ∷ [])
+
+  abbrev countFor : ℕ → Entry
+  countFor n = set (set (padded entryWidth (16 ∷ [])) lengthOffset n) revisionsOffset 1
+
+  abbrev files5 : List Line
+  files5 = (read5 0 ∷ going 0 4) ++ (does (step 0 tray) (answers [] false) ∷ filed-count 64 ∷ filed-for 63 5 ∷ [])
+
+  -- "*file*: a filed answer to the same query is taken out; failing that, if 64 are kept, the oldest is; the list goes last": of 64 that are for
+  -- others, of 64 with one for the same query, and of 63
+  abbrev pub filing : List Row
+  filing =
+      from (withFiled (listed listFor 100 64)) (files5 ++ (filed-for 0 101 ∷ filed-for 62 163 ∷ []))
+      ∷ from (withFiled (listed listFor 100 30 ++ (listFor 5 ∷ listed listFor 130 33))) (files5 ++ (filed-for 0 100 ∷ filed-for 29 129 ∷ filed-for 30 130 ∷ []))
+      ∷ from (withFiled (listed listFor 100 63)) (files5 ++ (filed-for 0 100 ∷ filed-for 62 162 ∷ []))
+      ∷ []
+
+  -- an answer is put out by its place; "8 no entry: place to put out not below the count"
+  abbrev pub put-out : Row
+  put-out = from (withFiled (listed listFor 100 3))
+      (does (dropAnswer 3) (refuses 8) ∷ filed-count 3 ∷ does (dropAnswer 1) goesOn ∷ filed-count 2 ∷ filed-for 0 100 ∷ filed-for 1 102 ∷ [])
+
+  -- "a filed or held count above 2,048 is 3": 2,048 is none. Filed; and held by a reader that is to file it
+  abbrev holdingCount : ℕ → Mem
+  holdingCount n =
+      let m = memAfter (fresh 1) (unlent (begin 0 (readOf true None (0 ∷ 0 ∷ [])) ∷ step 0 tray ∷ step 0 tray ∷ step 0 tray ∷ [])) in
+      withClients m (withClient f (m .clients) 0 (set (clientIn f (m .clients) 0) (entryOffset + lengthOffset) n))
+
+  abbrev pub counts-in-range : List Row
+  counts-in-range =
+      from (withFiled (countFor 2048 ∷ [])) ((countAll ∷ going 0 1) ++ (does (step 0 tray) (counts 2048 true) ∷ []))
+      ∷ from (withFiled (countFor 2049 ∷ [])) (does (begin 0 (readOf true None (0 ∷ 0 ∷ []))) (refuses 3) ∷ does (abandon 0) (refuses 3) ∷ [])
+      ∷ from (holdingCount 2048) (does (step 0 tray) (counts 2048 false) ∷ [])
+      ∷ from (holdingCount 2049) (does (step 0 tray) (refuses 3) ∷ does (abandon 0) (refuses 3) ∷ [])
+      ∷ []
+
+  -- "A missing node is added last, with the floor as counter and 0 marks; if 1,024 are there, the oldest unmarked one is put out first, and the
+  -- floor is the one after that": 1,024 of which the first has a mark, the second leaves at 9 and the floor is 3, for a look and for a mark; 1,023;
+  -- and "no unmarked node to put out" is 3
+  abbrev nodeFor : ℕ → ℕ → ℕ → Node
+  nodeFor v x marks = withPending (newNode (labelWords (value v ∷ [])) x) marks
+
+  abbrev withFloor3 : List Node → Mem
+  withFloor3 ns = withNodes (fresh 1) (withStore f (fresh 1 .nodes) (store 3 ns))
+
+  abbrev crowded : Mem
+  crowded = withFloor3 (nodeFor 100 20 1 ∷ nodeFor 101 9 0 ∷ nodeFor 102 30 0 ∷ listed (λ v. nodeFor v 3 0) 103 1021)
+
+  abbrev made-room : ℕ → List Line
+  made-room marks =
+      node-count 1024 ∷ floor-is 9 ∷ node-is 0 (value 100 ∷ []) 20 ∷ marks-at 0 1 ∷ node-is 1 (value 102 ∷ []) 30 ∷ node-is 1022 (value 1123 ∷ []) 3
+      ∷ node-is 1023 (value 5 ∷ []) 9 ∷ marks-at 1023 marks ∷ []
+
+  abbrev pub rooms : List Row
+  rooms =
+      from crowded ((read5 0 ∷ going 0 1) ++ (noted-at 0 (9 ∷ []) ∷ made-room 0))
+      ∷ from crowded ((does (begin 1 (insertOf (one 5))) goesOn ∷ going 1 1) ++ made-room 1)
+      ∷ from (withFloor3 (listed (λ v. nodeFor v 9 0) 100 1023))
+      ((read5 0 ∷ going 0 1) ++ (noted-at 0 (3 ∷ []) ∷ node-count 1024 ∷ floor-is 3 ∷ node-is 0 (value 100 ∷ []) 9 ∷ node-is 1023 (value 5 ∷ []) 3 ∷ []))
+      ∷ from (withFloor3 (listed (λ v. nodeFor v 9 1) 100 1024)) (read5 0 ∷ does (step 0 tray) (refuses 3) ∷ node-count 1024 ∷ floor-is 3 ∷ [])
+      ∷ []
+
+  -- "Renew. With all desks idle: answers and nodes are emptied, the floor is 1, the table stays."; with a busy desk 11
+  abbrev pub renewing : Row
+  renewing = from (stocked (5 ∷ []))
+      (turns5 1 ++ read-twice (5 ∷ []) ++ (does (dropNode 0) goesOn ∷ floor-is 3 ∷ read5 2 ∷ does renew (refuses 11) ∷ floor-is 3 ∷ filed-count 1
+      ∷ does (abandon 2) goesOn ∷ does renew goesOn ∷ floor-is 1 ∷ node-count 0 ∷ filed-count 0 ∷ table-count 1 ∷ read5 0 ∷ going 0 2)
+      ++ (noted-at 0 (1 ∷ 1 ∷ []) ∷ []))
+
+  -- S-1 and S-3 together: of the records 0 to 9 those from 4 to 9 are counted, from the table, then from file, and the list of the same range is
+  -- another answer. A count that saw a mark "answers here and files nothing". A range in column 1 of the records 1 5, 2 7, 3 9, 4 7
+  abbrev countWithin : Line
+  countWithin = does (begin 0 (readOf true (Between 0 4 9) (0 ∷ 0 ∷ []))) goesOn
+
+  abbrev pairs : Mem
+  pairs = let m = fresh 2 in withTable m (written (set (m .table) 0 4) 8 (1 ∷ 5 ∷ 2 ∷ 7 ∷ 3 ∷ 9 ∷ 4 ∷ 7 ∷ []))
+
+  abbrev pub ranged : List Row
+  ranged =
+      from (stocked (numbers 10))
+      ((countWithin ∷ going 0 3) ++ (does (step 0 tray) (counts 6 false) ∷ countWithin ∷ going 0 1) ++ (does (step 0 tray) (counts 6 true) ∷ within 4 9 ∷ going 0 3)
+      ++ (does (step 0 tray) (answers (listed (λ i. i) 4 6) false) ∷ filed-count 2 ∷ []))
+      ∷ from (fresh 1)
+      (begins5 1 ++ (does (begin 0 (readOf true None (one 5))) goesOn ∷ going 0 3) ++ (does (step 0 tray) (counts 0 false) ∷ filed-count 0 ∷ []))
+      ∷ from pairs
+      ((does (begin 0 (readOf false (Between 1 7 8) (0 ∷ 0 ∷ 0 ∷ 0 ∷ []))) goesOn ∷ going 0 3) ++ (does (step 0 tray) (lists 2 (2 ∷ 7 ∷ 4 ∷ 7 ∷ []) false) ∷ []))
+      ∷ []
+
+  -- "takes back the marks it has set": of an insert given up between its two marks, whose second node is not there yet
+  abbrev pub abandoned-between : Row
+  abandoned-between = from (fresh 1)
+      (begins5 1 ++ (marks-at 0 1 ∷ node-count 1 ∷ does (abandon 1) goesOn ∷ marks-at 0 0 ∷ node-count 1 ∷ node-is 0 (value 5 ∷ []) 1 ∷ []) ++ read-twice [])
+
+  -- S-7: a cleared tally handed on with 38 calls: a read from the table, one from file, one abandoned, one of 33 records; an insert that changes
+  -- the table, one that does not, one abandoned before the table step, one after it. "reads begun, answered from file, answered from the table,
+  -- ended long, abandoned; and writes begun, ended changed, ended unchanged (13 too), abandoned before the table"
+  abbrev called : Call → ℕ → ℕ → List Call
+  called c d n = c ∷ replicate n (step d tray)
+
+  abbrev pub tallied-day : Row
+  tallied-day = handed (stocked (numbers 33))
+      (called (begin 0 (readOf false None (one 5))) 0 5 ++ called (begin 0 (readOf false None (one 5))) 0 3 ++ called (begin 0 (readOf true None (one 5))) 0 1
+      ++ (abandon 0 ∷ called (begin 0 (readOf false None (0 ∷ 0 ∷ []))) 0 3) ++ called (begin 1 (insertOf (one 50))) 1 5 ++ called (begin 1 (insertOf (one 50))) 1 5
+      ++ called (begin 1 (insertOf (one 51))) 1 2 ++ (abandon 1 ∷ called (begin 1 (deleteOf (one 50))) 1 3) ++ (abandon 1 ∷ []))
+      (4 ∷ 1 ∷ 1 ∷ 1 ∷ 1 ∷ 4 ∷ 2 ∷ 1 ∷ 1 ∷ [])
+
+  abbrev pub rules-played : List Row
+  rules-played = filing ++ (put-out ∷ counts-in-range) ++ rooms ++ (renewing ∷ ranged) ++ (abandoned-between ∷ tallied-day ∷ [])
+
   abbrev pub cases : List Row
   cases =
       stated nodes.cases
       ++ (case-6 ∷ case-7 ∷ case-8 ∷ case-9 ∷ case-10-at ∷ case-10-above ∷ case-count-above ∷ case-count-beside ∷ case-list-beside ∷ case-range ∷ case-range-whole ∷ case-range-equal ∷ case-range-refused ∷ case-abandoned-marking ∷ case-abandoned-raising ∷ case-abandoned-last ∷ case-abandoned-full ∷ case-zero-read ∷ case-zero-range ∷ case-zero-write ∷ case-zero-shared ∷ case-11 ∷ case-12-at ∷ case-12-above ∷ case-12-floor)
-      ++ unchanged ++ at-largest ++ (changed-and-full ∷ [])
+      ++ unchanged ++ at-largest ++ (changed-and-full ∷ []) ++ rules-played
 
   -- those that go by a revision: 7, 12, counters at their largest
   abbrev pub revision-cases : List Row
@@ -425,7 +560,7 @@ module _ (f : Form) where
 
 -- In the form that the calls serve
 pub cases-1-to-12 : T (all (cases current))
-unfolding stretch withStretch joined partsIn withParts keptIn withKept wholes halves wholesAt halvesAt checkOf misfit labelled bared checkFor wideFloor withWideFloor nodeFrom nodeTo entryFrom entryTo readNodes writeNodes sheetEntry turned looks wildcardsOf wildcardsIn same keep place without allBelow listed padded written rows flat entriesIn withEntries admits lies naming pick readNode writeNode named readCount writeCount columnOf queryOf wellMarked isQuery namesAll recordOf termValue columnValue tag tags labelWords marks keyWords columnsIn queryIn countsIn countKey rangeOf rangeIn rangeKey wantedKey unranged bareKey range.within isNamed isRange isReversed listOf before has putIn target isFull outside effect noRoom changes labelIn pending revision withPending withRevision hasLabel nodePlace isPresent nodeOf withNode evictNode newNode added isFree oldestFree makeRoom addedIn ensured announcedIn announced isPending released lifted mayRetire retired isHigh isWorn keyIn lengthIn revisionIn isCount mostIn listIn valueIn hasKeyOf atLeast serves fetchPlace keyPlace filed isLong someLong kind steps sawPending didChange foundFull entryOf idle isIdle begun workAt isBad stepped flag noted holding wrote recordsIn withRecords storeIn withStore answersIn withAnswers clientIn withClient told cleared opened renewed columns client isShort badColumns isUnsound noClient allIdle openCode beginCode atClient stepCode abandonCode evictAnswerCode evictNodeCode renewCode nowAt storeBack answered lookResult fetchResult tableResult fileResult readResult announceResult writeTableResult endOf raiseResult writeResult progressOf progress unless openResult beginResult stepResult pastTable retireResult abandonedWrite abandonedOf abandoned abandonResult evictAnswerResult evictNodeResult renewResult untrayed callResult ofRecords ofNumber askFault listWithin valueOf mayAnswer readLabels askKey askIn writeLabels changeKind kindOf keyOf changeIn writeIn workIn workFault stepsInAll isWrite askOf workOf faultOf isFullFor isTallyFull madeResult unlent memAfter
+unfolding stretch withStretch joined partsIn withParts keptIn withKept wholes halves wholesAt halvesAt checkOf misfit labelled bared checkFor wideFloor withWideFloor nodeFrom nodeTo entryFrom entryTo readNodes writeNodes sheetEntry turned looks wildcardsOf wildcardsIn same keep place without allBelow listed padded written rows flat entriesIn withEntries admits lies naming pick readNode writeNode named readCount writeCount columnOf queryOf wellMarked isQuery namesAll recordOf termValue columnValue tag tags labelWords marks keyWords columnsIn queryIn countsIn countKey rangeOf rangeIn rangeKey wantedKey unranged bareKey range.within isNamed isRange isReversed listOf before has putIn target isFull outside effect noRoom changes labelIn pending revision withPending withRevision hasLabel nodePlace isPresent nodeOf withNode evictNode newNode added isFree oldestFree makeRoom addedIn ensured announcedIn announced isPending released lifted mayRetire retired isHigh isWorn keyIn lengthIn revisionIn isCount mostIn listIn valueIn hasKeyOf atLeast serves fetchPlace keyPlace filed isLong someLong kind steps sawPending didChange foundFull entryOf idle isIdle begun workAt isBad stepped flag noted holding wrote recordsIn withRecords storeIn withStore answersIn withAnswers clientIn withClient told cleared opened renewed columns client isShort badColumns isUnsound noClient allIdle openCode beginCode atClient stepCode abandonCode evictAnswerCode evictNodeCode renewCode nowAt storeBack answered lookResult fetchResult tableResult fileResult readResult announceResult writeTableResult endOf raiseResult writeResult progressOf progress unless openResult beginResult stepResult pastTable retireResult abandonedWrite abandonedOf abandoned abandonResult evictAnswerResult evictNodeResult renewResult untrayed callResult ofRecords ofNumber askFault listWithin valueOf mayAnswer readLabels askKey askIn writeLabels changeKind kindOf keyOf changeIn writeIn workIn workFault stepsInAll isWrite askOf workOf faultOf isFullFor isTallyFull madeResult trayOf countIn rank raise raised countOf begunCount abandonedCount acceptedCount wouldRaise isCountFull tallyAfter talliedResult unlent memAfter
 cases-1-to-12 = tt
 
 -- In the wide form: the node of 5 with a check that does not fit its label is nobody's node
@@ -436,7 +571,7 @@ misfitting =
 
 -- "The desks memory tells the form." (S-8)
 abbrev told-wide : Row
-told-wide = from (fresh wide 1) (desks-at 0 1 ∷ desks-at 1 1 ∷ [])
+told-wide = from (fresh wide 2) (desks-at 0 2 ∷ desks-at 1 1 ∷ [])
 
 pub wide-cases : T (all (told-wide ∷ misfitting ∷ revision-cases wide))
 unfolding stretch withStretch joined partsIn withParts keptIn withKept wholes halves wholesAt halvesAt checkOf misfit labelled bared checkFor wideFloor withWideFloor nodeFrom nodeTo entryFrom entryTo readNodes writeNodes sheetEntry turned looks wildcardsOf wildcardsIn same keep place without allBelow listed padded written rows flat entriesIn withEntries admits lies naming pick readNode writeNode named readCount writeCount columnOf queryOf wellMarked isQuery namesAll recordOf termValue columnValue tag tags labelWords marks keyWords columnsIn queryIn countsIn countKey rangeOf rangeIn rangeKey wantedKey unranged bareKey range.within isNamed isRange isReversed listOf before has putIn target isFull outside effect noRoom changes labelIn pending revision withPending withRevision hasLabel nodePlace isPresent nodeOf withNode evictNode newNode added isFree oldestFree makeRoom addedIn ensured announcedIn announced isPending released lifted mayRetire retired isHigh isWorn keyIn lengthIn revisionIn isCount mostIn listIn valueIn hasKeyOf atLeast serves fetchPlace keyPlace filed isLong someLong kind steps sawPending didChange foundFull entryOf idle isIdle begun workAt isBad stepped flag noted holding wrote recordsIn withRecords storeIn withStore answersIn withAnswers clientIn withClient told cleared opened renewed columns client isShort badColumns isUnsound noClient allIdle openCode beginCode atClient stepCode abandonCode evictAnswerCode evictNodeCode renewCode nowAt storeBack answered lookResult fetchResult tableResult fileResult readResult announceResult writeTableResult endOf raiseResult writeResult progressOf progress unless openResult beginResult stepResult pastTable retireResult abandonedWrite abandonedOf abandoned abandonResult evictAnswerResult evictNodeResult renewResult untrayed callResult ofRecords ofNumber askFault listWithin valueOf mayAnswer readLabels askKey askIn writeLabels changeKind kindOf keyOf changeIn writeIn workIn workFault stepsInAll isWrite askOf workOf faultOf isFullFor isTallyFull madeResult unlent memAfter

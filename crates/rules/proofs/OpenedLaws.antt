@@ -75,6 +75,14 @@ unfolding told
 told-columns narrow s = refl
 told-columns wide s = getD-set-other s formOffset columnsOffset tellsWide 0 (λ e. omega arith)
 
+pub told-wide : (f : Form) (s : List ℕ) → f ≡ wide → formOffset < length s → getD (told f s) formOffset 0 ≡ tellsWide
+unfolding told
+told-wide f s e h = rw e (getD-set-same s formOffset tellsWide 0 h)
+
+told-narrow : (f : Form) (s : List ℕ) → f ≡ narrow → getD (told f s) formOffset 0 ≡ getD s formOffset 0
+unfolding told
+told-narrow f s e = rw e refl
+
 told-past : (f : Form) (n : ℕ) (s : List ℕ) → formOffset < n → drop n (told f s) ≡ drop n s
 unfolding told
 told-past narrow n s h = refl
@@ -126,6 +134,24 @@ module _ (m : Mem) (sh : Shape) (l : Long m) where
 
   pub opened-shape : shape (opened sh m) ≡ sh
   opened-shape = ap shapeOf opened-columns
+
+  -- "The desks memory tells the form." (S-8)
+  pub opened-wide : form m ≡ wide → getD (opened sh m .clients) formOffset 0 ≡ tellsWide
+  unfolding opened
+  opened-wide e =
+      let c : List ℕ = cleared (clientsLeast (form m) sh) (m .clients) in
+      let a = length-set c columnsOffset (sh .columns) ∙ length-cleared (clientsLeast (form m) sh) (m .clients) long-clients in
+      let b = long-clients in
+      let d = some-clients (form m) sh in
+      told-wide (form m) (set c columnsOffset (sh .columns)) e (omega arith)
+
+  pub opened-narrow : form m ≡ narrow → getD (opened sh m .clients) formOffset 0 ≡ 0
+  unfolding opened
+  opened-narrow e =
+      let c : List ℕ = cleared (clientsLeast (form m) sh) (m .clients) in
+      told-narrow (form m) (set c columnsOffset (sh .columns)) e
+      ∙ getD-set-other c columnsOffset formOffset (sh .columns) 0 (λ z. omega arith)
+      ∙ cleared-at (clientsLeast (form m) sh) (m .clients) formOffset (some-clients (form m) sh)
 
   pub opened-client : (d : ℕ) → d < maxClients → client (opened sh m) d ≡ idle
   unfolding client opened

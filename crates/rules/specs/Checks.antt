@@ -1,6 +1,7 @@
 -- The check word of a node: a number made of its label, kept apart from it, so that a search reads numbers that lie close together. A node is read
--- with what its check tells: its label's first number, below 2^32 by itself, is taken above 2^32 where the check is not its label's, so that it is
--- no label's node. What is added is a number that tells the check, so that nothing is lost. Leans on the library's lists. Definitions only. Assumes nothing.
+-- with what its check tells: its label's first number, below 2^32 by itself, becomes 2^32 or more where the check is not its label's, so that it is
+-- no label's node. What is added is a number that tells the check, so that nothing is lost. Leans on lists' `radix` and on the width of a label.
+-- Definitions only. Assumes nothing.
 use mathlib.Core.Bool.{cond}
 use mathlib.Core.List.{List}
 use Prim.Native.Nat.{ℕ, _+_, _*_, _/_, _%_}

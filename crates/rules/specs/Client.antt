@@ -1,4 +1,4 @@
--- Document 01, "One desk, step by step": the state of one desk. The paper's desk is a client of the cache: it is kept as its
+-- Document 01, "One desk, step by step": the state of one desk. The paper's desk is a client of the cache: it is read as its
 -- numbers (docs/LAYOUT.md). Leans on Layout, Work and Answers. Definitions only. Assumes nothing.
 use mathlib.Core.Bool.{Bool, cond, not, _&&_, _||_}
 use mathlib.Core.List.{List, _∷_}
@@ -15,7 +15,7 @@ use Rattle.query.specs.Encoding.{queryIn, rangeIn, bareKey}
 use Rattle.rules.specs.Work.{Ask, Value, Write, Work, askIn, writeIn, workIn, kindOf, keyOf, workFault, stepsInAll}
 use Rattle.rules.specs.Answers.{Entry, keyIn, isLong}
 
--- kind, step, whether a look saw a mark, whether the table changed, whether it was full; then an entry as in the answers memory
+-- kind, step, whether a look saw a mark, whether the table changed, whether it was full; then an entry, as one is read from the answers memory
 abbrev pub Client : Type 0
 Client = List ℕ
 

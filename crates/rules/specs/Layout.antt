@@ -88,10 +88,11 @@ answerCountOffset = 0
 abbrev pub columnsOffset : ℕ
 columnsOffset = 0
 
--- "The desks memory tells the form." (S-8): 0 there in the narrow form, and in the wide one this number
+-- "The desks memory tells the form." (S-8): where it does
 abbrev pub formOffset : ℕ
 formOffset = 1
 
+-- the number there in the wide form; in the narrow one it is 0
 abbrev pub tellsWide : ℕ
 tellsWide = 1
 
@@ -118,11 +119,11 @@ checksOffset = header
 abbrev pub nodesOffset : ℕ
 nodesOffset = checksOffset + maxNodes
 
-abbrev pub sparesOffset : ℕ
-sparesOffset = nodesOffset + maxNodes * nodeWidth
+abbrev pub unusedOffset : ℕ
+unusedOffset = nodesOffset + maxNodes * nodeWidth
 
 abbrev pub nodeParts : List Part
-nodeParts = part checksOffset 1 ∷ part nodesOffset nodeWidth ∷ part sparesOffset 1 ∷ []
+nodeParts = part checksOffset 1 ∷ part nodesOffset nodeWidth ∷ part unusedOffset 1 ∷ []
 
 -- where the last node ends
 abbrev pub nodesEnd : Form → ℕ

@@ -1,6 +1,6 @@
--- Document 01, "The hall's stock": what each memory holds and where (docs/LAYOUT.md has the pictures). The functions here that take a form,
--- with the places and the limits of Layout, are all that know one: what they read, records, nodes, filed answers and clients, is in every form the
--- same lists of numbers. Leans on the entries above. Definitions only. Assumes nothing.
+-- Document 01, "The hall's stock": what each memory holds and where (docs/LAYOUT.md has the pictures). What is read here, records, nodes, filed
+-- answers and clients, is in every form the same lists of numbers: besides these functions only Layout's places and limits know a form, and what
+-- asks for a limit (Nodes). Leans on the entries above. Definitions only. Assumes nothing.
 use mathlib.Core.List.{List, [], _∷_, _++_, map}
 use Prim.Native.Nat.{ℕ, _+_, _*_, _/_, _%_}
 use lib.ListN.{getD, take, drop, set, replicate}
@@ -26,7 +26,8 @@ pub record Mem : Type 0 where
 abbrev pub memIn : Form → List ℕ → List ℕ → List ℕ → List ℕ → Mem
 memIn f t n a d = record { form = f; table = t; nodes = n; answers = a; clients = d }
 
--- the form that the calls serve: the contracts are about memories that are read so
+-- the form that the calls serve: the contracts are about memories that are read so. Which form it is, is said here alone. No rule looks at the
+-- number by which the desks memory tells its form: that test comes with S-8
 abbrev pub current : Form
 current = narrow
 
@@ -42,14 +43,15 @@ unfoldable pub withRecords : ℕ → List ℕ → Table → List ℕ
 withRecords k s t = withEntries recordCountOffset k s t
 
 -- ---- Nodes: the floor, how many nodes; the nodes. In the wide form the parts of the nodes stand in stretches (lists, `keptIn`, `withKept`)
--- the floor's halves, the lower first
+-- the floor's halves in the wide form, the lower first
 unfoldable pub wideFloor : List ℕ → ℕ
 wideFloor s = getD s floorOffset 0 + radix * getD s upperFloorOffset 0
 
 unfoldable pub withWideFloor : List ℕ → ℕ → List ℕ
 withWideFloor s x = set (set s floorOffset (x % radix)) upperFloorOffset (x / radix)
 
--- a node as it is read from the numbers that are kept of it: its check, then its own, the revision's halves among them; and as it is kept
+-- in the wide form, a node as it is read from the numbers that are kept of it: its check, then its own, the revision's halves among them; and as
+-- it is kept
 unfoldable pub nodeFrom : List ℕ → Node
 nodeFrom r = labelled (getD r 0 0) (wholesAt revisionOffset 1 (drop 1 r))
 
@@ -64,7 +66,7 @@ unfoldable pub withStore : Form → List ℕ → Store → List ℕ
 withStore narrow s st = set (withEntries nodeCountOffset nodeWidth s (st .nodes)) floorOffset (st .floor)
 withStore wide s st = withWideFloor (withKept nodeCountOffset nodeParts s (map nodeTo (st .nodes))) (st .floor)
 
--- ---- Answers: how many; the filed answers
+-- ---- Answers: how many; the filed answers. In the wide form an entry as it is read, and as it is kept
 unfoldable pub entryFrom : List ℕ → Entry
 entryFrom e = wholesAt revisionsOffset lookRoom e
 
@@ -98,7 +100,7 @@ clientIn f s d = clientFrom f (take (keptClient f) (drop (clientOffset f d) s))
 unfoldable pub withClient : Form → List ℕ → ℕ → Client → List ℕ
 withClient f s d c = written s (clientOffset f d) (clientTo f c)
 
--- "The desks memory tells the form." (S-8)
+-- "The desks memory tells the form." (S-8): what an opening writes there
 unfoldable pub told : Form → List ℕ → List ℕ
 told narrow s = s
 told wide s = set s formOffset tellsWide

@@ -1,5 +1,5 @@
-//! What an accepted abandoning says: whether nothing is left of the read or write, or the write had
-//! made its table step and has ended. Leans on outcome.
+//! What an accepted abandoning says: whether the read or write was given up, or the write had made
+//! its table step and has ended. Leans on outcome.
 use crate::outcome::refusal_of;
 use crate::{ending, number, Outcome, Refusal, Reply};
 use std::fmt;
@@ -8,16 +8,18 @@ use std::fmt;
 #[derive(Clone, Copy, Debug, PartialEq, Eq, Hash)]
 #[must_use = "a write may have taken effect before it was abandoned, and that is only told here"]
 pub enum Abandoned {
-    /// Nothing is left of it: it was a read, or a write before its table step, whose marks were
-    /// taken back. The table is as if it had not been begun.
+    /// It was given up: a read, or a write before its table step, whose marks were taken back. The
+    /// table is as if it had not been begun. The nodes that it has added stay, and those put out
+    /// for them are gone.
     GivenUp,
     /// The write had made its table step, and this is its end: it changed the table.
     Changed,
-    /// The write had made its table step, and this is its end: the table is as it was, and answers
-    /// filed before hold.
+    /// The write had made its table step, and this is its end: it left the table as it was and
+    /// raised no counter. What that means for answers filed before, [`Outcome::Unchanged`] says.
     Unchanged,
     /// 13: the insert had made its table step, and this is its end: the table held 2,048 records
-    /// and not this one. It is as it was, and answers filed before hold.
+    /// and not this one. It left the table as it was and raised no counter, like
+    /// [`Abandoned::Unchanged`].
     Full,
 }
 
@@ -37,7 +39,7 @@ impl Abandoned {
         }
     }
 
-    /// The write's end, as its last step would have told it; none if nothing is left of it.
+    /// The write's end, as its last step would have told it; none if it was given up.
     #[must_use]
     pub fn end(self) -> Option<Outcome<'static>> {
         match self {
@@ -49,7 +51,8 @@ impl Abandoned {
     }
 }
 
-/// The write's end in the words of its outcome; or that nothing is left of it.
+/// The write's end in the words of its outcome; or that it was given up. That "nothing is left of
+/// it" is said of the table, of the desk and of marks: nodes that it has added stay.
 impl fmt::Display for Abandoned {
     fn fmt(&self, f: &mut fmt::Formatter<'_>) -> fmt::Result {
         match self.end() {

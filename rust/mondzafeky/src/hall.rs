@@ -157,11 +157,12 @@ impl Hall {
     }
 
     /// Ends what is under way at `client`, the desk, in one call and at any time: for a bench that
-    /// was pulled out. Of a read, and of a write before its table step, nothing is left
-    /// ([`Abandoned::GivenUp`]). A write that has made its table step has taken effect: all of its
-    /// remaining raises are made here, and its end is told as its last step would have told it. The
-    /// counters go up only if it changed the table. No mark of it stays, and the desk is idle.
-    /// Refusals: `Unsound`, `NoClient`, `Idle`.
+    /// was pulled out. A read is given up, and so is a write before its table step, whose marks are
+    /// taken back ([`Abandoned::GivenUp`]): the nodes that it has added stay, and those put out for
+    /// them are gone. A write that has made its table step has taken effect: all of its remaining
+    /// raises are made here, and its end is told as its last step would have told it. The counters
+    /// go up only if it changed the table. No mark of it stays, and the desk is idle. Refusals:
+    /// `Unsound`, `NoClient`, `Idle`.
     ///
     /// ```
     /// # fn main() -> Result<(), mondzafeky::Refusal> {

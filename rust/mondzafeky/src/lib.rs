@@ -6,14 +6,16 @@
 //!
 //! # What is promised
 //!
-//! Every read is answered with a list that was true: exactly the records that matched at some
-//! moment between the read's begin and the step that answers it, whether it came from the file or
-//! from the table, and however the steps of the desks were mixed. A read that begins after a write
-//! has ended sees that write: **begin the read after the write's end to see it**. A count is a read
-//! that wants only how many records match, and is true in the same way; so is a list or a count
-//! with a range in one column. Every read ends within 19 steps and every write within 33. What a
-//! call does to every number of every memory is proved in the library; this crate only hands the
-//! memories over.
+//! In a hall that was opened and that only these calls have written into since, every answer of a
+//! read is a list that was true: exactly the records that matched at some moment between the read's
+//! begin and the step that answers it, whether it came from the file or from the table, and however
+//! the steps of the desks were mixed. A read that begins after a write has ended sees that write:
+//! **begin the read after the write's end to see it**. A count is a read that wants only how many
+//! records match, and is true in the same way; so is a list or a count with a range in one column.
+//! Every read has ended with its 19th accepted step at the latest, every write with its 33rd. A
+//! step at a busy desk is accepted, if its tray has 128 numbers or more, as a [`Hall`]'s has, and
+//! it is lent no full tally. What a call does to every number of every memory is proved in the
+//! library; this crate only hands the memories over.
 //!
 //! # How to call it
 //!
@@ -27,10 +29,12 @@
 //! chooses by their order. A bench can be pulled out at any time: [`Hall::abandon`] gives up a
 //! read, or a write that has not reached the table, and ends a write that has ([`Abandoned`]).
 //!
-//! A write that changes nothing costs no filed answer: an insert of a record that is there, a
-//! delete that finds none, an insert into a full table. While it is under way, reads that it would
-//! concern go to the table; one that begins after its end is answered from file, if its answer was
-//! filed before.
+//! A write that changes nothing raises no counter: an insert of a record that is there, a delete
+//! that finds none, an insert into a full table, a write given up before its table step. While it
+//! is under way, reads that look at one of its marks go to the table. One that begins after its end
+//! gets the answer that was filed before, as if the write had not been, unless a node of that
+//! answer was put out. The nodes that a write adds can do that: where 1,024 are there, each puts
+//! out the oldest unmarked one.
 //!
 //! **0 means not measured.** A record may carry it, and inserting such a record again changes
 //! nothing. Naming 0 finds nothing, in a read, a count or a delete, and a range skips it, also one
@@ -180,7 +184,7 @@ pub mod ending {
     pub const FROM_TABLE: u32 = 2;
     /// A write has ended and changed the table.
     pub const CHANGED: u32 = 3;
-    /// A write has ended and did not change the table.
+    /// A write has ended; it did not change the table and raised no counter.
     pub const UNCHANGED: u32 = 4;
 }
 
@@ -245,11 +249,11 @@ impl Memories<'_> {
         calls::step(self, tray, client)
     }
 
-    /// Ends what is under way at `client`, the desk, in one call and at any time. Of a read, and of
-    /// a write before its table step, whose marks are taken back, nothing is left: 0 with ending 0.
-    /// A write that has made its table step makes all of its remaining raises, and the reply is its
-    /// end as its last step would have told it: 0 with ending 3 or 4, or 13. The desk is idle.
-    /// Refusals: 1, 3, 4, 6.
+    /// Ends what is under way at `client`, the desk, in one call and at any time. A read is given
+    /// up, and so is a write before its table step, whose marks are taken back: 0 with ending 0.
+    /// The nodes that it has added stay, and those put out for them are gone. A write that has made
+    /// its table step makes all of its remaining raises, and the reply is its end as its last step
+    /// would have told it: 0 with ending 3 or 4, or 13. The desk is idle. Refusals: 1, 3, 4, 6.
     pub fn abandon(&mut self, client: u32) -> Reply {
         calls::abandon(self, client)
     }

@@ -27,10 +27,12 @@ pub enum Outcome<'a> {
     Long,
     /// The write's end: it changed the table.
     Changed,
-    /// The write's end: the table is as it was, and answers filed before hold.
+    /// The write's end: it left the table as it was and raised no counter. It costs a read that
+    /// begins later no answer that was filed before, unless a node of that answer was put out, as
+    /// the nodes that a write adds may do where 1,024 are there.
     Unchanged,
-    /// 13, the insert's end: the table held 2,048 records and not this one. It is as it was, and
-    /// answers filed before hold.
+    /// 13, the insert's end: the table held 2,048 records and not this one. It left the table as it
+    /// was and raised no counter, like [`Outcome::Unchanged`].
     Full,
 }
 

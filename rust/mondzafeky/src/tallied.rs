@@ -1,5 +1,7 @@
-//! The calls that are lent a tally: each is the call of the same name without `_tallied`, and one count more; or it is refused with 15, which alters
-//! nothing, neither memories nor tray nor tally. 15 is given after every other refusal, and before every end. Leans on calls, tally and hall.
+//! The calls that are lent a tally: each is the call of the same name without `_tallied`, and
+//! raises one count or none; or it is refused with 15, which alters nothing, neither memories nor
+//! tray nor tally. 15 is given after every other refusal, and before every end. Leans on calls,
+//! tally and hall.
 use crate::outcome::accepted;
 use crate::{calls, last_of, Abandoned, Hall, Memories, Outcome, Query, Refusal, Reply, Tally};
 use std::ops::RangeInclusive;

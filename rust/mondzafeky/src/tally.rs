@@ -2,9 +2,10 @@
 //! saves. Leans on nothing.
 use std::fmt;
 
-/// How many reads and writes were begun, and how they ended: what filing saves. It is lent along with each begin, step and abandoning (the calls
-/// whose names end in `_tallied`), and each that is accepted raises the one count that it concerns; a refused call raises none. A count, and a read
-/// with a range, is a read like any other.
+/// How many reads and writes were begun, and how they ended: what filing saves. It is lent along
+/// with each begin, step and abandoning (the calls whose names end in `_tallied`), and each that is
+/// accepted raises the one count that it concerns; a step that ends nothing raises none, nor does a
+/// refused call. A count, and a read with a range, is a read like any other.
 ///
 /// From an opening with a cleared tally (`Tally::default()`) that is lent along with every such call since, the reads begun equal the four other
 /// counts of reads plus the reads under way, and so do the writes. A call that would raise a count that stands at 4,294,967,295 is refused with

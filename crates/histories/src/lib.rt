@@ -1,0 +1,1 @@
+// Computed histories that show what a statement of demands rules out. No code.
