@@ -128,7 +128,7 @@ static void steps(const char *row)
 
 /*
  * The bench of a desk is pulled out: what is under way there is abandoned. A write that has reached
- * the table ends with that, as with its last step; of anything else nothing is left.
+ * the table ends with that, as with its last step; anything else is given up.
  */
 static void pull_out(uint32_t desk)
 {
@@ -138,7 +138,7 @@ static void pull_out(uint32_t desk)
     if (mondzafeky_ended(reply)) {
         tell(reply, 0);
     } else {
-        printf("given up, nothing is left of it\n");
+        printf("given up, nothing of it is in the table\n");
     }
 }
 

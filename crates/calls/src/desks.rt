@@ -33,8 +33,8 @@ pub fn step(
     writing::write_step(table, nodes, clients, d, held)
 }
 
-// Abandons what is under way at the client's desk: nothing is left of a read, nor of a write before its table step; a write past it is brought
-// to its end.
+// Abandons what is under way at the client's desk: a read is given up, and a write before its table step, whose marks are taken back; a write past
+// it is brought to its end.
 pub fn abandon(
     table: &mut [u32],
     nodes: &mut [u32],

@@ -48,7 +48,8 @@ use Rattle.demands.specs.WholeHistory.{History, shapeAt, memAt, resultAt
 use Rattle.demands.specs.Demand2.{valueAt}
 use Rattle.demands.specs.Demand3.{IsAnswer}
 use Rattle.demands.specs.Corollaries.{tableAt}
-use Rattle.demands.specs.Demand2Whole.{nodesAt, entryAt, Disposes, long, answers, holds, ListsTaken, ListsFiled, LooksAt, Looks, ReadNodes, Answerable}
+use Rattle.demands.proofs.NodesWhole.{joined-of}
+use Rattle.demands.specs.Demand2Whole.{nodesAt, entryAt, Joined, Disposes, long, answers, holds, ListsTaken, ListsFiled, LooksAt, Looks, ReadNodes, Answerable}
 use Rattle.demands.proofs.HistoryRuns.{sound, next-mem}
 use Rattle.demands.proofs.Works.{Since}
 use Rattle.demands.proofs.TableOrdered.{demand-2-ascending, good-table}
@@ -332,6 +333,7 @@ look-some h p x d n i tray t low dl B made il five e R =
     let cl : client (memAt h (suc n)) d ≡ N = ap (λ (k : Mem). client k d) mem ∙ client-after m t d N (S .fits) dl (left .wide) in
     let y = noted-there B i r q il room in
     record {
+      whole = subst (λ k. Joined p (nodesAt h n) k) (sym st) (joined-of p (nodesAt h n) t e);
       there = ap (isPresent w) st ∙ L .there;
       kept = λ j. st ∙ L .kept j;
       added = λ j. (ap (λ (k : Store). revision (nodeOf w k)) st ∙ L .added j .0 ∙ ap (λ (k : Store). k .floor) (sym st), ap (λ (k : Store). pending (nodeOf w k)) st ∙ L .added j .1);

@@ -18,7 +18,7 @@ use Rattle.query.specs.Shape.{Shape}
 use Rattle.query.proofs.Agreement.{write-node-edge, write-edge-node}
 use Rattle.rules.specs.Layout.{maxNodes}
 use Rattle.rules.specs.Table.{Table, Change, insert, delete, target, has, effect, isFull, noRoom}
-use Rattle.rules.specs.Nodes.{Words, Store, isPresent, nodeOf, revision, pending, announced, retired}
+use Rattle.rules.specs.Nodes.{hasLabel, Words, Store, isPresent, nodeOf, revision, pending, announced, retired}
 use Rattle.rules.specs.Client.{steps, stepped, wrote}
 use Rattle.rules.specs.Memory.{Mem, recordsIn, storeIn}
 use Rattle.rules.specs.Outcome.{StepResult}
@@ -42,13 +42,14 @@ use Rattle.rules.proofs.MemoryLaws.{length-records, records-with}
 use Rattle.refinement.proofs.Abstraction.{records-held, rows-held}
 use Rattle.demands.specs.WholeHistory.{History, shapeAt, memAt, callAt, resultAt, acceptedAt, StepOf}
 use Rattle.demands.specs.Corollaries.{tableAt, Begins, inserting, deleting}
-use Rattle.demands.specs.Demand2Whole.{nodesAt, Inserts, Deletes, WritesTable, OnlyWrites, Marks, MarksSet, MarkedNodes, RaisedNodes}
+use Rattle.demands.specs.Demand2Whole.{nodesAt, Inserts, Deletes, WritesTable, OnlyWrites, MarkedIn, OthersStay, Marks, MarksSet, MarkedNodes, RaisedNodes}
 use Rattle.demands.proofs.HistoryRuns.{responseAt, logTo, sound, next-mem, transition-at}
 use Rattle.demands.proofs.LogPlaces.{accepted-at, Begun, under-places}
 use Rattle.demands.proofs.Works.{Since}
 use Rattle.demands.proofs.Demand3Holds.{table-is}
 use Rattle.demands.proofs.WriteEffects.{of, write-begins}
 use Rattle.demands.proofs.NodeChanges.{marked, marked-new, TakenOff, taken-off}
+use Rattle.demands.proofs.NodesWhole.{Only, marked-of, retired-only}
 use Rattle.revisions.specs.EffectiveRevision.{tally, lifts}
 use Rattle.demands.proofs.StepsMade.{Under, under-step, keeps-since, write-at, step-before, no-twice, not-refused, nodes-after, few-nodes, nodes-count, madeIn, made-since}
 use Rattle.rules.specs.History as rules
@@ -137,6 +138,7 @@ mark-some h p d n tray t low five e R =
     ap (λ (k : Mem). storeIn (form k) (k .nodes)) (next-mem h n low ∙ ap (λ (k : StepResult). k .mem) R)
     ∙ nodes-after m t d (stepped (client m d)) (S .fits) (A .1) (A .2 (few-nodes m (S .fits))) in
     record {
+      whole = subst (λ k. MarkedIn p (nodesAt h n) k) (sym st) (marked-of p (nodesAt h n) t e);
       there = ap (isPresent w) st ∙ L .there;
       marked = ap (λ (k : Store). pending (nodeOf w k)) st ∙ L .marked;
       kept = λ i. ap (λ (k : Store). revision (nodeOf w k)) st ∙ L .kept i;
@@ -173,24 +175,43 @@ marks-set h r w B d b n i l s =
     ∙ ap (λ q. announceResult m (s .tray) d (announced q (nodesAt h n))) (k .0))
 
 -- ---- Marks taken off
--- call n, which takes marks off the nodes of these labels and leaves x with the nodes t, takes one off each that stands there once
+-- call n takes them off the nodes of these labels: one off each that stands there once, and alters no other node
 abbrev pub Off : History → ℕ → Bool → List Words → Label → Type 0
 Off h n lift ps p = TakenOff (lifts lift ps (labelWords p)) (labelWords p) (nodesAt h n) (nodesAt h (suc n))
 
-pub off-in : (h : History) (p : Label) (n : ℕ) (lift : Bool) (ps : List Words) (t : Store) (x : StepResult) → n < length (h .calls) → tally (labelWords p) ps ≡ 1
+pub record OffTo (lift : Bool) (ps : List Words) (s t : Store) : Type 0 where
+  pub each : (p : Label) → tally (labelWords p) ps ≡ 1 → TakenOff (lifts lift ps (labelWords p)) (labelWords p) s t
+  pub only : Only ps s t
+
+abbrev pub AllOff : History → ℕ → Bool → List Words → Type 0
+AllOff h n lift ps = OffTo lift ps (nodesAt h n) (nodesAt h (suc n))
+
+-- what is left of the nodes but those of the labels from number `least` on
+pub others : (node : ℕ → Label) (least end : ℕ) (ps : List Words) (s t : Store) → Only ps s t → length ps ≤ end - least
+    → ((q : ℕ) → q < length ps → getD ps q [] ≡ labelWords (node (least + q))) → OthersStay node least end s t
+others node least end ps s t o l are = record {
+  floor = o .floor;
+  count = o .count;
+  same = λ i k. o .same i (λ q m. ap (λ w. hasLabel w (getD (s .nodes) i [])) (are q m) ∙ k (least + q) (omega arith) (omega arith));
+}
+
+-- where it leaves x with the nodes t
+pub off-in : (h : History) (n : ℕ) (lift : Bool) (ps : List Words) (t : Store) (x : StepResult) → n < length (h .calls)
     → retired (form (memAt h n)) lift ps (nodesAt h n) ≡ some t → resultAt h n ≡ x
-    → (Fits (memAt h n) → AllRows (t .nodes) → length (t .nodes) ≤ maxNodes → storeIn (form (x .mem)) (x .mem .nodes) ≡ t) → Off h n lift ps p
-off-in h p n lift ps t x low one e R back =
+    → (Fits (memAt h n) → AllRows (t .nodes) → length (t .nodes) ≤ maxNodes → storeIn (form (x .mem)) (x .mem .nodes) ≡ t) → AllOff h n lift ps
+off-in h n lift ps t x low e R back =
     let m = memAt h n in
     let S = sound h n (omega arith) in
-    let w = labelWords p in
     let A : RetiredTo lift ps (nodesAt h n) t =
     subst (λ o. RetiredOk lift ps (nodesAt h n) o) e (retired-ok (form m) lift ps (nodesAt h n) (no-twice h n (omega arith)) (rows-held m (S .fits))) in
     let few = few-nodes m (S .fits) in
     let size = A .2 in
     let st : nodesAt h (suc n) ≡ t =
     ap (λ (k : Mem). storeIn (form k) (k .nodes)) (next-mem h n low ∙ ap (λ (k : StepResult). k .mem) R) ∙ back (S .fits) (A .1) (omega arith) in
-    subst (λ y. TakenOff (lifts lift ps w) w (nodesAt h n) y) (sym st) (taken-off lift w ps (nodesAt h n) t one (A .0))
+    subst (λ y. OffTo lift ps (nodesAt h n) y) (sym st) (record {
+      each = λ p one. taken-off lift (labelWords p) ps (nodesAt h n) t one (A .0);
+      only = retired-only (form m) lift ps (nodesAt h n) t e;
+    })
 
 -- ---- All of definition 11's nodes, and no others
 pub node-number : (h : History) (r : Request) (w : Change) → Begins r w → (d b n : ℕ) → Under h r d b n → (p : Label) → E′ (target w) p

@@ -90,7 +90,7 @@ fn steps(shop: &mut Shop, row: &[u32]) {
 }
 
 /// The bench of a desk is pulled out: what is under way there is abandoned. A write that has reached
-/// the table ends with that, as with its last step; of anything else nothing is left.
+/// the table ends with that, as with its last step; anything else is given up.
 fn pull_out(shop: &mut Shop, desk: u32) -> Result<(), Refusal> {
     println!("the bench of desk {desk} is pulled out: {}", shop.hall.abandon_tallied(&mut shop.day, desk)?);
     Ok(())

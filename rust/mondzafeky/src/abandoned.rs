@@ -51,13 +51,12 @@ impl Abandoned {
     }
 }
 
-/// The write's end in the words of its outcome; or that it was given up. That "nothing is left of
-/// it" is said of the table, of the desk and of marks: nodes that it has added stay.
+/// The write's end in the words of its outcome; or that it was given up.
 impl fmt::Display for Abandoned {
     fn fmt(&self, f: &mut fmt::Formatter<'_>) -> fmt::Result {
         match self.end() {
             Some(end) => end.fmt(f),
-            None => write!(f, "given up, nothing is left of it"),
+            None => write!(f, "given up, nothing of it is in the table"),
         }
     }
 }

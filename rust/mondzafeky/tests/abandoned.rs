@@ -1,6 +1,6 @@
-//! A bench pulled out: what is under way at its desk is ended by one call, at any time. Of a read
-//! and of a write before its table step nothing is left; a write after it ends as by its own last
-//! step. No mark stays, so later reads are answered from file. What no history leaves.
+//! A bench pulled out: what is under way at its desk is ended by one call, at any time. A read
+//! and a write before its table step are given up; a write after it ends as by its own last step.
+//! No mark stays, so later reads are answered from file. What no history leaves.
 mod rng;
 
 use mondzafeky::{ending, number, Abandoned, Hall, Memories, Outcome, Query, Refusal, Reply, RECORDS, TRAY_LEAST};
@@ -77,7 +77,7 @@ fn is_filed(hall: &mut Hall, query: &Query) -> bool {
     }
 }
 
-/// Up to the table step nothing is left; after it, with all raises left down to the last one, the
+/// Up to the table step no mark is left; after it, with all raises left down to the last one, the
 /// hall is number for number as the write's own steps would have left it, and so is the end.
 #[test]
 fn each_write_after_each_number_of_steps() {
@@ -199,7 +199,7 @@ fn the_replies_of_the_low_calls() {
 
 #[test]
 fn words() {
-    assert_eq!(Abandoned::GivenUp.to_string(), "given up, nothing is left of it");
+    assert_eq!(Abandoned::GivenUp.to_string(), "given up, nothing of it is in the table");
     for ended in [Abandoned::Changed, Abandoned::Unchanged, Abandoned::Full] {
         assert_eq!(ended.to_string(), ended.end().unwrap().to_string());
     }

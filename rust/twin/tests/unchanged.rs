@@ -1,5 +1,5 @@
 //! Writes that change nothing (document 02, S-6) on the twin: an insert of a record that is there, a delete that finds none, an insert into a full
-//! table. Their raises take the marks off and leave the counters, by steps and by an abandoning; what was filed before holds.
+//! table. Their raises take the marks off and leave the counters, by steps and by an abandoning; what was filed before holds, where no node is put out.
 
 mod hall;
 
