@@ -477,7 +477,8 @@ module _ (f : Form) where
 
   -- "A missing node is added last, with the floor as counter and 0 marks; if 1,024 are there, the oldest unmarked one is put out first, and the
   -- floor is the one after that": 1,024 of which the first has a mark, the second leaves at 9 and the floor is 3, for a look and for a mark; 1,023;
-  -- and "no unmarked node to put out" is 3
+  -- and "no unmarked node to put out" is 3. "A node's leaving sets the floor to the larger of floor and its counter": the floor stays where one
+  -- leaves at 2, put out by a call, or for room
   abbrev nodeFor : ℕ → ℕ → ℕ → Node
   nodeFor v x marks = withPending (newNode (labelWords (value v ∷ [])) x) marks
 
@@ -491,6 +492,13 @@ module _ (f : Form) where
   made-room marks =
       node-count 1024 ∷ floor-is 9 ∷ node-is 0 (value 100 ∷ []) 20 ∷ marks-at 0 1 ∷ node-is 1 (value 102 ∷ []) 30 ∷ node-is 1022 (value 1123 ∷ []) 3
       ∷ node-is 1023 (value 5 ∷ []) 9 ∷ marks-at 1023 marks ∷ []
+
+  abbrev pub lowest-out : List Row
+  lowest-out =
+      from (withFloor3 (nodeFor 100 2 0 ∷ [])) (does (dropNode 0) goesOn ∷ node-count 0 ∷ floor-is 3 ∷ [])
+      ∷ from (withFloor3 (nodeFor 100 2 0 ∷ listed (λ v. nodeFor v 4 0) 101 1023))
+      ((read5 0 ∷ going 0 1) ++ (noted-at 0 (3 ∷ []) ∷ node-count 1024 ∷ floor-is 3 ∷ node-is 0 (value 101 ∷ []) 4 ∷ node-is 1023 (value 5 ∷ []) 3 ∷ []))
+      ∷ []
 
   abbrev pub rooms : List Row
   rooms =
@@ -533,7 +541,7 @@ module _ (f : Form) where
       (begins5 1 ++ (marks-at 0 1 ∷ node-count 1 ∷ does (abandon 1) goesOn ∷ marks-at 0 0 ∷ node-count 1 ∷ node-is 0 (value 5 ∷ []) 1 ∷ []) ++ read-twice [])
 
   -- S-7: a cleared tally handed on with 38 calls: a read from the table, one from file, one abandoned, one of 33 records; an insert that changes
-  -- the table, one that does not, one abandoned before the table step, one after it. "reads begun, answered from file, answered from the table,
+  -- the table, one that does not, one abandoned before the table step; a delete abandoned after it. "reads begun, answered from file, answered from the table,
   -- ended long, abandoned; and writes begun, ended changed, ended unchanged (13 too), abandoned before the table"
   abbrev called : Call → ℕ → ℕ → List Call
   called c d n = c ∷ replicate n (step d tray)
@@ -546,7 +554,7 @@ module _ (f : Form) where
       (4 ∷ 1 ∷ 1 ∷ 1 ∷ 1 ∷ 4 ∷ 2 ∷ 1 ∷ 1 ∷ [])
 
   abbrev pub rules-played : List Row
-  rules-played = filing ++ (put-out ∷ counts-in-range) ++ rooms ++ (renewing ∷ ranged) ++ (abandoned-between ∷ tallied-day ∷ [])
+  rules-played = filing ++ (put-out ∷ counts-in-range) ++ lowest-out ++ rooms ++ (renewing ∷ ranged) ++ (abandoned-between ∷ tallied-day ∷ [])
 
   abbrev pub cases : List Row
   cases =
