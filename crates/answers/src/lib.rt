@@ -1,5 +1,7 @@
 // The filed answers, lists and counts, over their lent memory: search, file, evict, empty, and the copy of a list into the tray. The places in
 // an entry are constants of Hall (docs/LAYOUT.md). The rules stand in the crate rules.
+#![tactic(auto)]
+
 ghost use Rattle.std.specs.Prelude.{◌≡◌, false, [], ◌∷◌, ◌++◌, ◌≤◌, ◌<◌, length, get_or};
 ghost use Rattle.lists.specs.Lists.{without, all_below};
 ghost use Rattle.rules.specs.Answers.{has_key_of, at_least, serves, fetch_place, filed, is_long, some_long};

@@ -9,7 +9,7 @@ use borrow.Author.Tests.{lt-ltb, le-ltb, eq-eqb, ne_eqb}
 use Rattle.query.specs.Shape.{Shape, shape_of, max_columns}
 use Rattle.rules.specs.Layout.{table_least, nodes_least, answers_least, clients_least, floor_offset, columns_offset, first_floor, refused_short, refused_columns}
 use Rattle.rules.specs.Memory.{current, Mem, mem, cleared, told, opened}
-use Rattle.rules.specs.Outcome.{result}
+use Rattle.rules.specs.Outcome.{result_of}
 use Rattle.rules.specs.declared.Outcome.TheVariants.{Refused, Accepted}
 use Rattle.rules.specs.Refusals.{is_short, bad_columns, open_code}
 use Rattle.rules.specs.Calls.{unless, open_result}
@@ -36,7 +36,7 @@ module _ (m : Mem) (k : ℕ) where
 
 -- the opening refused with n, or done where n is 0
 module _ (m : Mem) (k n : ℕ) (e : n ≡ open_code m k) where
-  pub turned_down : (n ≡ 0 → ⊥) → result (Refused n) m ≡ open_result m k
+  pub turned_down : (n ≡ 0 → ⊥) → result_of (Refused n) m ≡ open_result m k
   unfolding open_result unless
   turned_down h =
       let z : eqb (open_code m k) 0 ≡ false = ne_eqb _ _ (λ x. h (e ∙ x)) in
@@ -49,7 +49,7 @@ module _ (m : Mem) (k n : ℕ) (e : n ≡ open_code m k) where
 -- in the current form
 pub opens : (tb nd an cl : List ℕ) (k n : ℕ) → n ≡ open_code (mem tb nd an cl) k → (t o a d : List ℕ) → n ≡ 0 → t ≡ cleared table_least tb
     → o ≡ set (cleared (nodes_least current) nd) floor_offset first_floor → ((sh : Shape) → a ≡ cleared (answers_least current sh) an)
-    → d ≡ set (cleared (clients_least current (shape_of k)) cl) columns_offset k → result Accepted (mem t o a d) ≡ open_result (mem tb nd an cl) k
+    → d ≡ set (cleared (clients_least current (shape_of k)) cl) columns_offset k → result_of Accepted (mem t o a d) ≡ open_result (mem tb nd an cl) k
 unfolding open_result unless opened told
 opens tb nd an cl k n e t o a d h p q r s =
     let z : eqb (open_code (mem tb nd an cl) k) 0 ≡ true = eq-eqb _ _ (sym e ∙ h) in

@@ -4,7 +4,7 @@ ghost use Rattle.rules.specs.Layout.{reads, deletes};
 ghost use Rattle.query.specs.declared.Range.TheVariants.{None, Between};
 ghost use Rattle.rules.specs.Work.{read_of, insert_of, delete_of};
 ghost use Rattle.rules.specs.Memory.{mem};
-ghost use Rattle.rules.specs.Outcome.{result};
+ghost use Rattle.rules.specs.Outcome.{result_of};
 ghost use Rattle.rules.specs.Calls.{begin_result};
 ghost use Rattle.checks.specs.CheckContracts.{request_of};
 
@@ -25,7 +25,7 @@ pub fn begin(
     asked: &[u32],
 ) -> Outcome
     requires { (reads ≤ kind) × (kind ≤ deletes) }
-    ensures* { λ r. ⌜ result r (mem table.new nodes.new answers.new clients.new) ≡ begin_result (mem table.old nodes.old answers.old clients.old) client (request_of kind counts range asked.now) ⌝ }
+    ensures { result_of result (mem table.new nodes.new answers.new clients.new) ≡ begin_result (mem table.old nodes.old answers.old clients.old) client (request_of kind counts range asked.now) }
 {
     let checked = checks::begin_check(
         table, nodes, answers, clients, kind, counts, range, client, asked,
@@ -46,7 +46,7 @@ pub fn begin_read(
     client: u32,
     asked: &[u32],
 ) -> Outcome
-    ensures* { λ r. ⌜ result r (mem table.new nodes.new answers.new clients.new) ≡ begin_result (mem table.old nodes.old answers.old clients.old) client (read_of false None asked.now) ⌝ }
+    ensures { result_of result (mem table.new nodes.new answers.new clients.new) ≡ begin_result (mem table.old nodes.old answers.old clients.old) client (read_of false None asked.now) }
 {
     begin(
         table,
@@ -70,7 +70,7 @@ pub fn begin_count(
     client: u32,
     asked: &[u32],
 ) -> Outcome
-    ensures* { λ r. ⌜ result r (mem table.new nodes.new answers.new clients.new) ≡ begin_result (mem table.old nodes.old answers.old clients.old) client (read_of true None asked.now) ⌝ }
+    ensures { result_of result (mem table.new nodes.new answers.new clients.new) ≡ begin_result (mem table.old nodes.old answers.old clients.old) client (read_of true None asked.now) }
 {
     begin(
         table,
@@ -98,7 +98,7 @@ pub fn begin_read_within(
     lowest: u32,
     highest: u32,
 ) -> Outcome
-    ensures* { λ r. ⌜ result r (mem table.new nodes.new answers.new clients.new) ≡ begin_result (mem table.old nodes.old answers.old clients.old) client (read_of false (Between column lowest highest) asked.now) ⌝ }
+    ensures { result_of result (mem table.new nodes.new answers.new clients.new) ≡ begin_result (mem table.old nodes.old answers.old clients.old) client (read_of false (Between column lowest highest) asked.now) }
 {
     let range = Range::Between {
         column,
@@ -130,7 +130,7 @@ pub fn begin_count_within(
     lowest: u32,
     highest: u32,
 ) -> Outcome
-    ensures* { λ r. ⌜ result r (mem table.new nodes.new answers.new clients.new) ≡ begin_result (mem table.old nodes.old answers.old clients.old) client (read_of true (Between column lowest highest) asked.now) ⌝ }
+    ensures { result_of result (mem table.new nodes.new answers.new clients.new) ≡ begin_result (mem table.old nodes.old answers.old clients.old) client (read_of true (Between column lowest highest) asked.now) }
 {
     let range = Range::Between {
         column,
@@ -158,7 +158,7 @@ pub fn begin_insert(
     client: u32,
     asked: &[u32],
 ) -> Outcome
-    ensures* { λ r. ⌜ result r (mem table.new nodes.new answers.new clients.new) ≡ begin_result (mem table.old nodes.old answers.old clients.old) client (insert_of asked.now) ⌝ }
+    ensures { result_of result (mem table.new nodes.new answers.new clients.new) ≡ begin_result (mem table.old nodes.old answers.old clients.old) client (insert_of asked.now) }
 {
     begin(
         table,
@@ -181,7 +181,7 @@ pub fn begin_delete(
     client: u32,
     asked: &[u32],
 ) -> Outcome
-    ensures* { λ r. ⌜ result r (mem table.new nodes.new answers.new clients.new) ≡ begin_result (mem table.old nodes.old answers.old clients.old) client (delete_of asked.now) ⌝ }
+    ensures { result_of result (mem table.new nodes.new answers.new clients.new) ≡ begin_result (mem table.old nodes.old answers.old clients.old) client (delete_of asked.now) }
 {
     begin(
         table,

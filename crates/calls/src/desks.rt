@@ -2,7 +2,7 @@
 // goes on to the steps. Leans on checks, reading and writing.
 ghost use Rattle.std.specs.Prelude.{◌≡◌};
 ghost use Rattle.rules.specs.Memory.{mem};
-ghost use Rattle.rules.specs.Outcome.{result, result_with};
+ghost use Rattle.rules.specs.Outcome.{result_of, result_with};
 ghost use Rattle.rules.specs.Calls.{step_result, abandon_result};
 
 use hall::Hall;
@@ -20,7 +20,7 @@ pub fn step(
     tray: &mut [u32],
     client: u32,
 ) -> Outcome
-    ensures* { λ r. ⌜ result_with r (mem table.new nodes.new answers.new clients.new) tray.new ≡ step_result (mem table.old nodes.old answers.old clients.old) tray.old client ⌝ }
+    ensures { result_with result (mem table.new nodes.new answers.new clients.new) tray.new ≡ step_result (mem table.old nodes.old answers.old clients.old) tray.old client }
 {
     let checked = checks::step_check(table, nodes, answers, clients, tray, client);
     if checked.code != 0 {
@@ -43,7 +43,7 @@ pub fn abandon(
     clients: &mut [u32],
     client: u32,
 ) -> Outcome
-    ensures* { λ r. ⌜ result r (mem table.new nodes.new answers.new clients.new) ≡ abandon_result (mem table.old nodes.old answers.old clients.old) client ⌝ }
+    ensures { result_of result (mem table.new nodes.new answers.new clients.new) ≡ abandon_result (mem table.old nodes.old answers.old clients.old) client }
 {
     let checked = checks::abandon_check(table, nodes, answers, clients, client);
     if checked.code != 0 {

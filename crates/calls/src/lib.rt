@@ -1,6 +1,8 @@
 // The twelve public calls, in one place: the opening (opening.rt), the begins (begins.rt), the step and the abandoning (desks.rt), the evictions
 // and the renewal (upkeep.rt). None asks anything of its caller. A history is an opening and a list of the other eleven: here such a call is a
 // value of its own, and one function runs it. The rules stand in rules (Calls, History), what a value stands for in specs/CallValues.antt.
+#![tactic(auto)]
+
 ghost use Rattle.std.specs.Prelude.{◌≡◌};
 ghost use Rattle.rules.specs.Memory.{mem};
 ghost use Rattle.rules.specs.Outcome.{result_with};
@@ -14,7 +16,7 @@ pub mod opening; // opening.rt: the opening
 pub mod upkeep; // upkeep.rt: both evictions, the renewal
 
 // A call of a history: its kind, the client or the place that it names, and a range. The query of a begin and the tray of a step are lent beside it.
-#[derive(Drop)]
+#[derive(Clone, Copy)]
 pub enum Call {
     BeginRead {
         client: u32,

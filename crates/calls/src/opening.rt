@@ -2,7 +2,7 @@
 // cleared. Leans on hall for the length check and for the clearing of each memory. The rules stand in rules (Refusals, Calls).
 ghost use Rattle.std.specs.Prelude.{◌≡◌};
 ghost use Rattle.rules.specs.Memory.{mem};
-ghost use Rattle.rules.specs.Outcome.{result};
+ghost use Rattle.rules.specs.Outcome.{result_of};
 ghost use Rattle.rules.specs.Refusals.{open_code};
 ghost use Rattle.rules.specs.Calls.{open_result};
 
@@ -11,7 +11,7 @@ use rules::Outcome;
 
 // The number that an opening is refused with, or 0.
 fn open_code(table: &[u32], nodes: &[u32], answers: &[u32], clients: &[u32], k: u32) -> u32
-    ensures* { λ r. ⌜ r ≡ open_code (mem table.now nodes.now answers.now clients.now) k ⌝ }
+    ensures { result ≡ open_code (mem table.now nodes.now answers.now clients.now) k }
 {
     if Hall::is_short(table, nodes, answers, clients) {
         return Hall::REFUSED_SHORT;
@@ -33,7 +33,7 @@ pub fn open(
     clients: &mut [u32],
     k: u32,
 ) -> Outcome
-    ensures* { λ r. ⌜ result r (mem table.new nodes.new answers.new clients.new) ≡ open_result (mem table.old nodes.old answers.old clients.old) k ⌝ }
+    ensures { result_of result (mem table.new nodes.new answers.new clients.new) ≡ open_result (mem table.old nodes.old answers.old clients.old) k }
 {
     let code = open_code(table, nodes, answers, clients, k);
     if code != 0 {

@@ -1,7 +1,7 @@
 // The calls that no client makes: both evictions, which are one function, and the renewal. Leans on checks for the refusals.
 ghost use Rattle.std.specs.Prelude.{◌≡◌};
 ghost use Rattle.rules.specs.Memory.{mem};
-ghost use Rattle.rules.specs.Outcome.{result};
+ghost use Rattle.rules.specs.Outcome.{result_of};
 ghost use Rattle.rules.specs.Calls.{evict_answer_result, evict_node_result, renew_result};
 ghost use Rattle.calls.specs.CallContracts.{evict_result};
 
@@ -18,7 +18,7 @@ fn evict(
     kept: Kept,
     place: u32,
 ) -> Outcome
-    ensures* { λ r. ⌜ result r (mem table.new nodes.new answers.new clients.new) ≡ evict_result (mem table.old nodes.old answers.old clients.old) kept place ⌝ }
+    ensures { result_of result (mem table.new nodes.new answers.new clients.new) ≡ evict_result (mem table.old nodes.old answers.old clients.old) kept place }
 {
     let code = checks::evict_code(table, nodes, answers, clients, kept, place);
     if code != 0 {
@@ -43,7 +43,7 @@ pub fn evict_answer(
     clients: &mut [u32],
     place: u32,
 ) -> Outcome
-    ensures* { λ r. ⌜ result r (mem table.new nodes.new answers.new clients.new) ≡ evict_answer_result (mem table.old nodes.old answers.old clients.old) place ⌝ }
+    ensures { result_of result (mem table.new nodes.new answers.new clients.new) ≡ evict_answer_result (mem table.old nodes.old answers.old clients.old) place }
 {
     evict(table, nodes, answers, clients, Kept::Answer, place)
 }
@@ -55,7 +55,7 @@ pub fn evict_node(
     clients: &mut [u32],
     place: u32,
 ) -> Outcome
-    ensures* { λ r. ⌜ result r (mem table.new nodes.new answers.new clients.new) ≡ evict_node_result (mem table.old nodes.old answers.old clients.old) place ⌝ }
+    ensures { result_of result (mem table.new nodes.new answers.new clients.new) ≡ evict_node_result (mem table.old nodes.old answers.old clients.old) place }
 {
     evict(table, nodes, answers, clients, Kept::Node, place)
 }
@@ -67,7 +67,7 @@ pub fn renew(
     answers: &mut [u32],
     clients: &mut [u32],
 ) -> Outcome
-    ensures* { λ r. ⌜ result r (mem table.new nodes.new answers.new clients.new) ≡ renew_result (mem table.old nodes.old answers.old clients.old) ⌝ }
+    ensures { result_of result (mem table.new nodes.new answers.new clients.new) ≡ renew_result (mem table.old nodes.old answers.old clients.old) }
 {
     let code = checks::renew_code(table, nodes, answers, clients);
     if code != 0 {

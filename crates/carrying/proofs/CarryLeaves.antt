@@ -7,7 +7,7 @@ use Rattle.laws.proofs.TestLaws.{by_test, or_false, passed}
 use Rattle.query.specs.Shape.{narrow, wide, Shape}
 use Rattle.rules.specs.declared.Outcome.{Outcome}
 use Rattle.rules.specs.declared.Outcome.TheVariants.{Refused, Accepted, Answered, Long, Ended, Full}
-use Rattle.rules.specs.Outcome.{Result, result}
+use Rattle.rules.specs.Outcome.{Result, result_of}
 use Rattle.rules.specs.Calls.{unless}
 use Rattle.rules.specs.Memory.{Mem}
 use Rattle.rules.specs.Refusals.{form, shape, is_short, is_unsound}
@@ -29,11 +29,11 @@ carry_passed o n e =
     (sound o s.0 u.0, long (shape o) n s.1)
 
 -- accepted or not, by its number
-goes : (o n : Mem) → eqb (carry_code o n) 0 ≡ true → carry_result o n ≡ result Accepted (carried o n)
+goes : (o n : Mem) → eqb (carry_code o n) 0 ≡ true → carry_result o n ≡ result_of Accepted (carried o n)
 unfolding carry_result unless
 goes o n e = rw e refl
 
-stops : (o n : Mem) → eqb (carry_code o n) 0 ≡ false → carry_result o n ≡ result (Refused (carry_code o n)) n
+stops : (o n : Mem) → eqb (carry_code o n) 0 ≡ false → carry_result o n ≡ result_of (Refused (carry_code o n)) n
 unfolding carry_result unless
 stops o n e = rw e refl
 
@@ -66,5 +66,5 @@ carry_leaves o n = record {
       (λ t. (ap (λ (r : Result). r.out) (stops o n t), ap (λ (r : Result). r.mem) (stops o n t)));
 }
   where
-    gone : (carry_result o n).out ≡ Accepted → carry_result o n ≡ result Accepted (carried o n)
+    gone : (carry_result o n).out ≡ Accepted → carry_result o n ≡ result_of Accepted (carried o n)
     gone a = goes o n (eq-eqb (carry_code o n) 0 (taken o n a))

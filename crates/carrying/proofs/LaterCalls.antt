@@ -21,7 +21,7 @@ use Rattle.rules.specs.declared.Count.TheVariants.{NoCount}
 use Rattle.rules.specs.Client.{work_at, is_bad}
 use Rattle.rules.specs.Memory.{Mem, opened}
 use Rattle.rules.specs.Refusals.{form, shape, client, open_code, abandon_code, is_short}
-use Rattle.rules.specs.Outcome.{Result, result}
+use Rattle.rules.specs.Outcome.{Result, result_of}
 use Rattle.rules.specs.Calls.{unless, abandon_result}
 use Rattle.rules.specs.History.{Call, begin, step, abandon, evict_answer, evict_node, renew, untrayed, call_result}
 use Rattle.rules.specs.Tally.{count_in, count_of, abandoned_count, accepted_count, would_raise, is_full, Made, is_full_for, is_tally_full, made_result, raised, tally_after, mem_after}
@@ -142,7 +142,7 @@ carry_taken o n f e l =
     let a = all_below_law max_clients (λ d. not (is_bad (shape o) (client o d))) (λ d h. ap not (f.sound d h)) in
     rw (not_short o f, l, e, sound o f, a) refl
 
-carry_goes : (o n : Mem) → carry_code o n ≡ 0 → carry_result o n ≡ result Accepted (carried o n)
+carry_goes : (o n : Mem) → carry_code o n ≡ 0 → carry_result o n ≡ result_of Accepted (carried o n)
 unfolding carry_result unless
 carry_goes o n e = rw e refl
 

@@ -4,7 +4,7 @@ use Rattle.std.specs.Prelude.{◌≡◌, List, Bool, true, false, not, ◌||◌,
 use Rattle.lists.specs.Lists.{all_below}
 use Rattle.query.specs.Shape.{Form, narrow, wide}
 use Rattle.rules.specs.declared.Outcome.TheVariants.{Refused, Accepted}
-use Rattle.rules.specs.Outcome.{Result, result}
+use Rattle.rules.specs.Outcome.{Result, result_of}
 use Rattle.rules.specs.Calls.{unless}
 use Rattle.rules.specs.Layout.{max_clients, table_least, nodes_least, answers_least, clients_least, columns_offset, form_offset, tells_wide, refused_short, refused_unsound}
 use Rattle.rules.specs.Client.{Client, is_bad}
@@ -66,7 +66,7 @@ pub record Refuses (o n : Mem) : Type 0 where
 
 -- what the carrying returns, and what it leaves in the fresh memories: refused, it alters none
 unfoldable pub carry_result : Mem → Mem → Result
-carry_result o n = unless (carry_code o n) n (result Accepted (carried o n))
+carry_result o n = unless (carry_code o n) n (result_of Accepted (carried o n))
 
 -- of memories of any contents: an accepted carrying leaves a hall that is alike and sound, in the form of n; a refused one leaves n as it was
 pub record Carries (o n : Mem) : Type 0 where

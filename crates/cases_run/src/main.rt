@@ -1,6 +1,8 @@
 // Plays document 01 through the calls: its cases (1 to 12), the numbers that the controller turns down with (1 to 13, of which 7 is given no
 // longer) and its faults (1 to 5); and of document 02 what S-1 and S-3 to S-6 ask to be run. Each is over memories that held noise before. One line
 // for each says what is done and expected, and what came; the last line counts them. Leans on parts for the text of each, row, play and print.
+#![tactic(auto)]
+
 mod parts;
 mod play;
 mod print;

@@ -32,7 +32,7 @@ pub const EVERY: u32 = 4294967295;
 
 // ---- Reading
 // What is read so far; which place the next number has: 0 the lowest, 1 desk or place, 2 a query, 3 its later columns, 4 steps; the number.
-#[derive(Drop)]
+#[derive(Clone, Copy)]
 struct Reading {
     row: u64,
     place: u32,
@@ -40,7 +40,7 @@ struct Reading {
 }
 
 // A row, and where the text goes on behind it.
-#[derive(Drop)]
+#[derive(Clone, Copy)]
 pub struct Line {
     pub row: u64,
     pub next: usize,

@@ -1,6 +1,8 @@
 // The refusals as numbers: for each call the first number that applies (1, 2, 14, 3, 4 and so on), or 0. Each reads the four lent memories, in any contents and of any
 // lengths, and tests in the order of the rules. What a check has read and a call goes on with, it hands on: a client (`Checked`), the key of
 // what begins (`Begun`). The rules stand in rules (Refusals), what is handed on in specs/CheckContracts.antt.
+#![tactic(auto)]
+
 ghost use Rattle.std.specs.Prelude.{◌≡◌, Bool, true, false, List, ℕ, ◌≤◌, length};
 ghost use Rattle.query.specs.Shape.{shape_of, max_columns};
 ghost use Rattle.query.specs.Encoding.{is_query};
@@ -56,7 +58,7 @@ fn sound_code(table: &[u32], nodes: &[u32], answers: &[u32], clients: &[u32]) ->
 
 // ---- A client's desk
 // What the checks of a step or an abandoning give: the number that it is refused with, or 0; and, if that is 0, what was read of the client.
-#[derive(Drop)]
+#[derive(Clone, Copy)]
 pub struct Checked {
     pub code: u32,
     pub held: Held,
@@ -111,7 +113,7 @@ fn at_client(table: &[u32], nodes: &[u32], answers: &[u32], clients: &[u32], d: 
 
 // ---- Begins
 // What the checks of a begin give: the number that it is refused with, or 0; and, if that is 0, the key that the client is to keep.
-#[derive(Drop)]
+#[derive(Clone, Copy)]
 pub struct Begun {
     pub code: u32,
     pub key: [u32; Hall::KEY_WIDTH],
@@ -295,7 +297,7 @@ pub fn abandon_check(
 
 // ---- Evictions and renewals
 // What can be put out by its place.
-#[derive(Drop)]
+#[derive(Clone, Copy)]
 pub enum Kept {
     Answer,
     Node,

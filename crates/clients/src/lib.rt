@@ -1,5 +1,7 @@
 // One client's numbers in the desks memory (docs/LAYOUT.md): read, changed, and checked for senseless contents.
 // The rules stand in rules, what a function takes for granted in specs/ClientContracts.antt.
+#![tactic(auto)]
+
 ghost use Rattle.std.specs.Prelude.{◌≡◌, not, ◌&&◌, ◌||◌, List, ℕ, ◌+◌, ◌*◌, ◌^◌, ◌<◌, ◌≤◌, eqb, length, get_or, set};
 ghost use Rattle.lists.specs.Lists.{all_below};
 ghost use Rattle.query.specs.Encoding.{columns_in, is_key, key_width, names_all};
@@ -20,7 +22,7 @@ const CLIENTS: usize = Hall::CLIENTS as usize;
 // What a call reads of its client, once: the hall's columns, the client's kind, how many steps it has made, its query as marks and values, and
 // whether it wants a count. Whoever is called next gets it by value. A range is read by itself where it is tested and where records are taken:
 // most reads have none, and every step would carry it.
-#[derive(Drop)]
+#[derive(Clone, Copy)]
 pub struct Held {
     pub columns: usize,
     pub kind: u32,

@@ -1,5 +1,7 @@
 // Queries in code: an array of four columns, of which the first k are in use and the rest are wildcards.
 // Leans on query for the column and for the rules.
+#![tactic(auto)]
+
 ghost use Rattle.std.specs.Prelude.{◌≡◌, ◌*◌, ◌≤◌, length};
 ghost use Rattle.query.specs.Shape.{shape_of, max_columns};
 ghost use Rattle.query.specs.Encoding.{is_query, column_of, query_of, well_marked};
@@ -85,7 +87,7 @@ pub fn columns_of(asked: &[u32]) -> [Column; Hall::COLUMN_SLOTS]
 }
 
 // What an insert takes: refusal 2 or 0, and the values up to the first wildcard, at most four, zeros behind.
-#[derive(Drop)]
+#[derive(Clone, Copy)]
 pub struct Taken {
     pub code: u32,
     pub values: [u32; Hall::COLUMN_SLOTS],

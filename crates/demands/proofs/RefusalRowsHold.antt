@@ -76,6 +76,7 @@ pub data Rising : List Row → Type 0 where
 above_in : {n : ℕ} {rs : List Row} (r : Row) → Above n rs → In r rs → r.applies ≡ true → NoLess n r.number
 above_in r (more h k) (here i) e = rw i (h (rw i at e))
 above_in r (more h k) (there i) e = above_in r k i e
+above_in {n = n} r end x5 e = elim x5 [ ]
 
 first_least : {rs : List Row} → Rising rs → (s : Row) → In s rs → s.applies ≡ true → NoLess (first_of rs) s.number
 unfolding first_of
@@ -84,6 +85,7 @@ first_least (rise {r} h k) s (there i) e =
     by_test r.applies
     (λ t. rw t (above_in s (h t) i e))
     (λ t. rw t (first_least k s i e))
+first_least done s x5 e = elim x5 [ ]
 
 -- so is the number of every row, whether it applies or not
 numbers_from : ℕ → List Row → Bool

@@ -6,12 +6,12 @@ use Prim.Native.Nat.{ℕ}
 use Rattle.rules.specs.declared.Outcome.{Outcome}
 use Rattle.rules.specs.declared.Tally.{Tally}
 use Rattle.rules.specs.Memory.{Mem}
-use Rattle.rules.specs.Outcome.{Result, result, StepResult, result_with}
+use Rattle.rules.specs.Outcome.{Result, result_of, StepResult, result_with}
 use Rattle.rules.specs.Tally.{Tallied, tallied}
 use Rattle.exports.specs.declared.Reply.{Reply}
 use Rattle.exports.specs.Reply.{reply_of, sent, sent_by, sent_with, sent_by_step, sent_tallied, sent_by_tallied}
 
-pub sends : (r : Reply) (o : Outcome) (m : Mem) (d : Result) → r ≡ reply_of o → result o m ≡ d → sent r m ≡ sent_by d
+pub sends : (r : Reply) (o : Outcome) (m : Mem) (d : Result) → r ≡ reply_of o → result_of o m ≡ d → sent r m ≡ sent_by d
 unfolding sent_by
 sends r o m d e f = ap (λ (x : Reply). sent x m) e ∙ ap sent_by f
 

@@ -14,7 +14,7 @@ use rules::Tally;
 use tallied::Counted;
 
 // What the exported call sends back and what it stores in the lent tally.
-#[derive(Drop)]
+#[derive(Clone, Copy)]
 pub struct Replied {
     pub reply: Reply,
     pub tally: Tally,

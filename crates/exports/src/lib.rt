@@ -1,6 +1,8 @@
 // The calls for programs in C and Rust: each of the twelve public calls over plain slices and numbers, under a name of its own. Nothing is decided
 // here: an export makes one call of the library and turns its outcome into three numbers. Leans on calls; specs/Reply.antt
 // says what is sent back. The calls that may be lent a tally stand in lent.rt.
+#![tactic(auto)]
+
 ghost use Rattle.std.specs.Prelude.{◌≡◌, true, false};
 ghost use Rattle.query.specs.declared.Range.TheVariants.{None, Between};
 ghost use Rattle.rules.specs.Work.{read_of, insert_of, delete_of};
@@ -15,7 +17,7 @@ pub mod lent; // lent.rt: the calls that are lent a tally
 
 // What a caller in another language gets. Its memories hold the rest.
 #[repr(C)]
-#[derive(Drop)]
+#[derive(Clone, Copy)]
 pub struct Reply {
     // 0 accepted, 1 to 11 but 7, and 14, and 15 where a tally is lent, refused, 12 long, 13 full.
     pub number: u32,

@@ -1,5 +1,7 @@
 // The hall: its fixed sizes as associated constants, the length check, and the functions that make the cleared state of each memory.
 // The rules stand in rules; specs/HallContracts.antt has the sizes in one value.
+#![tactic(auto)]
+
 ghost use Rattle.std.specs.Prelude.{◌≡◌, List, ◌∷◌, ℕ, ◌≤◌, length, set};
 ghost use Rattle.query.specs.Shape.{Shape, shape_of};
 ghost use Rattle.query.specs.Encoding.{counts_in};
@@ -9,11 +11,11 @@ ghost use Rattle.rules.specs.Refusals.{is_short};
 ghost use Rattle.hall.specs.HallContracts.{limits_of};
 
 // The name that the sizes and the functions of every hall stand under. A hall itself lies in the lent memories, its number of columns too.
-#[derive(Drop)]
+#[derive(Clone, Copy)]
 pub struct Hall;
 
 // The sizes, in one value.
-#[derive(Drop)]
+#[derive(Clone, Copy)]
 pub struct Limits {
     pub records: u32,
     pub nodes: u32,

@@ -86,7 +86,7 @@ few_raises sh e (raising w j c f) l o = let a = write_few sh w o.0 l in omega ar
 
 all_few : (s : State) → StateInv s → all_to_raise s.clients ≤ 192
 unfolding all_to_raise
-all_few s v = sum_most 12 16 (λ d. to_raise (s.clients d)) (λ d. few_raises s.shape _ (s.clients d) v.few (v.fit d))
+all_few s v = sum_most 12 16 (λ d. to_raise (s.clients d)) (λ d. few_raises s.shape (effective s.store) (s.clients d) v.few (v.fit d))
 
 none_raise : (f : ℕ → Phase) → ((d : ℕ) → f d ≡ idle) → all_to_raise f ≡ 0
 unfolding all_to_raise to_raise
@@ -276,7 +276,7 @@ all_held_length zero s v = omega arith
 all_held_length (suc n) s v =
     let a = length-append (holds (s.clients n)) (all_held n s.clients) in
     let b = all_held_length n s v in
-    let c = few_held s.shape _ (s.clients n) v.few (v.fit n) in
+    let c = few_held s.shape (effective s.store) (s.clients n) v.few (v.fit n) in
     omega arith
 
 -- "no unmarked node to put out" (3) is never met: at most 192 labels have marks, each as often as it stands in a list of 192

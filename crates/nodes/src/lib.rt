@@ -1,5 +1,7 @@
 // Functions over the nodes memory: the floor at 0, the count at 1, nodes of 8 numbers from place 8 on (docs/LAYOUT.md). Each finds a node by
 // one scan. What they leave stands in the rules' Nodes.antt, read and written back by the rules' Memory.antt.
+#![tactic(auto)]
+
 ghost use Rattle.std.specs.Prelude.{◌≡◌, true, [], ◌+◌, ◌≤◌, ◌<◌, max, length, get_or, take, drop};
 ghost use Rattle.lists.specs.Lists.{same};
 ghost use Rattle.rules.specs.Nodes.{store, node_place, oldest_free, evict_node, added, make_room, ensured, announced};
@@ -16,14 +18,14 @@ use hall::Hall;
 const NODES: usize = Hall::NODES as usize;
 
 // What a look saw: the node's revision and its pending writes; or that it is missing and there is no room for it.
-#[derive(Drop)]
+#[derive(Clone, Copy)]
 pub enum Sight {
     Seen { revision: u32, pending: u32 },
     Stuck,
 }
 
 // Where a node stands, or that there is none.
-#[derive(Drop)]
+#[derive(Clone, Copy)]
 pub enum Spot {
     At(usize),
     Nowhere,

@@ -1,6 +1,8 @@
 // The four steps of a read, after its refusals: look, fetch, table, file. Each is lent only the memories that it needs; its contract says of
 // any others that they are left alone. h is what the check has read of the client. What a step leaves stands in the rules' Steps.antt, what it
 // takes for granted in specs/ReadContracts.antt.
+#![tactic(auto)]
+
 ghost use Rattle.std.specs.Prelude.{◌≡◌, false, List, ℕ, ◌+◌, take};
 ghost use Rattle.lists.specs.Lists.{written, flat};
 ghost use Rattle.query.specs.Shape.{shape_of};

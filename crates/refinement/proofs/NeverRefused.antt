@@ -20,7 +20,7 @@ use Rattle.rules.specs.Nodes.{Words, Store, ensured, announced, retired}
 use Rattle.rules.specs.Client.{Client, saw_pending, did_change, found_full, entry_of, is_idle}
 use Rattle.rules.specs.Memory.{Mem, store_in, with_store, answers_in, renewed}
 use Rattle.rules.specs.Refusals.{form, columns, client, shape, step_code, begin_code, abandon_code, evict_answer_code, evict_node_code, renew_code}
-use Rattle.rules.specs.Outcome.{Result, result, StepResult, result_with, number}
+use Rattle.rules.specs.Outcome.{Result, result_of, StepResult, result_with, number}
 use Rattle.rules.specs.Steps.{now_at, store_back, answered, look_result, fetch_result, table_result, file_result, read_result, announce_result, write_table_result, end_of}
 use Rattle.rules.specs.Steps.{raise_result, write_result, progress_of, progress}
 use Rattle.rules.specs.Calls.{unless, begin_result, step_result, past_table, announced_labels, labels_left, retire_result, abandoned_write, abandoned_of, abandoned, abandon_result, evict_answer_result, evict_node_result, renew_result}
@@ -291,7 +291,7 @@ abandon_passes m g d = unless_passed m _ (abandon_code m d) _ (abandon_sound m g
     went_passed m _ _ g (λ b low. abandoning_goes m g b low d e))
 
 -- the nodes stay
-still_passes : (m : Mem) → Lasting m → (c : machine.Call) (t : Mem) → store_in (form t) t.nodes ≡ nodes_of m → Passed m c (untrayed (result Accepted t))
+still_passes : (m : Mem) → Lasting m → (c : machine.Call) (t : Mem) → store_in (form t) t.nodes ≡ nodes_of m → Passed m c (untrayed (result_of Accepted t))
 unfolding untrayed is_accepted number
 still_passes m g c t e = went_passed m c _ g (λ b low. quiet m g b _ low Accepted t [] refl e)
 

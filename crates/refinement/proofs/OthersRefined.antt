@@ -27,7 +27,7 @@ use Rattle.rules.specs.Answers.{Entry}
 use Rattle.rules.specs.Client.{saw_pending, is_idle}
 use Rattle.rules.specs.Memory.{Mem, with_filed, store_in, answers_in, with_answers, renewed}
 use Rattle.rules.specs.Refusals.{form, columns, client, begin_code, abandon_code, evict_answer_code, evict_node_code, renew_code, shape}
-use Rattle.rules.specs.Outcome.{result}
+use Rattle.rules.specs.Outcome.{result_of}
 use Rattle.rules.specs.Steps.{store_back}
 use Rattle.rules.specs.Calls.{begin_result, past_table, announced_labels, labels_left, retire_result, abandoned_write, abandoned, abandon_result, evict_answer_result, evict_node_result, renew_result, abandoned_of}
 use Rattle.rules.specs.History.{untrayed}
@@ -115,7 +115,7 @@ abandon_simulated m d f once = unless_simulated m _ (abandon_code m d) _ f (inl 
 
 -- ---- Puttings out
 evicted_simulated : (m : Mem) (i : ℕ) → Fits m → i < get_or m.answers answer_count_offset 0
-    → Simulated m (evicts_answer i) (untrayed (result Accepted (with_filed m (with_answers (form m) m.answers (without i (answers_in (form m) m.answers))))))
+    → Simulated m (evicts_answer i) (untrayed (result_of Accepted (with_filed m (with_answers (form m) m.answers (without i (answers_in (form m) m.answers))))))
 unfolding untrayed response_in state_of filed_of cut
 evicted_simulated m i f h =
     let es : List Entry = answers_in (form m) m.answers in

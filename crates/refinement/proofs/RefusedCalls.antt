@@ -18,7 +18,7 @@ use Rattle.rules.specs.declared.Outcome.TheVariants.{Refused}
 use Rattle.rules.specs.Nodes.{is_worn, pending}
 use Rattle.rules.specs.Client.{is_idle, is_bad}
 use Rattle.rules.specs.Memory.{Mem, store_in}
-use Rattle.rules.specs.Outcome.{Result, result, result_with}
+use Rattle.rules.specs.Outcome.{Result, result_of, result_with}
 use Rattle.rules.specs.Refusals.{form, client, is_short, is_unsound, no_client, all_idle, at_client, begin_code, step_code, abandon_code}
 use Rattle.rules.specs.Refusals.{evict_answer_code, evict_node_code, renew_code, shape}
 use Rattle.rules.specs.Calls.{unless}
@@ -44,7 +44,7 @@ pub refused_simulated : (m : Mem) (c : Call) (n : ℕ) (tray : List ℕ) → Fit
 unfolding response_in
 refused_simulated m c n tray f l ne = simulated (Refused n) tray (as_it_was m f) (nothing (turned_down n l ne))
 
-untrayed_refused : (m : Mem) (c : Call) (n : ℕ) → Fits m → IsCode n → (n ≡ 0 → ⊥) → Simulated m c (untrayed (result (Refused n) m))
+untrayed_refused : (m : Mem) (c : Call) (n : ℕ) → Fits m → IsCode n → (n ≡ 0 → ⊥) → Simulated m c (untrayed (result_of (Refused n) m))
 unfolding untrayed
 untrayed_refused m c n f l ne = refused_simulated m c n [] f l ne
 

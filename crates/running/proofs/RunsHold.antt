@@ -15,7 +15,7 @@ use Rattle.rules.specs.declared.Outcome.{Outcome}
 use Rattle.rules.specs.declared.Outcome.TheVariants.{Accepted}
 use Rattle.rules.specs.declared.Tally.{Tally}
 use Rattle.rules.specs.Memory.{Mem, opened}
-use Rattle.rules.specs.Outcome.{number, Result, result, StepResult}
+use Rattle.rules.specs.Outcome.{number, Result, result_of, StepResult}
 use Rattle.rules.specs.Refusals.{open_code}
 use Rattle.rules.specs.Calls.{unless, open_result}
 use Rattle.rules.specs.History.{Call, begin, step, abandon, evict_answer, evict_node, renew, untrayed, call_result}
@@ -34,10 +34,10 @@ unless_taken code m x y e z = by_test (eqb code 0)
     (λ t. (eqb-true code 0 t, rw t at e))
     (λ t. absurd (eqb-false code 0 t (sym (ap (λ (r : Result). number r.out) (rw t at e)) ∙ z)))
 
-opening_taken : (m n : Mem) (k : ℕ) (o : Outcome) → result o n ≡ open_result m k → number o ≡ 0 → (open_code m k ≡ 0) × (opened (shape_of k) m ≡ n)
+opening_taken : (m n : Mem) (k : ℕ) (o : Outcome) → result_of o n ≡ open_result m k → number o ≡ 0 → (open_code m k ≡ 0) × (opened (shape_of k) m ≡ n)
 unfolding open_result
 opening_taken m n k o e z =
-    let t = unless_taken (open_code m k) m _ (result o n) e z in
+    let t = unless_taken (open_code m k) m _ (result_of o n) e z in
     (t.0, sym (ap (λ (r : Result). r.mem) t.1))
 
 -- ---- One after another

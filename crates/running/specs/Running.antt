@@ -7,7 +7,7 @@ use Rattle.rules.specs.declared.Outcome.{Outcome}
 use Rattle.rules.specs.declared.Outcome.TheVariants.{Accepted}
 use Rattle.rules.specs.declared.Tally.{Tally}
 use Rattle.rules.specs.Memory.{Mem}
-use Rattle.rules.specs.Outcome.{result, result_with}
+use Rattle.rules.specs.Outcome.{result_of, result_with}
 use Rattle.rules.specs.Refusals.{open_code}
 use Rattle.rules.specs.Calls.{open_result, begin_result, step_result, abandon_result, evict_answer_result, evict_node_result, renew_result}
 use Rattle.rules.specs.History.{Call, begin, step, abandon, evict_answer, evict_node, renew}
@@ -56,7 +56,7 @@ pub record IsRan (h : History) (i : ℕ) (x : Ran) : Type 0 where
 -- number there.
 -- Rules out: a theorem about a history that no program can bring about with `run`, and a program whose replies the theorems do not speak of
 abbrev pub RunsAreHistories : Type 0
-RunsAreHistories = (m n : Mem) (k : ℕ) → result Accepted n ≡ open_result m k → (xs : List Ran) → OneByOne (λ x. x.left) RunSays n xs
+RunsAreHistories = (m n : Mem) (k : ℕ) → result_of Accepted n ≡ open_result m k → (xs : List Ran) → OneByOne (λ x. x.left) RunSays n xs
     → (a : open_code m k ≡ 0) × (mem_at (history_of m k a (map ran_call xs)) 0 ≡ n)
     × ((ys zs : List Ran) (x : Ran) → xs ≡ ys ++ (x ∷ zs) → IsRan (history_of m k a (map ran_call xs)) (length ys) x)
 

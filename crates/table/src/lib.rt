@@ -1,5 +1,7 @@
 // The code over the table memory: its count at place 0, its records one after another from place 8 on (docs/LAYOUT.md).
 // What is listed, added and removed are the rules' definitions; specs/TableContracts.antt names what they leave open.
+#![tactic(auto)]
+
 ghost use Rattle.std.specs.Prelude.{◌≡◌, ◌+◌, ◌≤◌, length, take, drop};
 ghost use Rattle.lists.specs.Lists.{written, flat};
 ghost use Rattle.rules.specs.Table.{insert, delete, effect};
@@ -20,7 +22,7 @@ mod widths; // widths.rt: the passes for each width
 const RECORDS: usize = Hall::RECORDS as usize;
 
 // What an insert did.
-#[derive(Drop)]
+#[derive(Clone, Copy)]
 pub enum Inserted {
     Added,
     // The record was there already.
@@ -30,7 +32,7 @@ pub enum Inserted {
 }
 
 // Where a record belongs.
-#[derive(Drop)]
+#[derive(Clone, Copy)]
 enum Spot {
     // It is in the table.
     There,

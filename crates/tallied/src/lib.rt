@@ -1,6 +1,8 @@
 // The calls that can raise a count, with the tally by value: a begin, a step, an abandoning. Each is the call without a tally, or 15: where some
 // count stands at its largest, which count the call would raise is asked first, and nothing is altered yet; then the call is made, and its outcome
 // says which count goes up. Leans on calls for the calls, on tally for the counts. The rules stand in rules (Tally).
+#![tactic(auto)]
+
 ghost use Rattle.std.specs.Prelude.{◌≡◌, [], ◌≤◌};
 ghost use Rattle.rules.specs.declared.Outcome.TheVariants.{Refused};
 ghost use Rattle.rules.specs.Layout.{reads, deletes, refused_tally_full};
@@ -17,7 +19,7 @@ use rules::{Count, Outcome, Tally};
 mod would; // would.rt: which count a call would raise, and whether that stands at its largest
 
 // What a call hands back: its outcome, and the tally.
-#[derive(Drop)]
+#[derive(Clone, Copy)]
 pub struct Counted {
     pub out: Outcome,
     pub tally: Tally,

@@ -1,5 +1,7 @@
 // A tally by value: which count of it a call raises, whether a count stands at its largest, one more at a count. No memory is read here. The
 // rules stand in rules (Tally).
+#![tactic(auto)]
+
 ghost use Rattle.std.specs.Prelude.{◌≡◌, false};
 ghost use Rattle.rules.specs.declared.Count.{Count};
 ghost use Rattle.tally.specs.TallyContracts.{some_full};

@@ -27,7 +27,7 @@ use Rattle.rules.specs.Work.{Write, write_labels, write_in, change_in, steps_in_
 use Rattle.rules.specs.Answers.{key_in}
 use Rattle.rules.specs.Client.{Client, entry_of, did_change, found_full, idle, query_at, write_at, stepped, wrote}
 use Rattle.rules.specs.Memory.{current, shape_in, Mem, mem, records_in, with_records, store_in, with_store, client_in, with_client}
-use Rattle.rules.specs.Outcome.{result, result_with}
+use Rattle.rules.specs.Outcome.{result_of, result_with}
 use Rattle.rules.specs.Refusals.{client}
 use Rattle.rules.specs.Steps.{now_at, store_back, announce_result, write_table_result, end_of, raise_result, write_result}
 use Rattle.rules.specs.Calls.{announced_labels, labels_left, retire_result}
@@ -254,7 +254,7 @@ module _ (t n a s y : List ℕ) (d : ℕ) (w : Write) (i : ℕ) (b : Bool) (u : 
 -- ---- the abandoning
 -- marks are taken off the nodes of some labels, and the client is idle: with and without a lift, and with any outcome
 off_stored : (t n a s : List ℕ) (d : ℕ) (o : Outcome) (r : Option Store) (u : List ℕ) (st : Store) (v : List ℕ) → r ≡ some st → u ≡ with_store current n st
-    → v ≡ with_client current s d idle → result o (mem t u a v) ≡ retire_result (mem t n a s) d o r
+    → v ≡ with_client current s d idle → result_of o (mem t u a v) ≡ retire_result (mem t n a s) d o r
 unfolding retire_result now_at store_back
 off_stored t n a s d o r u st v e f l = rw (e, f, l)
 
@@ -262,14 +262,14 @@ module _
     (t n a s : List ℕ) (d : ℕ) (lift must b : Bool) (c : lift ≡ must) (u : List ℕ) (ps qs : List Words) (e : ps ≡ qs)
     (g : attempt b u ≡ tried n (retired current lift ps (store_in current n))) (o : Outcome) where
   pub off_refused : b ≡ false
-      → result (Refused 3) (mem t u a s) ≡ retire_result (mem t n a s) d o (retired current must qs (store_in current n))
+      → result_of (Refused 3) (mem t u a s) ≡ retire_result (mem t n a s) d o (retired current must qs (store_in current n))
   unfolding retire_result
   off_refused z =
       let x = went_not n (retired current lift ps (store_in current n)) u (rw z at g) in
       rw (← e, ← c, x.0, x.1)
 
   pub off_done : b ≡ true → (r : Outcome) (v : List ℕ) → (r ≡ o) × (v ≡ with_client current s d idle)
-      → result r (mem t u a v) ≡ retire_result (mem t n a s) d o (retired current must qs (store_in current n))
+      → result_of r (mem t u a v) ≡ retire_result (mem t n a s) d o (retired current must qs (store_in current n))
   off_done z r v l =
       let x : Went n (retired current lift ps (store_in current n)) u = went_well n _ u (rw z at g) in
       rw (← e, ← c, l.0) (off_stored t n a s d o (retired current lift ps (store_in current n)) u x.store v x.is x.mem l.1)

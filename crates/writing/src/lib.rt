@@ -2,12 +2,14 @@
 // marks before the table step, and after it makes the raises that are left. A raise, the raises that are left and a taking back are the same
 // removal of marks, with a lift or without: all three call `retire`. h is what the check has read of the client. The rules stand in rules
 // (Steps, Calls), what a function takes for granted in specs/WriteContracts.antt.
+#![tactic(auto)]
+
 ghost use Rattle.std.specs.Prelude.{◌≡◌, List, ℕ, ◌≤◌, ◌<◌, take};
 ghost use Rattle.rules.specs.Layout.{max_word};
 ghost use Rattle.rules.specs.Table.{insert, effect, SaysChanged};
 ghost use Rattle.rules.specs.Client.{did_change, idle};
 ghost use Rattle.rules.specs.Memory.{current, mem, records_in, with_records, client_in, with_client};
-ghost use Rattle.rules.specs.Outcome.{result, result_with};
+ghost use Rattle.rules.specs.Outcome.{result_of, result_with};
 ghost use Rattle.rules.specs.Steps.{end_of};
 ghost use Rattle.nodes.specs.NodeContracts;
 ghost use Rattle.clients.specs.ClientContracts;
@@ -24,7 +26,7 @@ mod retire; // retire.rt: marks taken off some of a write's nodes
 pub mod would; // would.rt: which count of a tally the step that is due, or an abandoning, would raise
 
 // What a write's table step says of the table.
-#[derive(Drop)]
+#[derive(Clone, Copy)]
 struct Report {
     changed: bool,
     full: bool,
@@ -36,7 +38,7 @@ fn announce_step(nodes: &mut [u32], clients: &mut [u32], d: usize, h: Held) -> O
     requires writer { Writer h clients.old d }
     requires fit { NodeContracts.Fit nodes.old }
     requires d_bound { step_at clients.old d < count_at clients.old d }
-    ensures* { λ r. ⌜ ((t a y : List ℕ) → result_with r (mem t nodes.new a clients.new) y ≡ step_of (mem t nodes.old a clients.old) y d) ⌝ }
+    ensures { ((t a y : List ℕ) → result_with result (mem t nodes.new a clients.new) y ≡ step_of (mem t nodes.old a clients.old) y d) }
 {
     let values = h.values;
     let label = columns::labels::write_label(h.columns, h.marks, values, h.steps);
@@ -51,7 +53,7 @@ fn announce_step(nodes: &mut [u32], clients: &mut [u32], d: usize, h: Held) -> O
 // Puts a record of k numbers into the table: the first k values.
 fn insert_record(table: &mut [u32], k: usize, values: [u32; Hall::COLUMN_SLOTS]) -> Report
     requires { TableContracts.Fit k table.old }
-    ensures* { λ r. ⌜ (r ≡ reported (insert (take k values)) (records_in k table.old)) × (table.new ≡ with_records k table.old (effect (insert (take k values)) (records_in k table.old))) ⌝ }
+    ensures { (result ≡ reported (insert (take k values)) (records_in k table.old)) × (table.new ≡ with_records k table.old (effect (insert (take k values)) (records_in k table.old))) }
 {
     let said = table::insert(table, &values[..k]);
     match said {
@@ -73,7 +75,7 @@ fn insert_record(table: &mut [u32], k: usize, values: [u32; Hall::COLUMN_SLOTS])
 // Makes the change of the write of which h was read.
 fn change(table: &mut [u32], h: Held) -> Report
     requires { TableContracts.Fit h.columns table.old }
-    ensures* { λ r. ⌜ (r ≡ reported (held_change h) (records_in h.columns table.old)) × (table.new ≡ with_records h.columns table.old (effect (held_change h) (records_in h.columns table.old))) ⌝ }
+    ensures { (result ≡ reported (held_change h) (records_in h.columns table.old)) × (table.new ≡ with_records h.columns table.old (effect (held_change h) (records_in h.columns table.old))) }
 {
     let k = h.columns;
     let values = h.values;
@@ -94,8 +96,8 @@ fn write_table_step(table: &mut [u32], clients: &mut [u32], d: usize, h: Held) -
     requires writer { Writer h clients.old d }
     requires fit { TableContracts.Fit h.columns table.old }
     requires d_value { step_at clients.old d ≡ count_at clients.old d }
-    ensures* fact { λ r. ⌜ ((n a y : List ℕ) → result_with r (mem table.new n a clients.new) y ≡ step_of (mem table.old n a clients.old) y d) ⌝ }
-    ensures* fact_2 { λ r. ⌜ SaysChanged (did_change (client_in current clients.new d)) (records_in h.columns table.old) (records_in h.columns table.new) ⌝ }
+    ensures fact { ((n a y : List ℕ) → result_with result (mem table.new n a clients.new) y ≡ step_of (mem table.old n a clients.old) y d) }
+    ensures fact_2 { SaysChanged (did_change (client_in current clients.new d)) (records_in h.columns table.old) (records_in h.columns table.new) }
 {
     let said = change(table, h);
     clients::set_wrote(clients, d, said.changed, said.full);
@@ -106,7 +108,7 @@ fn write_table_step(table: &mut [u32], clients: &mut [u32], d: usize, h: Held) -
 // Ends a write: the client is idle, and what it kept of the table step is the outcome.
 fn end(clients: &mut [u32], d: usize) -> Outcome
     requires { ClientContracts.Fit clients.old d }
-    ensures* { λ r. ⌜ (r ≡ end_of (client_in current clients.old d)) × (clients.new ≡ with_client current clients.old d idle) ⌝ }
+    ensures { (result ≡ end_of (client_in current clients.old d)) × (clients.new ≡ with_client current clients.old d idle) }
 {
     let full = clients::found_full(clients, d);
     let changed = clients::did_change(clients, d);
@@ -120,7 +122,7 @@ fn end(clients: &mut [u32], d: usize) -> Outcome
 // What a raise leaves of the client: the last one ends the write.
 fn after_raise(clients: &mut [u32], d: usize, last: bool) -> Outcome
     requires { ClientContracts.Fit clients.old d × (step_at clients.old d < max_word) }
-    ensures* { λ r. ⌜ (r ≡ raise_end last (client_in current clients.old d)) × (clients.new ≡ with_client current clients.old d (raise_left last (client_in current clients.old d))) ⌝ }
+    ensures { (result ≡ raise_end last (client_in current clients.old d)) × (clients.new ≡ with_client current clients.old d (raise_left last (client_in current clients.old d))) }
 {
     if last {
         return end(clients, d);
@@ -135,7 +137,7 @@ fn raise_step(nodes: &mut [u32], clients: &mut [u32], d: usize, h: Held) -> Outc
     requires writer { Writer h clients.old d }
     requires fit { NodeContracts.Fit nodes.old }
     requires d_bound { count_at clients.old d < step_at clients.old d }
-    ensures* { λ r. ⌜ ((t a y : List ℕ) → result_with r (mem t nodes.new a clients.new) y ≡ step_of (mem t nodes.old a clients.old) y d) ⌝ }
+    ensures { ((t a y : List ℕ) → result_with result (mem t nodes.new a clients.new) y ≡ step_of (mem t nodes.old a clients.old) y d) }
 {
     let lift = clients::did_change(clients, d);
     let count = columns::keys::power(h.columns) as usize;
@@ -158,7 +160,7 @@ pub fn write_step(
     requires writer { Writer h clients.old d }
     requires fit { NodeContracts.Fit nodes.old }
     requires fit_2 { TableContracts.Fit h.columns table.old }
-    ensures* { λ r. ⌜ ((a y : List ℕ) → result_with r (mem table.new nodes.new a clients.new) y ≡ step_of (mem table.old nodes.old a clients.old) y d) ⌝ }
+    ensures { ((a y : List ℕ) → result_with result (mem table.new nodes.new a clients.new) y ≡ step_of (mem table.old nodes.old a clients.old) y d) }
 {
     let count = columns::keys::power(h.columns) as usize;
     if h.steps < count {
@@ -176,7 +178,7 @@ fn release_all(nodes: &mut [u32], clients: &mut [u32], d: usize, h: Held) -> Out
     requires writer { Writer h clients.old d }
     requires fit { NodeContracts.Fit nodes.old }
     requires d_bound { step_at clients.old d ≤ count_at clients.old d }
-    ensures* { λ r. ⌜ ((t a : List ℕ) → result r (mem t nodes.new a clients.new) ≡ back_of (mem t nodes.old a clients.old) d) ⌝ }
+    ensures { ((t a : List ℕ) → result_of result (mem t nodes.new a clients.new) ≡ back_of (mem t nodes.old a clients.old) d) }
 {
     if !retire::retire(nodes, h, 0, h.steps, false) {
         return Outcome::Refused(Hall::REFUSED_UNSOUND);
@@ -192,7 +194,7 @@ fn raise_all(nodes: &mut [u32], clients: &mut [u32], d: usize, h: Held) -> Outco
     requires writer { Writer h clients.old d }
     requires fit { NodeContracts.Fit nodes.old }
     requires d_bound { count_at clients.old d < step_at clients.old d }
-    ensures* { λ r. ⌜ ((t a : List ℕ) → result r (mem t nodes.new a clients.new) ≡ raised_of (mem t nodes.old a clients.old) d) ⌝ }
+    ensures { ((t a : List ℕ) → result_of result (mem t nodes.new a clients.new) ≡ raised_of (mem t nodes.old a clients.old) d) }
 {
     let lift = clients::did_change(clients, d);
     let count = columns::keys::power(h.columns) as usize;
@@ -207,7 +209,7 @@ fn raise_all(nodes: &mut [u32], clients: &mut [u32], d: usize, h: Held) -> Outco
 pub fn abandon_write(nodes: &mut [u32], clients: &mut [u32], d: usize, h: Held) -> Outcome
     requires writer { Writer h clients.old d }
     requires fit { NodeContracts.Fit nodes.old }
-    ensures* { λ r. ⌜ ((t a : List ℕ) → result r (mem t nodes.new a clients.new) ≡ abandon_of (mem t nodes.old a clients.old) d) ⌝ }
+    ensures { ((t a : List ℕ) → result_of result (mem t nodes.new a clients.new) ≡ abandon_of (mem t nodes.old a clients.old) d) }
 {
     let count = columns::keys::power(h.columns) as usize;
     if h.steps <= count {

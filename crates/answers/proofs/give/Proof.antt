@@ -4,31 +4,31 @@ use borrow.Author.Rules.{rules}
 use Rattle.answers.proofs.give.Statement.{statement}
 use Rattle.answers.proofs.give.Tie as tie
 
-mul_at : tie.Need-overflow-mul-at
+mul_at : tie.Need-overflow_mul-at
 mul_at c = search rules
 
-add_at : tie.Need-overflow-add-at
+add_at : tie.Need-overflow_add-at
 add_at c = search rules
 
-add_end : tie.Need-overflow-add-end
+add_end : tie.Need-overflow_add-end
 add_end c = search rules
 
-mul_give_list : tie.Need-overflow-mul-give-list
+mul_give_list : tie.Need-offset_bounds-answers-at
 mul_give_list c = search rules
 
-sub_give_list : tie.Need-overflow-sub-give-list
+sub_give_list : tie.Need-slice_bounds-give_list-count
 sub_give_list c = search rules
 
-part_give_list_start : tie.Need-slice-bounds-give-list-start
+part_give_list_start : tie.Need-slice_bounds-give_list-start
 part_give_list_start c = search rules
 
-part_give_list_end : tie.Need-slice-bounds-give-list-end
+part_give_list_end : tie.Need-slice_bounds-give_list-end
 part_give_list_end c = search rules
 
-give_list_requires : tie.Need-give-list-requires
+give_list_requires : tie.Need-give_list-requires
 give_list_requires c κs = (search rules, (short_part _ _ c.before.before.before.before.requires.1.1.0 (search rules), (search rules, search rules)))
 
-same_length : tie.Need-same-length
+same_length : tie.Need-shape_of-tray
 same_length c = search rules
 
 returns : tie.Need-returns

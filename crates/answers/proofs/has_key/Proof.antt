@@ -4,22 +4,22 @@ use borrow.Author.Rules.{rules}
 use Rattle.answers.proofs.has_key.Statement.{statement}
 use Rattle.answers.proofs.has_key.Tie as tie
 
-sub_same : tie.Need-overflow-sub-same
+sub_same : tie.Need-slice_bounds-same-count
 sub_same c = search rules
 
-part_same_start : tie.Need-slice-bounds-same-start
+part_same_start : tie.Need-slice_bounds-same-start
 part_same_start c = search rules
 
-part_same_end : tie.Need-slice-bounds-same-end
+part_same_end : tie.Need-slice_bounds-same-end
 part_same_end c = search rules
 
-sub_same_2 : tie.Need-overflow-sub-same-2
+sub_same_2 : tie.Need-slice_bounds-same-count-2
 sub_same_2 c = search rules
 
-part_same_start_2 : tie.Need-slice-bounds-same-start-2
+part_same_start_2 : tie.Need-slice_bounds-same-start-2
 part_same_start_2 c = search rules
 
-part_same_end_2 : tie.Need-slice-bounds-same-end-2
+part_same_end_2 : tie.Need-slice_bounds-same-end-2
 part_same_end_2 c = search rules
 
 same_requires : tie.Need-same-requires

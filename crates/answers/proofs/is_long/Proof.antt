@@ -5,23 +5,23 @@ use borrow.Author.Rules.{rules}
 use Rattle.answers.proofs.is_long.Statement.{statement}
 use Rattle.answers.proofs.is_long.Tie as tie
 
-shared_slice_read_n : tie.Need-shared-slice-read-n
+shared_slice_read_n : tie.Need-bounds-e-7
 shared_slice_read_n c = search rules
 
-returns : tie.Need-returns
-returns c = sym (long_not _ c.if1.true)
+returns : tie.Need-returns-then-n-le-LIST
+returns c = sym (long_not _ c.if-n-le-LIST.true)
 
-shared_slice_read_is_count : tie.Need-shared-slice-read-is-count
+shared_slice_read_is_count : tie.Need-bounds-e-0
 shared_slice_read_is_count c = search rules
 
-is_count_requires : tie.Need-is-count-requires
+is_count_requires : tie.Need-is_count-requires
 is_count_requires c κs = search rules
 
-returns_2 : tie.Need-returns-2
-returns_2 c = sym (long_count _ (sym (counts_first _ _ c.before.is_count.ensures) ∙ c.if2.true))
+returns_2 : tie.Need-returns-then-is_count
+returns_2 c = sym (long_count _ (sym (counts_first _ _ c.before.is_count.ensures) ∙ c.if-is_count.true))
 
-returns_3 : tie.Need-returns-3
-returns_3 c = sym (long_list _ (sym (counts_first _ _ c.before.is_count.ensures) ∙ c.if2.false) c.before.before.before.if1.false)
+returns_3 : tie.Need-returns
+returns_3 c = sym (long_list _ (sym (counts_first _ _ c.before.is_count.ensures) ∙ c.if-is_count.false) c.before.before.before.if-n-le-LIST.false)
 
 pub is_long_spec : {M : Type 1} → statement M
 is_long_spec =

@@ -10,53 +10,53 @@ use borrow.Author.Rules.{rules}
 use Rattle.answers.proofs.is_recent.Statement.{statement}
 use Rattle.answers.proofs.is_recent.Tie as tie
 
-abbrev invariant_loop : tie.invariant_loop
+abbrev invariant_loop : tie.invariant-loop-j
 invariant_loop e x n j₀ j = (all_below j (at_least x e) ≡ true) × (j ≤ n)
 
-abbrev decreases_loop : tie.decreases_loop
+abbrev decreases_loop : tie.decreases-loop-j
 decreases_loop e x n j₀ j = n - j
 
-loop_holds : tie.Need-loop-init invariant_loop decreases_loop
+loop_holds : tie.Need-loop-j-init invariant_loop decreases_loop
 loop_holds c = (below_none _, search rules)
 
-add_if1 : tie.Need-overflow-add-if1 invariant_loop decreases_loop
+add_if1 : tie.Need-overflow_add-j invariant_loop decreases_loop
 add_if1 c = search rules
 
-mul_if1 : tie.Need-overflow-mul-if1 invariant_loop decreases_loop
+mul_if1 : tie.Need-offset_bounds-e-j invariant_loop decreases_loop
 mul_if1 c = search rules
 
-shared_slice_read_if1 : tie.Need-shared-slice-read-if1 invariant_loop decreases_loop
+shared_slice_read_if1 : tie.Need-bounds-e-j invariant_loop decreases_loop
 shared_slice_read_if1 c = search rules
 
-add_if1_2 : tie.Need-overflow-add-if1-2 invariant_loop decreases_loop
+add_if1_2 : tie.Need-overflow_add-j-in-loop-j invariant_loop decreases_loop
 add_if1_2 c = search rules
 
-mul_if1_2 : tie.Need-overflow-mul-if1-2 invariant_loop decreases_loop
+mul_if1_2 : tie.Need-offset_bounds-x-j invariant_loop decreases_loop
 mul_if1_2 c = search rules
 
-shared_slice_read_if1_2 : tie.Need-shared-slice-read-if1-2 invariant_loop decreases_loop
+shared_slice_read_if1_2 : tie.Need-bounds-x-j invariant_loop decreases_loop
 shared_slice_read_if1_2 c = search rules
 
-returns : tie.Need-returns invariant_loop decreases_loop
+returns : tie.Need-returns-then-e-j invariant_loop decreases_loop
 returns c =
     let l = c.before.before.before.before in
-    sym (below_not _ _ l.loop.j (search rules) (older _ _ _ c.if1.true))
+    sym (below_not _ _ l.loop-j.j (search rules) (older _ _ _ c.if-e-j.true))
 
-add_j : tie.Need-overflow-add-j invariant_loop decreases_loop
+add_j : tie.Need-overflow_add-j-in-loop-j-2 invariant_loop decreases_loop
 add_j c = search rules
 
-loop_less : tie.Need-loop-smaller invariant_loop decreases_loop
+loop_less : tie.Need-loop-j-smaller invariant_loop decreases_loop
 loop_less c = search rules
 
-loop_again : tie.Need-loop-preserved invariant_loop decreases_loop
+loop_again : tie.Need-loop-j-preserved invariant_loop decreases_loop
 loop_again c =
     let l = c.before.before.before.before in
-    (below_next _ _ l.loop.invariant.0 (newer _ _ _ c.if1.false), search rules)
+    (below_next _ _ l.loop-j.invariant.0 (newer _ _ _ c.if-e-j.false), search rules)
 
-returns_2 : tie.Need-returns-2 invariant_loop decreases_loop
+returns_2 : tie.Need-returns invariant_loop decreases_loop
 returns_2 c =
     let l = c.before in
-    below_end _ _ _ l.loop.invariant.0 (search rules) (search rules)
+    below_end _ _ _ l.loop-j.invariant.0 (search rules) (search rules)
 
 pub is_recent_spec : {M : Type 1} → statement M
 is_recent_spec =

@@ -4,34 +4,34 @@ use borrow.Author.Rules.{rules}
 use Rattle.answers.proofs.replace.Statement.{statement}
 use Rattle.answers.proofs.replace.Tie as tie
 
-slice_read_end : tie.Need-slice-read-end
+slice_read_end : tie.Need-bounds-answers-0
 slice_read_end c = search rules
 
-cast_end : tie.Need-overflow-cast-end
+cast_end : tie.Need-overflow_cast-end
 cast_end c = search rules
 
-mul_end : tie.Need-overflow-mul-end
+mul_end : tie.Need-overflow_mul-end
 mul_end c = search rules
 
-add_end : tie.Need-overflow-add-end
+add_end : tie.Need-overflow_add-end
 add_end c = search rules
 
-mul_at : tie.Need-overflow-mul-at
+mul_at : tie.Need-overflow_mul-at
 mul_at c = search rules
 
-add_at : tie.Need-overflow-add-at
+add_at : tie.Need-overflow_add-at
 add_at c = search rules
 
 remove_requires : tie.Need-remove-requires
 remove_requires c κs = search rules
 
-sub_last : tie.Need-overflow-sub-last
+sub_last : tie.Need-overflow_sub-last
 sub_last c = search rules
 
 write_requires : tie.Need-write-requires
 write_requires c κs = search rules
 
-same_length : tie.Need-same-length
+same_length : tie.Need-shape_of-answers
 same_length c = search rules
 
 returns : tie.Need-returns

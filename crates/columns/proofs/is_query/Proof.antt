@@ -4,16 +4,16 @@ use Rattle.columns.proofs.ColumnLoops.{query_short, query_marked}
 use Rattle.columns.proofs.is_query.Statement.{statement}
 use Rattle.columns.proofs.is_query.Tie as tie
 
-mul_if1 : tie.Need-overflow-mul-if1
+mul_if1 : tie.Need-overflow_mul-k
 mul_if1 c = search rules
 
-returns : tie.Need-returns
-returns c = query_short _ _ c.if1.true
+returns : tie.Need-returns-then-asked-k
+returns c = query_short _ _ c.if-asked-k.true
 
-well_marked_requires : tie.Need-well-marked-requires
+well_marked_requires : tie.Need-well_marked-requires
 well_marked_requires c κs = search rules
 
-returns_2 : tie.Need-returns-2
+returns_2 : tie.Need-returns
 returns_2 c = query_marked _ _ _ (search rules) c.well_marked.ensures
 
 pub is_query_spec : {M : Type 1} → statement M

@@ -5,53 +5,53 @@ use Rattle.columns.proofs.ColumnLoops.{marked_odd, marked_no, marked_on, marked_
 use Rattle.columns.proofs.well_marked.Statement.{statement}
 use Rattle.columns.proofs.well_marked.Tie as tie
 
-abbrev invariant_loop : tie.invariant_loop
+abbrev invariant_loop : tie.invariant-loop-i
 invariant_loop asked i₀ i = (i ≤ length asked) × (well_marked asked ≡ well_marked (drop i asked))
 
-abbrev decreases_loop : tie.decreases_loop
+abbrev decreases_loop : tie.decreases-loop-i
 decreases_loop asked i₀ i = length asked - i
 
-loop_holds : tie.Need-loop-init invariant_loop decreases_loop
+loop_holds : tie.Need-loop-i-init invariant_loop decreases_loop
 loop_holds c = (search rules, refl)
 
-add_if1 : tie.Need-overflow-add-if1 invariant_loop decreases_loop
+add_if1 : tie.Need-overflow_add-i invariant_loop decreases_loop
 add_if1 c = search rules
 
-returns : tie.Need-returns invariant_loop decreases_loop
-returns c = let l = c.before.before in sym (l.loop.invariant.1 ∙ marked_odd _ l.loop.i c.if1.true)
+returns : tie.Need-returns-then-i-asked invariant_loop decreases_loop
+returns c = let l = c.before.before in sym (l.loop-i.invariant.1 ∙ marked_odd _ l.loop-i.i c.if-i-asked.true)
 
-mul_mark : tie.Need-overflow-mul-mark invariant_loop decreases_loop
+mul_mark : tie.Need-offset_bounds-asked-i invariant_loop decreases_loop
 mul_mark c = search rules
 
-shared_slice_read_mark : tie.Need-shared-slice-read-mark invariant_loop decreases_loop
+shared_slice_read_mark : tie.Need-bounds-asked-i invariant_loop decreases_loop
 shared_slice_read_mark c = search rules
 
-add_v : tie.Need-overflow-add-v invariant_loop decreases_loop
+add_v : tie.Need-overflow_add-v invariant_loop decreases_loop
 add_v c = search rules
 
-mul_v : tie.Need-overflow-mul-v invariant_loop decreases_loop
+mul_v : tie.Need-offset_bounds-asked-i-in-loop-i invariant_loop decreases_loop
 mul_v c = search rules
 
-shared_slice_read_v : tie.Need-shared-slice-read-v invariant_loop decreases_loop
+shared_slice_read_v : tie.Need-bounds-asked-i-in-loop-i invariant_loop decreases_loop
 shared_slice_read_v c = search rules
 
-is_column_requires : tie.Need-is-column-requires invariant_loop decreases_loop
+is_column_requires : tie.Need-is_column-requires invariant_loop decreases_loop
 is_column_requires c κs = search rules
 
-returns_2 : tie.Need-returns-2 invariant_loop decreases_loop
-returns_2 c = let l = c.before.before.before.before.before.before in sym (l.loop.invariant.1 ∙ marked_no _ l.loop.i (search rules) c.before.before.before.before.if1.false _ c.before.is_column.ensures c.if2.true)
+returns_2 : tie.Need-returns-then-not-is_column invariant_loop decreases_loop
+returns_2 c = let l = c.before.before.before.before.before.before in sym (l.loop-i.invariant.1 ∙ marked_no _ l.loop-i.i (search rules) c.before.before.before.before.if-i-asked.false _ c.before.is_column.ensures c.if-not-is_column.true)
 
-add_i : tie.Need-overflow-add-i invariant_loop decreases_loop
+add_i : tie.Need-overflow_add-i-in-loop-i invariant_loop decreases_loop
 add_i c = search rules
 
-loop_less : tie.Need-loop-smaller invariant_loop decreases_loop
+loop_less : tie.Need-loop-i-smaller invariant_loop decreases_loop
 loop_less c = search rules
 
-loop_again : tie.Need-loop-preserved invariant_loop decreases_loop
-loop_again c = let l = c.before.before.before.before.before.before in (search rules, l.loop.invariant.1 ∙ marked_on _ l.loop.i (search rules) c.before.before.before.before.if1.false _ c.before.is_column.ensures c.if2.false)
+loop_again : tie.Need-loop-i-preserved invariant_loop decreases_loop
+loop_again c = let l = c.before.before.before.before.before.before in (search rules, l.loop-i.invariant.1 ∙ marked_on _ l.loop-i.i (search rules) c.before.before.before.before.if-i-asked.false _ c.before.is_column.ensures c.if-not-is_column.false)
 
-returns_3 : tie.Need-returns-3 invariant_loop decreases_loop
-returns_3 c = let l = c.before in sym (l.loop.invariant.1 ∙ marked_end c.before.before.before.args.asked.now l.loop.i (search rules))
+returns_3 : tie.Need-returns invariant_loop decreases_loop
+returns_3 c = let l = c.before in sym (l.loop-i.invariant.1 ∙ marked_end c.before.before.before.args.asked.now l.loop-i.i (search rules))
 
 pub well_marked_spec : {M : Type 1} → statement M
 well_marked_spec =

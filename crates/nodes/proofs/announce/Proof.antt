@@ -4,61 +4,61 @@ use Rattle.nodes.proofs.NodePresent.{There, stands, announce_stuck, announce_ful
 use Rattle.nodes.proofs.announce.Statement.{statement}
 use Rattle.nodes.proofs.announce.Tie as tie
 
-ensure_requires : tie.Need-ensure-requires
+ensure_requires : tie.Need-ensure-spot-requires
 ensure_requires c κs = search rules
 
-enum_known_spot : tie.Need-enum-known-spot
+enum_known_spot : tie.Need-enum_known-spot
 enum_known_spot c = search rules
 
-enum_told : tie.Need-enum-told
+enum_told : tie.Need-enum_told-1
 enum_told c = search rules
 
-same_length : tie.Need-same-length
+same_length : tie.Need-shape_of-nodes-in_default
 same_length c = search rules
 
-returns : tie.Need-returns
-returns c = announce_stuck _ _ _ _ c.before.before.before.before.ensure.ensures c.enum_told.given.1
+returns : tie.Need-returns-in_default
+returns c = announce_stuck _ _ _ _ c.before.before.before.before.ensure-spot.ensures c.enum_told-1.given.1
 
 -- the label's node stands at the place given
-there : (c : tie.AfterKnownTold) → There c.before.before.before.before.before.before.before.before.before.args.label.now c.before.before.before.before.before.before.before.before.before.args.nodes.now c.before.spot.given.0.0 c.before.before.before.before.before.ensure.new.0
+there : (c : tie.In-At) → There c.before.before.before.before.before.before.before.before.before.args.label.now c.before.before.before.before.before.before.before.before.before.args.nodes.now c.before.spot-1.given.0.0 c.before.before.before.before.before.ensure-spot.new.0
 there c =
     let start = c.before.before.before.before.before.before.before.before.before in
-    stands _ _ _ _ _ c.before.before.before.before.before.ensure.ensures c.before.spot.given.1 start.requires.0 start.requires.1
+    stands _ _ _ _ _ c.before.before.before.before.before.ensure-spot.ensures c.before.spot-1.given.1 start.requires.0 start.requires.1
 
-mul_at : tie.Need-overflow-mul-at
+mul_at : tie.Need-overflow_mul-at
 mul_at c = let r = there c in search rules
 
-add_at : tie.Need-overflow-add-at
+add_at : tie.Need-overflow_add-at
 add_at c = let r = there c in search rules
 
-add_at_2 : tie.Need-overflow-add-at-2
+add_at_2 : tie.Need-overflow_add-at-2
 add_at_2 c = let r = there c in search rules
 
-mul_pending : tie.Need-overflow-mul-pending
+mul_pending : tie.Need-offset_bounds-nodes-at
 mul_pending c = let r = there c in search rules
 
-slice_read_pending : tie.Need-slice-read-pending
+slice_read_pending : tie.Need-bounds-nodes-at
 slice_read_pending c = let r = there c.before in search rules
 
-same_length_2 : tie.Need-same-length-2
+same_length_2 : tie.Need-shape_of-nodes-then-pending-ge-PENDING
 same_length_2 c = search rules
 
-returns_2 : tie.Need-returns-2
+returns_2 : tie.Need-returns-then-pending-ge-PENDING
 returns_2 c = announce_full _ _ _ _ (there c.before.before) c.before.before.before.before.before.before.before.before.before.before.before.requires.0 (search rules)
 
-add_more : tie.Need-overflow-add-more
+add_more : tie.Need-overflow_add-more
 add_more c = search rules
 
-mul_nodes : tie.Need-overflow-mul-nodes
+mul_nodes : tie.Need-offset_bounds-nodes-at-2
 mul_nodes c = let r = there c.before.before in search rules
 
-slice_write_nodes : tie.Need-slice-write-nodes
+slice_write_nodes : tie.Need-bounds-nodes-at-2
 slice_write_nodes c = let r = there c.before.before in search rules
 
-same_length_3 : tie.Need-same-length-3
+same_length_3 : tie.Need-shape_of-nodes
 same_length_3 c = search rules
 
-returns_3 : tie.Need-returns-3
+returns_3 : tie.Need-returns
 returns_3 c = announce_more _ _ _ _ (there c.before.before) c.before.before.before.before.before.before.before.before.before.before.before.requires.0 (search rules)
 
 pub announce_spec : {M : Type 1} → statement M

@@ -6,37 +6,37 @@ use Rattle.nodes.proofs.NodeStores.{store_none}
 use Rattle.nodes.proofs.empty.Statement.{statement}
 use Rattle.nodes.proofs.empty.Tie as tie
 
-slice_read_n : tie.Need-slice-read-n
+slice_read_n : tie.Need-bounds-nodes-1
 slice_read_n c = search rules
 
-cast_n : tie.Need-overflow-cast-n
+cast_n : tie.Need-overflow_cast-n
 cast_n c = search rules
 
-mul_n : tie.Need-overflow-mul-n
+mul_n : tie.Need-overflow_mul-n
 mul_n c = search rules
 
-add_e : tie.Need-overflow-add-e
+add_e : tie.Need-overflow_add-e
 add_e c = search rules
 
-sub_clear : tie.Need-overflow-sub-clear
+sub_clear : tie.Need-slice_bounds-clear-count
 sub_clear c = search rules
 
-part_clear_start : tie.Need-slice-bounds-clear-start
+part_clear_start : tie.Need-slice_bounds-clear-start
 part_clear_start c = search rules
 
-part_clear_end : tie.Need-slice-bounds-clear-end
+part_clear_end : tie.Need-slice_bounds-clear-end
 part_clear_end c = search rules
 
 clear_requires : tie.Need-clear-requires
 clear_requires c κs = search rules
 
-slice_write_nodes : tie.Need-slice-write-nodes
+slice_write_nodes : tie.Need-bounds-nodes-1-2
 slice_write_nodes c = search rules
 
-slice_write_nodes_2 : tie.Need-slice-write-nodes-2
+slice_write_nodes_2 : tie.Need-bounds-nodes-0
 slice_write_nodes_2 c = simp length-set (omega arith)
 
-same_length : tie.Need-same-length
+same_length : tie.Need-shape_of-nodes
 same_length c = search rules
 
 returns : tie.Need-returns

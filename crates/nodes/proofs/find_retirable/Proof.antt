@@ -6,63 +6,63 @@ use Rattle.nodes.proofs.NodePresent.{spot_missing, spot_idle, spot_plain, spot_l
 use Rattle.nodes.proofs.find_retirable.Statement.{statement}
 use Rattle.nodes.proofs.find_retirable.Tie as tie
 
-find_requires : tie.Need-find-requires
+find_requires : tie.Need-find-i-requires
 find_requires c κs = search rules
 
-shared_slice_read_if1 : tie.Need-shared-slice-read-if1
+shared_slice_read_if1 : tie.Need-bounds-nodes-1
 shared_slice_read_if1 c = search rules
 
-cast_if1 : tie.Need-overflow-cast-if1
+cast_if1 : tie.Need-overflow_cast-nodes
 cast_if1 c = search rules
 
-returns : tie.Need-returns
-returns c = spot_missing _ _ _ c.before.before.find.ensures _ c.if1.true
+returns : tie.Need-returns-then-nodes-i
+returns c = spot_missing _ _ _ c.before.before.find-i.ensures _ c.if-nodes-i.true
 
-is_free_requires : tie.Need-is-free-requires
+is_free_requires : tie.Need-is_free-requires
 is_free_requires c κs = search rules
 
-returns_2 : tie.Need-returns-2
+returns_2 : tie.Need-returns-then-is_free
 returns_2 c =
     let counted = c.before.before in
-    spot_idle _ _ _ counted.before.before.find.ensures counted.if1.false _ (sym c.before.is_free.ensures ∙ c.if2.true)
+    spot_idle _ _ _ counted.before.before.find-i.ensures counted.if-nodes-i.false _ (sym c.before.is_free.ensures ∙ c.if-is_free.true)
 
-returns_3 : tie.Need-returns-3
+returns_3 : tie.Need-returns-then-not-lift
 returns_3 c =
     let marked = c.before in
     let counted = marked.before.before in
-    let pending = sym marked.before.is_free.ensures ∙ marked.if2.false in
-    spot_plain _ _ _ counted.before.before.find.ensures counted.if1.false _ pending (not-true _ c.if3.true)
+    let pending = sym marked.before.is_free.ensures ∙ marked.if-is_free.false in
+    spot_plain _ _ _ counted.before.before.find-i.ensures counted.if-nodes-i.false _ pending (not-true _ c.if-not-lift.true)
 
-mul_at : tie.Need-overflow-mul-at
+mul_at : tie.Need-overflow_mul-at
 mul_at c = search rules
 
-add_at : tie.Need-overflow-add-at
+add_at : tie.Need-overflow_add-at
 add_at c = search rules
 
-add_if4 : tie.Need-overflow-add-if4
+add_if4 : tie.Need-overflow_add-at-2
 add_if4 c = search rules
 
-mul_if4 : tie.Need-overflow-mul-if4
+mul_if4 : tie.Need-offset_bounds-nodes-at
 mul_if4 c = search rules
 
-shared_slice_read_if4 : tie.Need-shared-slice-read-if4
+shared_slice_read_if4 : tie.Need-bounds-nodes-at
 shared_slice_read_if4 c = search rules
 
-returns_4 : tie.Need-returns-4
+returns_4 : tie.Need-returns-then-nodes-at-ge-LARGEST_REVISION
 returns_4 c =
     let marked = c.before.before.before in
     let counted = marked.before.before in
-    let pending = sym marked.before.is_free.ensures ∙ marked.if2.false in
-    let lift = not-false _ c.before.before.if3.false in
-    spot_largest _ _ _ counted.before.before.find.ensures counted.if1.false _ pending lift c.if4.true
+    let pending = sym marked.before.is_free.ensures ∙ marked.if-is_free.false in
+    let lift = not-false _ c.before.before.if-not-lift.false in
+    spot_largest _ _ _ counted.before.before.find-i.ensures counted.if-nodes-i.false _ pending lift c.if-nodes-at-ge-LARGEST_REVISION.true
 
-returns_5 : tie.Need-returns-5
+returns_5 : tie.Need-returns
 returns_5 c =
     let marked = c.before.before.before in
     let counted = marked.before.before in
-    let pending = sym marked.before.is_free.ensures ∙ marked.if2.false in
-    let lift = not-false _ c.before.before.if3.false in
-    spot_lifted _ _ _ counted.before.before.find.ensures counted.if1.false _ pending lift c.if4.false
+    let pending = sym marked.before.is_free.ensures ∙ marked.if-is_free.false in
+    let lift = not-false _ c.before.before.if-not-lift.false in
+    spot_lifted _ _ _ counted.before.before.find-i.ensures counted.if-nodes-i.false _ pending lift c.if-nodes-at-ge-LARGEST_REVISION.false
 
 pub find_retirable_spec : {M : Type 1} → statement M
 find_retirable_spec =

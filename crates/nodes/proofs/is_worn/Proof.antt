@@ -8,58 +8,58 @@ use Rattle.nodes.proofs.is_worn.Statement.{statement}
 use Rattle.nodes.proofs.is_worn.Tie as tie
 use Rattle.rules.specs.Memory.{current}
 
-abbrev invariant_loop : tie.invariant_loop
+abbrev invariant_loop : tie.invariant-loop-i
 invariant_loop nodes n i₀ i = (i ≤ n) × ((sh : Shape) → Past (is_high current sh) nodes i)
 
-abbrev decreases_loop : tie.decreases_loop
+abbrev decreases_loop : tie.decreases-loop-i
 decreases_loop nodes n i₀ i = n - i
 
-shared_slice_read_if1 : tie.Need-shared-slice-read-if1 invariant_loop decreases_loop
+shared_slice_read_if1 : tie.Need-bounds-nodes-0 invariant_loop decreases_loop
 shared_slice_read_if1 c = search rules
 
-returns : tie.Need-returns invariant_loop decreases_loop
-returns c = λ sh. worn_floor sh _ c.if1.true
+returns : tie.Need-returns-then-nodes-gt-WORN_ABOVE invariant_loop decreases_loop
+returns c = λ sh. worn_floor sh _ c.if-nodes-gt-WORN_ABOVE.true
 
-shared_slice_read_n : tie.Need-shared-slice-read-n invariant_loop decreases_loop
+shared_slice_read_n : tie.Need-bounds-nodes-1 invariant_loop decreases_loop
 shared_slice_read_n c = search rules
 
-cast_n : tie.Need-overflow-cast-n invariant_loop decreases_loop
+cast_n : tie.Need-overflow_cast-n invariant_loop decreases_loop
 cast_n c = search rules
 
-loop_holds : tie.Need-loop-init invariant_loop decreases_loop
+loop_holds : tie.Need-loop-i-init invariant_loop decreases_loop
 loop_holds c = (search rules, λ sh. scan_start _ _)
 
-mul_if2 : tie.Need-overflow-mul-if2 invariant_loop decreases_loop
+mul_if2 : tie.Need-overflow_mul-i invariant_loop decreases_loop
 mul_if2 c = search rules
 
-add_if2 : tie.Need-overflow-add-if2 invariant_loop decreases_loop
+add_if2 : tie.Need-overflow_add-i invariant_loop decreases_loop
 add_if2 c = search rules
 
-add_if2_2 : tie.Need-overflow-add-if2-2 invariant_loop decreases_loop
+add_if2_2 : tie.Need-overflow_add-i-in-loop-i invariant_loop decreases_loop
 add_if2_2 c = search rules
 
-mul_if2_2 : tie.Need-overflow-mul-if2-2 invariant_loop decreases_loop
+mul_if2_2 : tie.Need-offset_bounds-nodes-i invariant_loop decreases_loop
 mul_if2_2 c = search rules
 
-shared_slice_read_if2 : tie.Need-shared-slice-read-if2 invariant_loop decreases_loop
+shared_slice_read_if2 : tie.Need-bounds-nodes-i invariant_loop decreases_loop
 shared_slice_read_if2 c = search rules
 
-returns_2 : tie.Need-returns-2 invariant_loop decreases_loop
-returns_2 c = let l = c.before.before.before in λ sh. worn_node sh _ l.loop.i (l.loop.invariant.1 sh) (search rules) c.if2.true
+returns_2 : tie.Need-returns-then-nodes-i-gt-WORN_ABOVE invariant_loop decreases_loop
+returns_2 c = let l = c.before.before.before in λ sh. worn_node sh _ l.loop-i.i (l.loop-i.invariant.1 sh) (search rules) c.if-nodes-i-gt-WORN_ABOVE.true
 
-add_i : tie.Need-overflow-add-i invariant_loop decreases_loop
+add_i : tie.Need-overflow_add-i-in-loop-i-2 invariant_loop decreases_loop
 add_i c = search rules
 
-loop_less : tie.Need-loop-smaller invariant_loop decreases_loop
+loop_less : tie.Need-loop-i-smaller invariant_loop decreases_loop
 loop_less c = search rules
 
-loop_again : tie.Need-loop-preserved invariant_loop decreases_loop
+loop_again : tie.Need-loop-i-preserved invariant_loop decreases_loop
 loop_again c =
     let l = c.before.before.before in
-    (search rules, λ sh. scan_next _ _ _ (l.loop.invariant.1 sh) (search rules) (low_test _ l.loop.i (search rules) sh c.if2.false))
+    (search rules, λ sh. scan_next _ _ _ (l.loop-i.invariant.1 sh) (search rules) (low_test _ l.loop-i.i (search rules) sh c.if-nodes-i-gt-WORN_ABOVE.false))
 
-returns_3 : tie.Need-returns-3 invariant_loop decreases_loop
-returns_3 c = λ sh. worn_not sh _ _ (c.before.loop.invariant.1 sh) (search rules) (search rules) (search rules)
+returns_3 : tie.Need-returns invariant_loop decreases_loop
+returns_3 c = λ sh. worn_not sh _ _ (c.before.loop-i.invariant.1 sh) (search rules) (search rules) (search rules)
 
 pub is_worn_spec : {M : Type 1} → statement M
 is_worn_spec =

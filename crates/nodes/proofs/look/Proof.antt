@@ -4,55 +4,55 @@ use Rattle.nodes.proofs.NodePresent.{There, stands, look_stuck, look_seen}
 use Rattle.nodes.proofs.look.Statement.{statement}
 use Rattle.nodes.proofs.look.Tie as tie
 
-ensure_requires : tie.Need-ensure-requires
+ensure_requires : tie.Need-ensure-spot-requires
 ensure_requires c κs = search rules
 
-enum_known_spot : tie.Need-enum-known-spot
+enum_known_spot : tie.Need-enum_known-spot
 enum_known_spot c = search rules
 
-enum_told : tie.Need-enum-told
+enum_told : tie.Need-enum_told-1
 enum_told c = search rules
 
-same_length : tie.Need-same-length
+same_length : tie.Need-shape_of-nodes-in_default
 same_length c = search rules
 
-returns : tie.Need-returns
-returns c = look_stuck _ _ _ _ c.before.before.before.before.ensure.ensures c.enum_told.given.1
+returns : tie.Need-returns-in_default
+returns c = look_stuck _ _ _ _ c.before.before.before.before.ensure-spot.ensures c.enum_told-1.given.1
 
 -- the label's node stands at the place given
-there : (c : tie.AfterKnownTold) → There c.before.before.before.before.before.before.before.before.before.args.label.now c.before.before.before.before.before.before.before.before.before.args.nodes.now c.before.spot.given.0.0 c.before.before.before.before.before.ensure.new.0
+there : (c : tie.In-At) → There c.before.before.before.before.before.before.before.before.before.args.label.now c.before.before.before.before.before.before.before.before.before.args.nodes.now c.before.spot-1.given.0.0 c.before.before.before.before.before.ensure-spot.new.0
 there c =
     let start = c.before.before.before.before.before.before.before.before.before in
-    stands _ _ _ _ _ c.before.before.before.before.before.ensure.ensures c.before.spot.given.1 start.requires.0 start.requires.1
+    stands _ _ _ _ _ c.before.before.before.before.before.ensure-spot.ensures c.before.spot-1.given.1 start.requires.0 start.requires.1
 
-mul_at : tie.Need-overflow-mul-at
+mul_at : tie.Need-overflow_mul-at
 mul_at c = let r = there c in search rules
 
-add_at : tie.Need-overflow-add-at
+add_at : tie.Need-overflow_add-at
 add_at c = let r = there c in search rules
 
-add_pending : tie.Need-overflow-add-pending
+add_pending : tie.Need-overflow_add-pending
 add_pending c = let r = there c in search rules
 
-mul_pending : tie.Need-overflow-mul-pending
+mul_pending : tie.Need-offset_bounds-nodes-at
 mul_pending c = let r = there c in search rules
 
-slice_read_pending : tie.Need-slice-read-pending
+slice_read_pending : tie.Need-bounds-nodes-at
 slice_read_pending c = let r = there c.before in search rules
 
-add_revision : tie.Need-overflow-add-revision
+add_revision : tie.Need-overflow_add-revision
 add_revision c = let r = there c.before in search rules
 
-mul_revision : tie.Need-overflow-mul-revision
+mul_revision : tie.Need-offset_bounds-nodes-at-2
 mul_revision c = let r = there c.before in search rules
 
-slice_read_revision : tie.Need-slice-read-revision
+slice_read_revision : tie.Need-bounds-nodes-at-2
 slice_read_revision c = let r = there c.before.before in search rules
 
-same_length_2 : tie.Need-same-length-2
+same_length_2 : tie.Need-shape_of-nodes
 same_length_2 c = search rules
 
-returns_2 : tie.Need-returns-2
+returns_2 : tie.Need-returns
 returns_2 c = look_seen _ _ _ _ (there c.before.before)
 
 pub look_spec : {M : Type 1} → statement M

@@ -7,70 +7,70 @@ use borrow.Author.Rules.{rules}
 use Rattle.nodes.proofs.retire.Statement.{statement}
 use Rattle.nodes.proofs.retire.Tie as tie
 
-mul_at : tie.Need-overflow-mul-at
+mul_at : tie.Need-overflow_mul-at
 mul_at c = search rules
 
-add_at : tie.Need-overflow-add-at
+add_at : tie.Need-overflow_add-at
 add_at c = search rules
 
-add_pending : tie.Need-overflow-add-pending
+add_pending : tie.Need-overflow_add-pending
 add_pending c = search rules
 
-mul_pending : tie.Need-overflow-mul-pending
+mul_pending : tie.Need-offset_bounds-nodes-at
 mul_pending c = search rules
 
-slice_read_pending : tie.Need-slice-read-pending
+slice_read_pending : tie.Need-bounds-nodes-at
 slice_read_pending c = search rules
 
-add_revision : tie.Need-overflow-add-revision
+add_revision : tie.Need-overflow_add-revision
 add_revision c = search rules
 
-mul_revision : tie.Need-overflow-mul-revision
+mul_revision : tie.Need-offset_bounds-nodes-at-2
 mul_revision c = search rules
 
-slice_read_revision : tie.Need-slice-read-revision
+slice_read_revision : tie.Need-bounds-nodes-at-2
 slice_read_revision c = search rules
 
-sub_fewer : tie.Need-overflow-sub-fewer
+sub_fewer : tie.Need-overflow_sub-fewer
 sub_fewer c =
     let start = c.before.before in
     omega (arith, pending_at start.args.nodes.now start.args.i start.requires.0.1.0)
 
-add_nodes : tie.Need-overflow-add-nodes
+add_nodes : tie.Need-overflow_add-nodes
 add_nodes c = search rules
 
-mul_nodes : tie.Need-overflow-mul-nodes
+mul_nodes : tie.Need-offset_bounds-nodes-at-3
 mul_nodes c = search rules
 
-slice_write_nodes : tie.Need-slice-write-nodes
+slice_write_nodes : tie.Need-bounds-nodes-at-3
 slice_write_nodes c = search rules
 
-add_next : tie.Need-overflow-add-next
+add_next : tie.Need-overflow_add-next
 add_next c =
     let start = c.before.before.before in
-    let room = start.requires.1 c.if1.true in
+    let room = start.requires.1 c.if-lift.true in
     omega (arith, revision_at start.args.nodes.now start.args.i start.requires.0.1.0)
 
-add_nodes_2 : tie.Need-overflow-add-nodes-2
+add_nodes_2 : tie.Need-overflow_add-nodes-then-lift
 add_nodes_2 c = search rules
 
-mul_nodes_2 : tie.Need-overflow-mul-nodes-2
+mul_nodes_2 : tie.Need-offset_bounds-nodes-at-then-lift
 mul_nodes_2 c = search rules
 
-slice_write_nodes_2 : tie.Need-slice-write-nodes-2
+slice_write_nodes_2 : tie.Need-bounds-nodes-at-then-lift
 slice_write_nodes_2 c = simp length-set (omega arith)
 
-same_length : tie.Need-same-length
+same_length : tie.Need-shape_of-nodes-then-lift
 same_length c = search rules
 
-returns : tie.Need-returns
-returns c = let p = c.before.before.before.requires.0 in retire_lifted _ _ _ p.0 p.1.0 c.if1.true
+returns : tie.Need-returns-then-lift
+returns c = let p = c.before.before.before.requires.0 in retire_lifted _ _ _ p.0 p.1.0 c.if-lift.true
 
-same_length_2 : tie.Need-same-length-2
+same_length_2 : tie.Need-shape_of-nodes-else-lift
 same_length_2 c = search rules
 
-returns_2 : tie.Need-returns-2
-returns_2 c = let p = c.before.before.before.requires.0 in retire_plain _ _ _ p.0 p.1.0 c.if1.false
+returns_2 : tie.Need-returns-else-lift
+returns_2 c = let p = c.before.before.before.requires.0 in retire_plain _ _ _ p.0 p.1.0 c.if-lift.false
 
 pub retire_spec : {M : Type 1} → statement M
 retire_spec =

@@ -4,7 +4,7 @@ use Rattle.columns.proofs.BoundLaws.{shift_is}
 use Rattle.columns.proofs.bounds.shift_of.Statement.{statement}
 use Rattle.columns.proofs.bounds.shift_of.Tie as tie
 
-wrapping_sub_u32_requires : tie.Need-wrapping-sub-u32-requires
+wrapping_sub_u32_requires : tie.Need-wrapping_sub_u32-requires
 wrapping_sub_u32_requires c κs = search rules
 
 returns : tie.Need-returns

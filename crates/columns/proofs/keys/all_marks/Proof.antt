@@ -6,7 +6,7 @@ use Rattle.columns.proofs.keys.all_marks.Tie as tie
 power_requires : tie.Need-power-requires
 power_requires c κs = search rules
 
-sub_result : tie.Need-overflow-sub-result
+sub_result : tie.Need-overflow_sub-result
 sub_result c = omega (arith, pow_pos c.before.args.k, c.power.ensures)
 
 returns : tie.Need-returns

@@ -4,7 +4,7 @@ use Rattle.columns.proofs.KeyLoops.{named_bit}
 use Rattle.columns.proofs.keys.is_named.Statement.{statement}
 use Rattle.columns.proofs.keys.is_named.Tie as tie
 
-shr_result : tie.Need-overflow-shr-result
+shr_result : tie.Need-overflow_shr-result
 shr_result c = search rules
 
 returns : tie.Need-returns

@@ -7,7 +7,7 @@ use Rattle.columns.proofs.MarkLaws.{marks_below, looks_by, looks_in}
 use Rattle.columns.proofs.keys.look_count.Statement.{statement}
 use Rattle.columns.proofs.keys.look_count.Tie as tie
 
-array_read_wide : tie.Need-array-read-wide
+array_read_wide : tie.Need-bounds-i
 array_read_wide c = omega (arith, marks_below c.args.k c.args.marks (search rules) (search rules))
 
 wide_requires : tie.Need-wide-requires

@@ -4,7 +4,7 @@ use Rattle.columns.proofs.MarkLaws.{names_in}
 use Rattle.columns.proofs.keys.names_all.Statement.{statement}
 use Rattle.columns.proofs.keys.names_all.Tie as tie
 
-all_marks_requires : tie.Need-all-marks-requires
+all_marks_requires : tie.Need-all_marks-requires
 all_marks_requires c κs = search rules
 
 returns : tie.Need-returns

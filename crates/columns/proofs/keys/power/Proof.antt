@@ -4,10 +4,10 @@ use Rattle.columns.proofs.MarkLaws.{shift_most}
 use Rattle.columns.proofs.keys.power.Statement.{statement}
 use Rattle.columns.proofs.keys.power.Tie as tie
 
-cast_result : tie.Need-overflow-cast-result
+cast_result : tie.Need-overflow_cast-result
 cast_result c = search rules
 
-shl_result : tie.Need-overflow-shl-result
+shl_result : tie.Need-overflow_shl-result
 shl_result c = search rules
 
 returns : tie.Need-returns

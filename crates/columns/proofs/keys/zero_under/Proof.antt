@@ -5,38 +5,38 @@ use Rattle.columns.proofs.KeyLoops.{under_no, under_on, under_end}
 use Rattle.columns.proofs.keys.zero_under.Statement.{statement}
 use Rattle.columns.proofs.keys.zero_under.Tie as tie
 
-abbrev invariant_loop : tie.invariant_loop
+abbrev invariant_loop : tie.invariant-loop-i
 invariant_loop marks values left₀ i₀ left i = (i ≤ length values) × (zero_under marks values ≡ zero_under left (drop i values))
 
-abbrev decreases_loop : tie.decreases_loop
+abbrev decreases_loop : tie.decreases-loop-i
 decreases_loop marks values left₀ i₀ left i = length values - i
 
-loop_holds : tie.Need-loop-init invariant_loop decreases_loop
+loop_holds : tie.Need-loop-i-init invariant_loop decreases_loop
 loop_holds c = (search rules, refl)
 
-mul_v : tie.Need-overflow-mul-v invariant_loop decreases_loop
+mul_v : tie.Need-offset_bounds-values-i invariant_loop decreases_loop
 mul_v c = search rules
 
-shared_slice_read_v : tie.Need-shared-slice-read-v invariant_loop decreases_loop
+shared_slice_read_v : tie.Need-bounds-values-i invariant_loop decreases_loop
 shared_slice_read_v c = search rules
 
 keeps_requires : tie.Need-keeps-requires invariant_loop decreases_loop
 keeps_requires c κs = search rules
 
-returns : tie.Need-returns invariant_loop decreases_loop
-returns c = let l = c.before.before.before.before in sym (l.loop.invariant.1 ∙ under_no _ l.loop.left l.loop.i (search rules) _ c.before.keeps.ensures c.if1.true)
+returns : tie.Need-returns-then-not-keeps invariant_loop decreases_loop
+returns c = let l = c.before.before.before.before in sym (l.loop-i.invariant.1 ∙ under_no _ l.loop-i.left l.loop-i.i (search rules) _ c.before.keeps.ensures c.if-not-keeps.true)
 
-add_i : tie.Need-overflow-add-i invariant_loop decreases_loop
+add_i : tie.Need-overflow_add-i invariant_loop decreases_loop
 add_i c = search rules
 
-loop_less : tie.Need-loop-smaller invariant_loop decreases_loop
+loop_less : tie.Need-loop-i-smaller invariant_loop decreases_loop
 loop_less c = search rules
 
-loop_again : tie.Need-loop-preserved invariant_loop decreases_loop
-loop_again c = let l = c.before.before.before.before in (search rules, l.loop.invariant.1 ∙ under_on _ l.loop.left l.loop.i (search rules) _ c.before.keeps.ensures c.if1.false)
+loop_again : tie.Need-loop-i-preserved invariant_loop decreases_loop
+loop_again c = let l = c.before.before.before.before in (search rules, l.loop-i.invariant.1 ∙ under_on _ l.loop-i.left l.loop-i.i (search rules) _ c.before.keeps.ensures c.if-not-keeps.false)
 
-returns_2 : tie.Need-returns-2 invariant_loop decreases_loop
-returns_2 c = let l = c.before in sym (l.loop.invariant.1 ∙ under_end c.before.before.before.args.values.now l.loop.left l.loop.i (search rules))
+returns_2 : tie.Need-returns invariant_loop decreases_loop
+returns_2 c = let l = c.before in sym (l.loop-i.invariant.1 ∙ under_end c.before.before.before.args.values.now l.loop-i.left l.loop-i.i (search rules))
 
 pub zero_under_spec : {M : Type 1} → statement M
 zero_under_spec =

@@ -6,7 +6,7 @@ use Rattle.columns.proofs.TableRule.{at}
 use Rattle.columns.proofs.labels.spread.Statement.{statement}
 use Rattle.columns.proofs.labels.spread.Tie as tie
 
-mul_result : tie.Need-overflow-mul-result
+mul_result : tie.Need-overflow_mul-result
 mul_result c = search rules
 
 returns : tie.Need-returns

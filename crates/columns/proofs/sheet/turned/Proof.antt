@@ -17,13 +17,13 @@ row s l hs hl =
     let b : (s * 16 + l) % 16 ≡ l = omega arith in
     rw (a, b)
 
-mul_i : tie.Need-overflow-mul-i
+mul_i : tie.Need-overflow_mul-i
 mul_i c = search rules
 
-add_i : tie.Need-overflow-add-i
+add_i : tie.Need-overflow_add-i
 add_i c = search rules
 
-array_read_wide : tie.Need-array-read-wide
+array_read_wide : tie.Need-bounds-i
 array_read_wide c = search rules
 
 wide_requires : tie.Need-wide-requires

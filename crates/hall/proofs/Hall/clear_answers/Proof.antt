@@ -10,7 +10,7 @@ use Rattle.rules.specs.Memory.{current}
 clear_requires : tie.Need-clear-requires
 clear_requires c κs = let long = c.before.before.requires (shape_of 0) in search rules
 
-same_length : tie.Need-same-length
+same_length : tie.Need-shape_of-answers
 same_length c = search rules
 
 returns : tie.Need-returns

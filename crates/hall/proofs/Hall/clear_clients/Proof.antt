@@ -7,10 +7,10 @@ use Rattle.hall.proofs.Hall.clear_clients.Tie as tie
 clear_requires : tie.Need-clear-requires
 clear_requires c κs = search rules
 
-slice_write_clients : tie.Need-slice-write-clients
+slice_write_clients : tie.Need-bounds-clients-0
 slice_write_clients c = search rules
 
-same_length : tie.Need-same-length
+same_length : tie.Need-shape_of-clients
 same_length c = search rules
 
 returns : tie.Need-returns

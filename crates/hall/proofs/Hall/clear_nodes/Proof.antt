@@ -9,10 +9,10 @@ use Rattle.rules.specs.Memory.{current}
 clear_requires : tie.Need-clear-requires
 clear_requires c κs = search rules
 
-slice_write_nodes : tie.Need-slice-write-nodes
+slice_write_nodes : tie.Need-bounds-nodes-0
 slice_write_nodes c = search rules
 
-same_length : tie.Need-same-length
+same_length : tie.Need-shape_of-nodes
 same_length c = search rules
 
 returns : tie.Need-returns
