@@ -4,20 +4,20 @@ use borrow.Author.Rules.{rules}
 use Rattle.clients.proofs.advance.Statement.{statement}
 use Rattle.clients.proofs.advance.Tie as tie
 
-steps_of_requires : tie.Need-steps-of-requires
+steps_of_requires : tie.Need-steps_of-made-requires
 steps_of_requires c κs = search rules
 
-add_put : tie.Need-overflow-add-put
+add_put : tie.Need-overflow_add-made
 add_put c = search rules
 
 put_requires : tie.Need-put-requires
 put_requires c κs = search rules
 
-same_length : tie.Need-same-length
+same_length : tie.Need-shape_of-clients
 same_length c = search rules
 
 returns : tie.Need-returns
-returns c = stepped_left _ _ c.before.before.before.before.before.before.before.requires.0 _ _ c.before.before.before.before.steps_of.ensures c.before.before.put.ensures
+returns c = stepped_left _ _ c.before.before.before.before.before.before.before.requires.0 _ _ c.before.before.before.before.steps_of-made.ensures c.before.before.put.ensures
 
 pub advance_spec : {M : Type 1} → statement M
 advance_spec = tie.close (tie.spec steps_of_requires add_put put_requires same_length returns)

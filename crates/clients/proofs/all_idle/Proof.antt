@@ -11,32 +11,32 @@ use Rattle.clients.proofs.all_idle.Statement.{statement}
 use Rattle.clients.proofs.all_idle.Tie as tie
 use Rattle.rules.specs.Layout.{max_clients}
 
-abbrev invariant_loop : tie.invariant_loop
+abbrev invariant_loop : tie.invariant-loop-d
 invariant_loop clients d₀ d = (d ≤ max_clients) × (all_below d (idle_at clients) ≡ true)
 
-abbrev decreases_loop : tie.decreases_loop
+abbrev decreases_loop : tie.decreases-loop-d
 decreases_loop clients d₀ d = max_clients - d
 
-loop_holds : tie.Need-loop-init invariant_loop decreases_loop
+loop_holds : tie.Need-loop-d-init invariant_loop decreases_loop
 loop_holds c = (search rules, below_none _)
 
-is_idle_requires : tie.Need-is-idle-requires invariant_loop decreases_loop
+is_idle_requires : tie.Need-is_idle-requires invariant_loop decreases_loop
 is_idle_requires c κs = search rules
 
-returns : tie.Need-returns invariant_loop decreases_loop
-returns c = idle_stops _ _ _ _ c.before.is_idle.ensures c.if1.true (search rules)
+returns : tie.Need-returns-then-not-is_idle invariant_loop decreases_loop
+returns c = idle_stops _ _ _ _ c.before.is_idle.ensures c.if-not-is_idle.true (search rules)
 
-add_d : tie.Need-overflow-add-d invariant_loop decreases_loop
+add_d : tie.Need-overflow_add-d invariant_loop decreases_loop
 add_d c = search rules
 
-loop_less : tie.Need-loop-smaller invariant_loop decreases_loop
+loop_less : tie.Need-loop-d-smaller invariant_loop decreases_loop
 loop_less c = search rules
 
-loop_again : tie.Need-loop-preserved invariant_loop decreases_loop
-loop_again c = (search rules, idle_next _ _ _ c.before.is_idle.ensures c.if1.false c.before.before.before.loop.invariant.1)
+loop_again : tie.Need-loop-d-preserved invariant_loop decreases_loop
+loop_again c = (search rules, idle_next _ _ _ c.before.is_idle.ensures c.if-not-is_idle.false c.before.before.before.loop-d.invariant.1)
 
-returns_2 : tie.Need-returns-2 invariant_loop decreases_loop
-returns_2 c = idle_all _ _ _ (search rules) (search rules) c.before.loop.invariant.1
+returns_2 : tie.Need-returns invariant_loop decreases_loop
+returns_2 c = idle_all _ _ _ (search rules) (search rules) c.before.loop-d.invariant.1
 
 pub all_idle_spec : {M : Type 1} → statement M
 all_idle_spec =

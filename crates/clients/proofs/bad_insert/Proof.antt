@@ -5,14 +5,14 @@ use Rattle.clients.proofs.bad_insert.Statement.{statement}
 use Rattle.clients.proofs.bad_insert.Tie as tie
 use Rattle.columns.proofs.keys.names_all.Reads as names_all_reads
 
-returns : tie.Need-returns
-returns c = insert_other _ _ _ c.if1.true
+returns : tie.Need-returns-then-kind-ne-INSERTS
+returns c = insert_other _ _ _ c.if-kind-ne-INSERTS.true
 
-names_all_requires : tie.Need-names-all-requires
+names_all_requires : tie.Need-names_all-requires
 names_all_requires c κs = search rules
 
-returns_2 : tie.Need-returns-2
-returns_2 c = insert_names _ _ _ _ c.names_all.ensures c.before.if1.false
+returns_2 : tie.Need-returns
+returns_2 c = insert_names _ _ _ _ c.names_all.ensures c.before.if-kind-ne-INSERTS.false
 
 pub bad_insert_spec : {M : Type 1} → statement M
 bad_insert_spec = tie.close (tie.spec returns names_all_requires returns_2)

@@ -14,38 +14,38 @@ use Rattle.clients.proofs.ClientReads.{rest_read}
 use Rattle.clients.proofs.bad_key.Statement.{statement}
 use Rattle.clients.proofs.bad_key.Tie as tie
 
-mul_at : tie.Need-overflow-mul-at
+mul_at : tie.Need-overflow_mul-at
 mul_at c = search rules
 
-add_at : tie.Need-overflow-add-at
+add_at : tie.Need-overflow_add-at
 add_at c = search rules
 
-add_at_2 : tie.Need-overflow-add-at-2
+add_at_2 : tie.Need-overflow_add-at-2
 add_at_2 c = search rules
 
-query_width_requires : tie.Need-query-width-requires
+query_width_requires : tie.Need-query_width-requires
 query_width_requires c κs = search rules
 
 -- as many numbers as are the query's
-few : (c : tie.AfterQueryWidth) → c.query_width.result ≤ key_width - 1
+few : (c : tie.After-query_width) → c.query_width.result ≤ key_width - 1
 few c = query_few _ _ c.query_width.ensures
 
-add_end : tie.Need-overflow-add-end
+add_end : tie.Need-overflow_add-end
 add_end c = omega (arith, few c, c.before.before.requires.0.below)
 
-mul_is_key : tie.Need-overflow-mul-is-key
+mul_is_key : tie.Need-offset_bounds-clients-at
 mul_is_key c = search rules
 
-sub_is_key : tie.Need-overflow-sub-is-key
+sub_is_key : tie.Need-slice_bounds-is_key-count
 sub_is_key c = search rules
 
-part_is_key_start : tie.Need-slice-bounds-is-key-start
+part_is_key_start : tie.Need-slice_bounds-is_key-start
 part_is_key_start c = search rules
 
-part_is_key_end : tie.Need-slice-bounds-is-key-end
+part_is_key_end : tie.Need-slice_bounds-is_key-end
 part_is_key_end c = let f = c.before.before.requires.0 in omega (arith, few c, f.below, f.long)
 
-is_key_requires : tie.Need-is-key-requires
+is_key_requires : tie.Need-is_key-requires
 is_key_requires c κs = (c.before.before.before.requires.1, omega (arith, few c.before))
 
 returns : tie.Need-returns

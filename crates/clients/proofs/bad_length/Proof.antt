@@ -4,14 +4,14 @@ use borrow.Author.Rules.{rules}
 use Rattle.clients.proofs.bad_length.Statement.{statement}
 use Rattle.clients.proofs.bad_length.Tie as tie
 
-word_requires : tie.Need-word-requires
+word_requires : tie.Need-word-n-requires
 word_requires c κs = search rules
 
-returns : tie.Need-returns
-returns c = long_count _ _ c.before.word.ensures _ c.before.before.before.requires.1 c.if1.true
+returns : tie.Need-returns-then-counts
+returns c = long_count _ _ c.before.word-n.ensures _ c.before.before.before.requires.1 c.if-counts.true
 
-returns_2 : tie.Need-returns-2
-returns_2 c = long_list _ _ c.before.word.ensures _ c.before.before.before.requires.1 c.if1.false
+returns_2 : tie.Need-returns
+returns_2 c = long_list _ _ c.before.word-n.ensures _ c.before.before.before.requires.1 c.if-counts.false
 
 pub bad_length_spec : {M : Type 1} → statement M
 bad_length_spec = tie.close (tie.spec word_requires returns returns_2)

@@ -5,28 +5,28 @@ use borrow.Author.Rules.{rules}
 use Rattle.clients.proofs.begin.Statement.{statement}
 use Rattle.clients.proofs.begin.Tie as tie
 
-set_idle_requires : tie.Need-set-idle-requires
+set_idle_requires : tie.Need-set_idle-requires
 set_idle_requires c κs = search rules
 
-mul_at : tie.Need-overflow-mul-at
+mul_at : tie.Need-overflow_mul-at
 mul_at c = search rules
 
-add_at : tie.Need-overflow-add-at
+add_at : tie.Need-overflow_add-at
 add_at c = search rules
 
-slice_aggregate_write : tie.Need-slice-aggregate-write
+slice_aggregate_write : tie.Need-slice_bounds-write-end
 slice_aggregate_write c = search rules
 
 write_requires : tie.Need-write-requires
 write_requires c κs = search rules
 
-add_write : tie.Need-overflow-add-write
+add_write : tie.Need-overflow_add-at-2
 add_write c = search rules
 
 write_requires_2 : tie.Need-write-requires-2
 write_requires_2 c κs = search rules
 
-same_length : tie.Need-same-length
+same_length : tie.Need-shape_of-clients
 same_length c = search rules
 
 returns : tie.Need-returns
@@ -35,7 +35,7 @@ returns c =
     let h = w.before.before.before.before in
     let i = h.before.before.before.before.before in
     let s = i.before.before.before.before in
-    w.write2.ensures ∙ begun_left _ _ s.requires.0 _ _ _ _ i.set_idle.ensures h.write.ensures s.requires.1
+    w.write-2.ensures ∙ begun_left _ _ s.requires.0 _ _ _ _ i.set_idle.ensures h.write.ensures s.requires.1
 
 pub begin_spec : {M : Type 1} → statement M
 begin_spec =

@@ -10,73 +10,73 @@ use Rattle.clients.proofs.is_bad.Statement.{statement}
 use Rattle.clients.proofs.is_bad.Tie as tie
 
 -- the arguments, from behind the key's test
-abbrev start : tie.Else3 → tie.Start
+abbrev start : tie.Else-bad_key → tie.Start
 start c =
     let k = c.before.before.before.before in
     k.before.before.before.before
 
 -- behind the key's test the marks are those of the hall's columns
-marked : (c : tie.Else3) → (start c).args.h.marks < 2 ^ (start c).args.h.columns
+marked : (c : tie.Else-bad_key) → (start c).args.h.marks < 2 ^ (start c).args.h.columns
 marked c =
     let p = (start c).requires in
-    held_marks p.0 p.1.0 p.1.1 (not-false _ (sym (key_held p.1.0 c.before.before.range.ensures p.0 c.before.bad_key.ensures) ∙ c.if3.false))
+    held_marks p.0 p.1.0 p.1.1 (not-false _ (sym (key_held p.1.0 c.before.before.range-range.ensures p.0 c.before.bad_key.ensures) ∙ c.if-bad_key.false))
 
-is_idle_requires : tie.Need-is-idle-requires
+is_idle_requires : tie.Need-is_idle-requires
 is_idle_requires c κs = search rules
 
-returns : tie.Need-returns
-returns c = let p = c.before.before.before.before.requires in bad_none _ _ _ c.is_idle.ensures (sym p.1.0.kind ∙ c.before.if1.true)
+returns : tie.Need-returns-then-h-eq0
+returns c = let p = c.before.before.before.before.requires in bad_none _ _ _ c.is_idle.ensures (sym p.1.0.kind ∙ c.before.if-h-eq0.true)
 
-returns_2 : tie.Need-returns-2
-returns_2 c = let p = c.before.before.before.before.before.requires in bad_kind _ _ _ p.1.0.kind c.before.before.if1.false c.if2.true
+returns_2 : tie.Need-returns-then-h-gt-DELETES
+returns_2 c = let p = c.before.before.before.before.before.requires in bad_kind _ _ _ p.1.0.kind c.before.before.if-h-eq0.false c.if-h-gt-DELETES.true
 
-range_requires : tie.Need-range-requires
+range_requires : tie.Need-range-range-requires
 range_requires c κs = search rules
 
-bad_key_requires : tie.Need-bad-key-requires
+bad_key_requires : tie.Need-bad_key-requires
 bad_key_requires c κs = search rules
 
-returns_3 : tie.Need-returns-3
+returns_3 : tie.Need-returns-then-bad_key
 returns_3 c =
     let g = c.before.before in
     let k = g.before in
     let x = k.before.before in
     let p = x.before.before.before.requires in
-    bad_key _ _ _ p.1.0.kind x.if1.false (length_client _ _ p.0) (few_held p.1.0 p.1.1) k.if2.false
-    _ (key_held p.1.0 g.range.ensures p.0 c.before.bad_key.ensures) c.if3.true
+    bad_key _ _ _ p.1.0.kind x.if-h-eq0.false (length_client _ _ p.0) (few_held p.1.0 p.1.1) k.if-h-gt-DELETES.false
+    _ (key_held p.1.0 g.range-range.ensures p.0 c.before.bad_key.ensures) c.if-bad_key.true
 
-bad_wanting_requires : tie.Need-bad-wanting-requires
+bad_wanting_requires : tie.Need-bad_wanting-requires
 bad_wanting_requires c κs = search rules
 
-returns_4 : tie.Need-returns-4
+returns_4 : tie.Need-returns-then-bad_wanting
 returns_4 c =
     let t = c.before.before in
     let g = t.before.before in
     let k = g.before in
     let p = (start t).requires in
-    bad_wanting _ _ _ p.1.0.kind k.before.before.if1.false (length_client _ _ p.0) (few_held p.1.0 p.1.1) k.if2.false
-    _ (key_held p.1.0 g.range.ensures p.0 t.before.bad_key.ensures) t.if3.false
-    _ (wanting_held p.1.0 g.range.ensures c.before.bad_wanting.ensures) c.if4.true
+    bad_wanting _ _ _ p.1.0.kind k.before.before.if-h-eq0.false (length_client _ _ p.0) (few_held p.1.0 p.1.1) k.if-h-gt-DELETES.false
+    _ (key_held p.1.0 g.range-range.ensures p.0 t.before.bad_key.ensures) t.if-bad_key.false
+    _ (wanting_held p.1.0 g.range-range.ensures c.before.bad_wanting.ensures) c.if-bad_wanting.true
 
-bad_insert_requires : tie.Need-bad-insert-requires
+bad_insert_requires : tie.Need-bad_insert-requires
 bad_insert_requires c κs = (search rules, marked c.before.before)
 
-returns_5 : tie.Need-returns-5
+returns_5 : tie.Need-returns-then-bad_insert
 returns_5 c =
     let v = c.before.before in
     let t = v.before.before in
     let g = t.before.before in
     let k = g.before in
     let p = (start t).requires in
-    bad_insert _ _ _ p.1.0.kind k.before.before.if1.false (length_client _ _ p.0) (few_held p.1.0 p.1.1) k.if2.false
-    _ (key_held p.1.0 g.range.ensures p.0 t.before.bad_key.ensures) t.if3.false
-    _ (wanting_held p.1.0 g.range.ensures v.before.bad_wanting.ensures) v.if4.false
-    _ (insert_held p.1.0 p.1.1 c.before.bad_insert.ensures) c.if5.true
+    bad_insert _ _ _ p.1.0.kind k.before.before.if-h-eq0.false (length_client _ _ p.0) (few_held p.1.0 p.1.1) k.if-h-gt-DELETES.false
+    _ (key_held p.1.0 g.range-range.ensures p.0 t.before.bad_key.ensures) t.if-bad_key.false
+    _ (wanting_held p.1.0 g.range-range.ensures v.before.bad_wanting.ensures) v.if-bad_wanting.false
+    _ (insert_held p.1.0 p.1.1 c.before.bad_insert.ensures) c.if-bad_insert.true
 
-bad_range_requires : tie.Need-bad-range-requires
+bad_range_requires : tie.Need-bad_range-requires
 bad_range_requires c κs = search rules
 
-returns_6 : tie.Need-returns-6
+returns_6 : tie.Need-returns-then-bad_range
 returns_6 c =
     let b = c.before.before in
     let v = b.before.before in
@@ -84,19 +84,19 @@ returns_6 c =
     let g = t.before.before in
     let k = g.before in
     let p = (start t).requires in
-    bad_range _ _ _ p.1.0.kind k.before.before.if1.false (length_client _ _ p.0) (few_held p.1.0 p.1.1) k.if2.false
-    _ (key_held p.1.0 g.range.ensures p.0 t.before.bad_key.ensures) t.if3.false
-    _ (wanting_held p.1.0 g.range.ensures v.before.bad_wanting.ensures) v.if4.false
-    _ (insert_held p.1.0 p.1.1 b.before.bad_insert.ensures) b.if5.false
-    _ (range_held p.1.0 g.range.ensures p.1.1 v.before.bad_wanting.ensures v.if4.false c.before.bad_range.ensures) c.if6.true
+    bad_range _ _ _ p.1.0.kind k.before.before.if-h-eq0.false (length_client _ _ p.0) (few_held p.1.0 p.1.1) k.if-h-gt-DELETES.false
+    _ (key_held p.1.0 g.range-range.ensures p.0 t.before.bad_key.ensures) t.if-bad_key.false
+    _ (wanting_held p.1.0 g.range-range.ensures v.before.bad_wanting.ensures) v.if-bad_wanting.false
+    _ (insert_held p.1.0 p.1.1 b.before.bad_insert.ensures) b.if-bad_insert.false
+    _ (range_held p.1.0 g.range-range.ensures p.1.1 v.before.bad_wanting.ensures v.if-bad_wanting.false c.before.bad_range.ensures) c.if-bad_range.true
 
-steps_in_all_requires : tie.Need-steps-in-all-requires
+steps_in_all_requires : tie.Need-steps_in_all-requires
 steps_in_all_requires c κs =
     let b = c.before.before in
     let t = b.before.before.before.before in
     ((start t).requires.1.1, marked t)
 
-returns_7 : tie.Need-returns-7
+returns_7 : tie.Need-returns-then-steps_in_all-h
 returns_7 c =
     let n = c.before.before in
     let f = n.before in
@@ -106,17 +106,17 @@ returns_7 c =
     let g = t.before.before in
     let k = g.before in
     let p = (start t).requires in
-    bad_step _ _ _ p.1.0.kind k.before.before.if1.false (length_client _ _ p.0) (few_held p.1.0 p.1.1) k.if2.false
-    _ (key_held p.1.0 g.range.ensures p.0 t.before.bad_key.ensures) t.if3.false
-    _ (wanting_held p.1.0 g.range.ensures v.before.bad_wanting.ensures) v.if4.false
-    _ (insert_held p.1.0 p.1.1 b.before.bad_insert.ensures) b.if5.false
-    _ (range_held p.1.0 g.range.ensures p.1.1 v.before.bad_wanting.ensures v.if4.false f.before.bad_range.ensures) f.if6.false
-    _ _ (steps_held p.1.0 p.1.1 n.steps_in_all.ensures) p.1.0.steps c.if7.true
+    bad_step _ _ _ p.1.0.kind k.before.before.if-h-eq0.false (length_client _ _ p.0) (few_held p.1.0 p.1.1) k.if-h-gt-DELETES.false
+    _ (key_held p.1.0 g.range-range.ensures p.0 t.before.bad_key.ensures) t.if-bad_key.false
+    _ (wanting_held p.1.0 g.range-range.ensures v.before.bad_wanting.ensures) v.if-bad_wanting.false
+    _ (insert_held p.1.0 p.1.1 b.before.bad_insert.ensures) b.if-bad_insert.false
+    _ (range_held p.1.0 g.range-range.ensures p.1.1 v.before.bad_wanting.ensures v.if-bad_wanting.false f.before.bad_range.ensures) f.if-bad_range.false
+    _ _ (steps_held p.1.0 p.1.1 n.steps_in_all.ensures) p.1.0.steps c.if-steps_in_all-h.true
 
-bad_length_requires : tie.Need-bad-length-requires
+bad_length_requires : tie.Need-bad_length-requires
 bad_length_requires c κs = search rules
 
-returns_8 : tie.Need-returns-8
+returns_8 : tie.Need-returns
 returns_8 c =
     let e = c.before in
     let n = e.before.before in
@@ -127,12 +127,12 @@ returns_8 c =
     let g = t.before.before in
     let k = g.before in
     let p = (start t).requires in
-    bad_length _ _ _ p.1.0.kind k.before.before.if1.false (length_client _ _ p.0) (few_held p.1.0 p.1.1) k.if2.false
-    _ (key_held p.1.0 g.range.ensures p.0 t.before.bad_key.ensures) t.if3.false
-    _ (wanting_held p.1.0 g.range.ensures v.before.bad_wanting.ensures) v.if4.false
-    _ (insert_held p.1.0 p.1.1 b.before.bad_insert.ensures) b.if5.false
-    _ (range_held p.1.0 g.range.ensures p.1.1 v.before.bad_wanting.ensures v.if4.false f.before.bad_range.ensures) f.if6.false
-    _ _ (steps_held p.1.0 p.1.1 n.steps_in_all.ensures) p.1.0.steps e.if7.false _ c.bad_length.ensures
+    bad_length _ _ _ p.1.0.kind k.before.before.if-h-eq0.false (length_client _ _ p.0) (few_held p.1.0 p.1.1) k.if-h-gt-DELETES.false
+    _ (key_held p.1.0 g.range-range.ensures p.0 t.before.bad_key.ensures) t.if-bad_key.false
+    _ (wanting_held p.1.0 g.range-range.ensures v.before.bad_wanting.ensures) v.if-bad_wanting.false
+    _ (insert_held p.1.0 p.1.1 b.before.bad_insert.ensures) b.if-bad_insert.false
+    _ (range_held p.1.0 g.range-range.ensures p.1.1 v.before.bad_wanting.ensures v.if-bad_wanting.false f.before.bad_range.ensures) f.if-bad_range.false
+    _ _ (steps_held p.1.0 p.1.1 n.steps_in_all.ensures) p.1.0.steps e.if-steps_in_all-h.false _ c.bad_length.ensures
 
 pub is_bad_spec : {M : Type 1} → statement M
 is_bad_spec =

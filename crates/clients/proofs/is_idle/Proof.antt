@@ -4,28 +4,28 @@ use borrow.Author.Rules.{rules}
 use Rattle.clients.proofs.is_idle.Statement.{statement}
 use Rattle.clients.proofs.is_idle.Tie as tie
 
-mul_at : tie.Need-overflow-mul-at
+mul_at : tie.Need-overflow_mul-at
 mul_at c = search rules
 
-add_at : tie.Need-overflow-add-at
+add_at : tie.Need-overflow_add-at
 add_at c = search rules
 
-add_stop : tie.Need-overflow-add-stop
+add_stop : tie.Need-overflow_add-stop
 add_stop c = search rules
 
-mul_is_zero : tie.Need-overflow-mul-is-zero
+mul_is_zero : tie.Need-offset_bounds-clients-at
 mul_is_zero c = search rules
 
-sub_is_zero : tie.Need-overflow-sub-is-zero
+sub_is_zero : tie.Need-slice_bounds-is_zero-count
 sub_is_zero c = search rules
 
-part_is_zero_start : tie.Need-slice-bounds-is-zero-start
+part_is_zero_start : tie.Need-slice_bounds-is_zero-start
 part_is_zero_start c = search rules
 
-part_is_zero_end : tie.Need-slice-bounds-is-zero-end
+part_is_zero_end : tie.Need-slice_bounds-is_zero-end
 part_is_zero_end c = search rules
 
-is_zero_requires : tie.Need-is-zero-requires
+is_zero_requires : tie.Need-is_zero-requires
 is_zero_requires c κs = search rules
 
 returns : tie.Need-returns

@@ -7,35 +7,35 @@ use Rattle.clients.proofs.note.Tie as tie
 advance_requires : tie.Need-advance-requires
 advance_requires c κs = search rules
 
-add_put : tie.Need-overflow-add-put
+add_put : tie.Need-overflow_add-j
 add_put c = search rules
 
 put_requires : tie.Need-put-requires
 put_requires c κs = search rules
 
-same_length : tie.Need-same-length
+same_length : tie.Need-shape_of-clients-then-pending-eq0
 same_length c = search rules
 
-returns : tie.Need-returns
+returns : tie.Need-returns-then-pending-eq0
 returns c =
     let p = c.before.before.before in
     let a = p.before.before.before.before in
     let s = a.before.before.before in
-    noted_quiet _ _ s.requires.0 _ _ s.args.j _ _ a.advance.ensures p.put.ensures c.if1.true
+    noted_quiet _ _ s.requires.0 _ _ s.args.j _ _ a.advance.ensures p.put.ensures c.if-pending-eq0.true
 
 put_requires_2 : tie.Need-put-requires-2
 put_requires_2 c κs = search rules
 
-same_length_2 : tie.Need-same-length-2
+same_length_2 : tie.Need-shape_of-clients
 same_length_2 c = search rules
 
-returns_2 : tie.Need-returns-2
+returns_2 : tie.Need-returns
 returns_2 c =
     let i = c.before.before.before.before in
     let p = i.before.before.before in
     let a = p.before.before.before.before in
     let s = a.before.before.before in
-    noted_seen _ _ s.requires.0 _ _ s.args.j _ _ a.advance.ensures p.put.ensures _ c.before.before.put2.ensures i.if1.false
+    noted_seen _ _ s.requires.0 _ _ s.args.j _ _ a.advance.ensures p.put.ensures _ c.before.before.put-2.ensures i.if-pending-eq0.false
 
 pub note_spec : {M : Type 1} → statement M
 note_spec =

@@ -4,22 +4,22 @@ use borrow.Author.Rules.{rules}
 use Rattle.clients.proofs.put.Statement.{statement}
 use Rattle.clients.proofs.put.Tie as tie
 
-mul_clients : tie.Need-overflow-mul-clients
+mul_clients : tie.Need-overflow_mul-clients
 mul_clients c = search rules
 
-add_clients : tie.Need-overflow-add-clients
+add_clients : tie.Need-overflow_add-clients
 add_clients c = search rules
 
-add_clients_2 : tie.Need-overflow-add-clients-2
+add_clients_2 : tie.Need-overflow_add-clients-2
 add_clients_2 c = search rules
 
-mul_clients_2 : tie.Need-overflow-mul-clients-2
+mul_clients_2 : tie.Need-offset_bounds-clients-d
 mul_clients_2 c = search rules
 
-slice_write_clients : tie.Need-slice-write-clients
+slice_write_clients : tie.Need-bounds-clients-d
 slice_write_clients c = search rules
 
-same_length : tie.Need-same-length
+same_length : tie.Need-shape_of-clients
 same_length c = search rules
 
 returns : tie.Need-returns

@@ -5,22 +5,22 @@ use Rattle.clients.proofs.ClientReads.{range_read}
 use Rattle.clients.proofs.range.Statement.{statement}
 use Rattle.clients.proofs.range.Tie as tie
 
-word_requires : tie.Need-word-requires
+word_requires : tie.Need-word-first-requires
 word_requires c κs = search rules
 
-add_word : tie.Need-overflow-add-word
+add_word : tie.Need-overflow_add-word
 add_word c = search rules
 
-word_requires_2 : tie.Need-word-requires-2
+word_requires_2 : tie.Need-word-lowest-requires
 word_requires_2 c κs = search rules
 
-add_word_2 : tie.Need-overflow-add-word-2
+add_word_2 : tie.Need-overflow_add-word-2
 add_word_2 c = search rules
 
-word_requires_3 : tie.Need-word-requires-3
+word_requires_3 : tie.Need-word-highest-requires
 word_requires_3 c κs = search rules
 
-range_of_requires : tie.Need-range-of-requires
+range_of_requires : tie.Need-range_of-requires
 range_of_requires c κs = search rules
 
 returns : tie.Need-returns
@@ -28,7 +28,7 @@ returns c =
     let h = c.before in
     let l = h.before in
     let f = l.before in
-    range_read _ (length_client _ _ f.before.before.requires) _ f.word.ensures _ _ _ l.word2.ensures h.word3.ensures c.range_of.ensures
+    range_read _ (length_client _ _ f.before.before.requires) _ f.word-first.ensures _ _ _ l.word-lowest.ensures h.word-highest.ensures c.range_of.ensures
 
 pub range_spec : {M : Type 1} → statement M
 range_spec =

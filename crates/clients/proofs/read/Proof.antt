@@ -8,70 +8,70 @@ use borrow.Author.Rules.{rules}
 use Rattle.clients.proofs.read.Statement.{statement}
 use Rattle.clients.proofs.read.Tie as tie
 
-steps_of_requires : tie.Need-steps-of-requires
+steps_of_requires : tie.Need-steps_of-steps-requires
 steps_of_requires c κs = search rules
 
-word_requires : tie.Need-word-requires
+word_requires : tie.Need-word-first-requires
 word_requires c κs = search rules
 
-mul_from : tie.Need-overflow-mul-from
+mul_from : tie.Need-overflow_mul-from
 mul_from c = search rules
 
-add_from : tie.Need-overflow-add-from
+add_from : tie.Need-overflow_add-from
 add_from c = search rules
 
-add_from_2 : tie.Need-overflow-add-from-2
+add_from_2 : tie.Need-overflow_add-from-2
 add_from_2 c = search rules
 
-mul_t7 : tie.Need-overflow-mul-t7
+mul_t7 : tie.Need-offset_bounds-clients-from
 mul_t7 c = search rules
 
-shared_slice_read_t10 : tie.Need-shared-slice-read-t10
+shared_slice_read_t10 : tie.Need-bounds-clients-from
 shared_slice_read_t10 c = search rules
 
-add_t8 : tie.Need-overflow-add-t8
+add_t8 : tie.Need-overflow_add-values
 add_t8 c = search rules
 
-mul_t11 : tie.Need-overflow-mul-t11
+mul_t11 : tie.Need-offset_bounds-clients-from-2
 mul_t11 c = search rules
 
-shared_slice_read_t13 : tie.Need-shared-slice-read-t13
+shared_slice_read_t13 : tie.Need-bounds-clients-from-2
 shared_slice_read_t13 c = search rules
 
-add_t14 : tie.Need-overflow-add-t14
+add_t14 : tie.Need-overflow_add-values-2
 add_t14 c = search rules
 
-mul_t15 : tie.Need-overflow-mul-t15
+mul_t15 : tie.Need-offset_bounds-clients-from-3
 mul_t15 c = search rules
 
-shared_slice_read_t17 : tie.Need-shared-slice-read-t17
+shared_slice_read_t17 : tie.Need-bounds-clients-from-3
 shared_slice_read_t17 c = search rules
 
-add_t18 : tie.Need-overflow-add-t18
+add_t18 : tie.Need-overflow_add-values-3
 add_t18 c = search rules
 
-mul_t19 : tie.Need-overflow-mul-t19
+mul_t19 : tie.Need-offset_bounds-clients-from-4
 mul_t19 c = search rules
 
-shared_slice_read_t21 : tie.Need-shared-slice-read-t21
+shared_slice_read_t21 : tie.Need-bounds-clients-from-4
 shared_slice_read_t21 c = search rules
 
-shared_slice_read_t10_2 : tie.Need-shared-slice-read-t10-2
+shared_slice_read_t10_2 : tie.Need-bounds-clients-0
 shared_slice_read_t10_2 c = search rules
 
-cast_t7 : tie.Need-overflow-cast-t7
-cast_t7 c = omega (arith, c.shared_slice_known6.given 0)
+cast_t7 : tie.Need-overflow_cast-result
+cast_t7 c = omega (arith, c.shared_slice_known-6-1.given 0)
 
-word_requires_2 : tie.Need-word-requires-2
+word_requires_2 : tie.Need-word-requires
 word_requires_2 c κs = search rules
 
-cast_t19 : tie.Need-overflow-cast-t19
+cast_t19 : tie.Need-overflow_cast-result-2
 cast_t19 c = search rules
 
-bare_marks_requires : tie.Need-bare-marks-requires
+bare_marks_requires : tie.Need-bare_marks-requires
 bare_marks_requires c κs = search rules
 
-is_count_requires : tie.Need-is-count-requires
+is_count_requires : tie.Need-is_count-requires
 is_count_requires c κs = search rules
 
 returns : tie.Need-returns
@@ -83,10 +83,10 @@ returns c =
     let l = length_client _ _ p in
     record {
       columns = refl;
-      kind = w.word2.ensures;
-      steps = f.before.steps_of.ensures;
-      marks = marks_read _ l _ f.word.ensures _ c.before.bare_marks.ensures;
-      counts = counts_read _ l _ f.word.ensures _ c.is_count.ensures;
+      kind = w.word.ensures;
+      steps = f.before.steps_of-steps.ensures;
+      marks = marks_read _ l _ f.word-first.ensures _ c.before.bare_marks.ensures;
+      counts = counts_read _ l _ f.word-first.ensures _ c.is_count.ensures;
       values = values_read _ _ _ p refl;
     }
 

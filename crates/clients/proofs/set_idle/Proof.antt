@@ -4,31 +4,31 @@ use borrow.Author.Rules.{rules}
 use Rattle.clients.proofs.set_idle.Statement.{statement}
 use Rattle.clients.proofs.set_idle.Tie as tie
 
-mul_at : tie.Need-overflow-mul-at
+mul_at : tie.Need-overflow_mul-at
 mul_at c = search rules
 
-add_at : tie.Need-overflow-add-at
+add_at : tie.Need-overflow_add-at
 add_at c = search rules
 
-add_end : tie.Need-overflow-add-end
+add_end : tie.Need-overflow_add-end
 add_end c = search rules
 
-mul_clear : tie.Need-overflow-mul-clear
+mul_clear : tie.Need-offset_bounds-clients-at
 mul_clear c = search rules
 
-sub_clear : tie.Need-overflow-sub-clear
+sub_clear : tie.Need-slice_bounds-clear-count
 sub_clear c = search rules
 
-part_clear_start : tie.Need-slice-bounds-clear-start
+part_clear_start : tie.Need-slice_bounds-clear-start
 part_clear_start c = search rules
 
-part_clear_end : tie.Need-slice-bounds-clear-end
+part_clear_end : tie.Need-slice_bounds-clear-end
 part_clear_end c = search rules
 
 clear_requires : tie.Need-clear-requires
 clear_requires c κs = search rules
 
-same_length : tie.Need-same-length
+same_length : tie.Need-shape_of-clients
 same_length c = search rules
 
 returns : tie.Need-returns

@@ -19,7 +19,7 @@ flag_requires_2 c κs = search rules
 put_requires_2 : tie.Need-put-requires-2
 put_requires_2 c κs = search rules
 
-same_length : tie.Need-same-length
+same_length : tie.Need-shape_of-clients
 same_length c = search rules
 
 returns : tie.Need-returns
@@ -27,8 +27,8 @@ returns c =
     let q = c.before.before in
     let p = q.before.before.before.before.before in
     let a = p.before.before.before.before.before in
-    wrote_left _ _ a.before.before.before.requires.0 _ _ _ _ _ _ _ a.advance.ensures p.put.ensures q.put2.ensures
-    p.before.flag.ensures q.before.flag2.ensures
+    wrote_left _ _ a.before.before.before.requires.0 _ _ _ _ _ _ _ a.advance.ensures p.put.ensures q.put-2.ensures
+    p.before.flag.ensures q.before.flag-2.ensures
 
 pub set_wrote_spec : {M : Type 1} → statement M
 set_wrote_spec =

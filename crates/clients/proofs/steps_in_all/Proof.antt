@@ -7,29 +7,29 @@ use Rattle.clients.proofs.steps_in_all.Tie as tie
 use Rattle.columns.proofs.keys.look_count.Reads as look_count_reads
 use Rattle.columns.proofs.keys.power.Reads as power_reads
 
-look_count_requires : tie.Need-look-count-requires
+look_count_requires : tie.Need-look_count-requires
 look_count_requires c κs = search rules
 
-add_result : tie.Need-overflow-add-result
+add_result : tie.Need-overflow_add-result
 add_result c = let a = c.before.before in omega (arith, look_few _ _ _ c.look_count.ensures a.requires.0)
 
-returns : tie.Need-returns
-returns c = last_read _ _ _ _ c.look_count.ensures c.before.if1.true
+returns : tie.Need-returns-then-kind-eq-READS
+returns c = last_read _ _ _ _ c.look_count.ensures c.before.if-kind-eq-READS.true
 
-power_requires : tie.Need-power-requires
+power_requires : tie.Need-power-count-requires
 power_requires c κs = search rules
 
-cast_count : tie.Need-overflow-cast-count
+cast_count : tie.Need-overflow_cast-count
 cast_count c = search rules
 
-add_result_2 : tie.Need-overflow-add-result-2
-add_result_2 c = omega (arith, power_small _ _ c.power.ensures (search rules))
+add_result_2 : tie.Need-overflow_add-result-2
+add_result_2 c = omega (arith, power_small _ _ c.power-count.ensures (search rules))
 
-add_result_3 : tie.Need-overflow-add-result-3
-add_result_3 c = omega (arith, power_small _ _ c.power.ensures (search rules))
+add_result_3 : tie.Need-overflow_add-result-3
+add_result_3 c = omega (arith, power_small _ _ c.power-count.ensures (search rules))
 
-returns_2 : tie.Need-returns-2
-returns_2 c = last_write _ _ _ _ c.power.ensures c.before.if1.false
+returns_2 : tie.Need-returns
+returns_2 c = last_write _ _ _ _ c.power-count.ensures c.before.if-kind-eq-READS.false
 
 pub steps_in_all_spec : {M : Type 1} → statement M
 steps_in_all_spec =

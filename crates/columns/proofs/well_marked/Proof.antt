@@ -1,4 +1,5 @@
 -- `columns::well_marked` meets its contract. The invariant: all is well marked exactly if what is left is. Assumes nothing.
+use Rattle.std.proofs.lemmas.Bool.{not_from_false, not_from_true}
 use Rattle.std.proofs.Common.{◌≡◌, ◌-◌, ◌≤◌, length, drop, sym, refl, ◌∙◌, rules}
 use Rattle.query.specs.Encoding.{well_marked}
 use Rattle.columns.proofs.ColumnLoops.{marked_odd, marked_no, marked_on, marked_end}
@@ -39,7 +40,7 @@ is_column_requires : tie.Need-is_column-requires invariant_loop decreases_loop
 is_column_requires c κs = search rules
 
 returns_2 : tie.Need-returns-then-not-is_column invariant_loop decreases_loop
-returns_2 c = let l = c.before.before.before.before.before.before in sym (l.loop-i.invariant.1 ∙ marked_no _ l.loop-i.i (search rules) c.before.before.before.before.if-i-asked.false _ c.before.is_column.ensures c.if-not-is_column.true)
+returns_2 c = let l = c.before.before.before.before.before.before in sym (l.loop-i.invariant.1 ∙ marked_no _ l.loop-i.i (search rules) c.before.before.before.before.if-i-asked.false _ c.before.is_column.ensures (not_from_false _ c.if-not-is_column.true))
 
 add_i : tie.Need-overflow_add-i-in-loop-i invariant_loop decreases_loop
 add_i c = search rules
@@ -48,7 +49,7 @@ loop_less : tie.Need-loop-i-smaller invariant_loop decreases_loop
 loop_less c = search rules
 
 loop_again : tie.Need-loop-i-preserved invariant_loop decreases_loop
-loop_again c = let l = c.before.before.before.before.before.before in (search rules, l.loop-i.invariant.1 ∙ marked_on _ l.loop-i.i (search rules) c.before.before.before.before.if-i-asked.false _ c.before.is_column.ensures c.if-not-is_column.false)
+loop_again c = let l = c.before.before.before.before.before.before in (search rules, l.loop-i.invariant.1 ∙ marked_on _ l.loop-i.i (search rules) c.before.before.before.before.if-i-asked.false _ c.before.is_column.ensures (not_from_true _ c.if-not-is_column.false))
 
 returns_3 : tie.Need-returns invariant_loop decreases_loop
 returns_3 c = let l = c.before in sym (l.loop-i.invariant.1 ∙ marked_end c.before.before.before.args.asked.now l.loop-i.i (search rules))

@@ -1,4 +1,4 @@
--- `nodes::mark` meets its contract: a node with 12 pending writes is none that was added, so then nothing has been altered. Assumes nothing.
+-- `nodes::announce` meets its contract: a node with 12 pending writes is none that was added, so then nothing has been altered. Assumes nothing.
 use borrow.Author.Rules.{rules}
 use Rattle.nodes.proofs.NodePresent.{There, stands, announce_stuck, announce_full, announce_more}
 use Rattle.nodes.proofs.announce.Statement.{statement}
@@ -17,13 +17,12 @@ same_length : tie.Need-shape_of-nodes-in_default
 same_length c = search rules
 
 returns : tie.Need-returns-in_default
-returns c = announce_stuck _ _ _ _ c.before.before.before.before.ensure-spot.ensures c.enum_told-1.given.1
+returns c = announce_stuck _ _ _ _ c.ensure-spot.ensures c.in_default.is
 
 -- the label's node stands at the place given
-there : (c : tie.In-At) → There c.before.before.before.before.before.before.before.before.before.args.label.now c.before.before.before.before.before.before.before.before.before.args.nodes.now c.before.spot-1.given.0.0 c.before.before.before.before.before.ensure-spot.new.0
+there : (c : tie.In-At) → There c.args.label.now c.args.nodes.now c.in-At.i c.ensure-spot.new.nodes
 there c =
-    let start = c.before.before.before.before.before.before.before.before.before in
-    stands _ _ _ _ _ c.before.before.before.before.before.ensure-spot.ensures c.before.spot-1.given.1 start.requires.0 start.requires.1
+    stands _ _ _ _ _ c.ensure-spot.ensures c.in-At.is c.requires.0 c.requires.1
 
 mul_at : tie.Need-overflow_mul-at
 mul_at c = let r = there c in search rules
@@ -44,7 +43,7 @@ same_length_2 : tie.Need-shape_of-nodes-then-pending-ge-PENDING
 same_length_2 c = search rules
 
 returns_2 : tie.Need-returns-then-pending-ge-PENDING
-returns_2 c = announce_full _ _ _ _ (there c.before.before) c.before.before.before.before.before.before.before.before.before.before.before.requires.0 (search rules)
+returns_2 c = announce_full _ _ _ _ (there c.before.before) c.requires.0 (search rules)
 
 add_more : tie.Need-overflow_add-more
 add_more c = search rules
@@ -59,7 +58,7 @@ same_length_3 : tie.Need-shape_of-nodes
 same_length_3 c = search rules
 
 returns_3 : tie.Need-returns
-returns_3 c = announce_more _ _ _ _ (there c.before.before) c.before.before.before.before.before.before.before.before.before.before.before.requires.0 (search rules)
+returns_3 c = announce_more _ _ _ _ (there c.before.before) c.requires.0 (search rules)
 
 pub announce_spec : {M : Type 1} → statement M
 announce_spec =

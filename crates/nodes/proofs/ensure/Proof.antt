@@ -4,7 +4,6 @@ use mathlib.Core.Bool.{true}
 use borrow.Author.Rules.{rules}
 use Prim.Native.Nat.{◌<◌}
 use lib.ListN.{get_or}
-use borrow.Author.Tests.{not-true, not-false}
 use Rattle.nodes.specs.NodeContracts.{Fit}
 use Rattle.nodes.proofs.NodePresent.{room_fit, ensure_there, ensure_none, ensure_added}
 use Rattle.nodes.proofs.ensure.Statement.{statement}
@@ -24,7 +23,7 @@ same_length : tie.Need-shape_of-nodes-then-i-nodes
 same_length c = search rules
 
 returns : tie.Need-returns-then-i-nodes
-returns c = ensure_there _ _ _ c.before.before.find-i.ensures c.if-i-nodes.true c.before.before.before.before.before.before.requires.0
+returns c = ensure_there _ _ _ c.find-i.ensures c.if-i-nodes.true c.requires.0
 
 make_room_requires : tie.Need-make_room-requires
 make_room_requires c κs = search rules
@@ -34,33 +33,30 @@ same_length_2 c = search rules
 
 returns_2 : tie.Need-returns-then-not-make_room
 returns_2 c =
-    let made = c.before.before.before in
-    ensure_none _ _ _ made.before.before.before.before.find-i.ensures _ _ made.make_room.ensures (not-true _ c.if-not-make_room.true) made.before.before.if-i-nodes.false
+    ensure_none _ _ _ c.find-i.ensures _ _ c.make_room.ensures c.if-not-make_room.true c.if-i-nodes.false
 
 slice_read_n : tie.Need-bounds-nodes-1-2
 slice_read_n c = search rules
 
 -- room was made
-roomy : (c : tie.After-make_room) → c.make_room.result ≡ true → Fit c.make_room.new.0 × (get_or c.make_room.new.0 1 0 < max_nodes)
-roomy c h = room_fit _ _ _ c.make_room.ensures h c.before.before.before.before.before.before.before.before.requires.0
+roomy : (c : tie.After-make_room) → c.make_room.result ≡ true → Fit c.make_room.new.nodes × (get_or c.make_room.new.nodes 1 0 < max_nodes)
+roomy c h = room_fit _ _ _ c.make_room.ensures h c.requires.0
 
 cast_n : tie.Need-overflow_cast-n
-cast_n c = let r = roomy c.before.before.before.before (not-false _ c.before.if-not-make_room.false) in search rules
+cast_n c = let r = roomy c.before.before.before.before c.if-not-make_room.false in search rules
 
 add_requires : tie.Need-add-requires
 add_requires c κs =
-    let r = roomy c.before.before.before.before.before (not-false _ c.before.before.if-not-make_room.false) in
-    (r.0, (r.1, c.before.before.before.before.before.before.before.before.before.before.before.before.before.requires.1))
+    let r = roomy c.before.before.before.before.before c.if-not-make_room.false in
+    (r.0, (r.1, c.requires.1))
 
 same_length_3 : tie.Need-shape_of-nodes
 same_length_3 c = search rules
 
 returns_3 : tie.Need-returns
 returns_3 c =
-    let made = c.before.before.before.before.before.before.before.before in
-    let start = made.before.before.before.before.before.before.before.before in
-    ensure_added _ _ _ made.before.before.before.before.find-i.ensures _ _ _ made.make_room.ensures (not-false _ c.before.before.before.before.before.if-not-make_room.false) c.before.before.add.ensures
-    made.before.before.if-i-nodes.false start.requires.0 start.requires.1
+    ensure_added _ _ _ c.find-i.ensures _ _ _ c.make_room.ensures c.if-not-make_room.false c.add.ensures
+    c.if-i-nodes.false c.requires.0 c.requires.1
 
 pub ensure_spec : {M : Type 1} → statement M
 ensure_spec =

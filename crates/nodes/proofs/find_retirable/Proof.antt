@@ -1,7 +1,6 @@
 -- `nodes::find_retirable` meets its contract, at each of its ways out. Assumes nothing.
 use mathlib.Core.Path.{sym, ◌∙◌}
 use borrow.Author.Rules.{rules}
-use borrow.Author.Tests.{not-true, not-false}
 use Rattle.nodes.proofs.NodePresent.{spot_missing, spot_idle, spot_plain, spot_largest, spot_lifted}
 use Rattle.nodes.proofs.find_retirable.Statement.{statement}
 use Rattle.nodes.proofs.find_retirable.Tie as tie
@@ -31,7 +30,7 @@ returns_3 c =
     let marked = c.before in
     let counted = marked.before.before in
     let pending = sym marked.before.is_free.ensures ∙ marked.if-is_free.false in
-    spot_plain _ _ _ counted.before.before.find-i.ensures counted.if-nodes-i.false _ pending (not-true _ c.if-not-lift.true)
+    spot_plain _ _ _ counted.before.before.find-i.ensures counted.if-nodes-i.false _ pending c.if-not-lift.true
 
 mul_at : tie.Need-overflow_mul-at
 mul_at c = search rules
@@ -53,7 +52,7 @@ returns_4 c =
     let marked = c.before.before.before in
     let counted = marked.before.before in
     let pending = sym marked.before.is_free.ensures ∙ marked.if-is_free.false in
-    let lift = not-false _ c.before.before.if-not-lift.false in
+    let lift = c.before.before.if-not-lift.false in
     spot_largest _ _ _ counted.before.before.find-i.ensures counted.if-nodes-i.false _ pending lift c.if-nodes-at-ge-LARGEST_REVISION.true
 
 returns_5 : tie.Need-returns
@@ -61,7 +60,7 @@ returns_5 c =
     let marked = c.before.before.before in
     let counted = marked.before.before in
     let pending = sym marked.before.is_free.ensures ∙ marked.if-is_free.false in
-    let lift = not-false _ c.before.before.if-not-lift.false in
+    let lift = c.before.before.if-not-lift.false in
     spot_lifted _ _ _ counted.before.before.find-i.ensures counted.if-nodes-i.false _ pending lift c.if-nodes-at-ge-LARGEST_REVISION.false
 
 pub find_retirable_spec : {M : Type 1} → statement M

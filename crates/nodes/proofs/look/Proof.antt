@@ -17,13 +17,12 @@ same_length : tie.Need-shape_of-nodes-in_default
 same_length c = search rules
 
 returns : tie.Need-returns-in_default
-returns c = look_stuck _ _ _ _ c.before.before.before.before.ensure-spot.ensures c.enum_told-1.given.1
+returns c = look_stuck _ _ _ _ c.ensure-spot.ensures c.in_default.is
 
 -- the label's node stands at the place given
-there : (c : tie.In-At) → There c.before.before.before.before.before.before.before.before.before.args.label.now c.before.before.before.before.before.before.before.before.before.args.nodes.now c.before.spot-1.given.0.0 c.before.before.before.before.before.ensure-spot.new.0
+there : (c : tie.In-At) → There c.args.label.now c.args.nodes.now c.in-At.i c.ensure-spot.new.nodes
 there c =
-    let start = c.before.before.before.before.before.before.before.before.before in
-    stands _ _ _ _ _ c.before.before.before.before.before.ensure-spot.ensures c.before.spot-1.given.1 start.requires.0 start.requires.1
+    stands _ _ _ _ _ c.ensure-spot.ensures c.in-At.is c.requires.0 c.requires.1
 
 mul_at : tie.Need-overflow_mul-at
 mul_at c = let r = there c in search rules

@@ -20,7 +20,7 @@ same_length : tie.Need-shape_of-nodes-then-n-i
 same_length c = search rules
 
 returns_2 : tie.Need-returns-then-n-i
-returns_2 c = room_none _ _ c.before.find_free-i.ensures c.before.before.before.if-n-lt-NODES.false c.if-n-i.true
+returns_2 c = room_none _ _ c.before.find_free-i.ensures c.before.before.if-n-lt-NODES.false c.if-n-i.true
 
 evict_requires : tie.Need-evict-requires
 evict_requires c κs = search rules
@@ -29,7 +29,7 @@ same_length_2 : tie.Need-shape_of-nodes
 same_length_2 c = search rules
 
 returns_3 : tie.Need-returns
-returns_3 c = room_made _ _ c.before.before.before.before.before.find_free-i.ensures c.before.before.before.before.before.before.before.if-n-lt-NODES.false _ c.before.before.evict.ensures c.before.before.before.before.if-n-i.false
+returns_3 c = room_made _ _ c.before.before.before.before.before.find_free-i.ensures c.before.before.before.before.before.before.if-n-lt-NODES.false _ c.before.before.evict.ensures c.before.before.before.before.if-n-i.false
 
 pub make_room_spec : {M : Type 1} → statement M
 make_room_spec =

@@ -13,108 +13,108 @@ use Rattle.table.proofs.count.Statement.{statement}
 use Rattle.table.proofs.count.Tie as tie
 
 -- the call, where its records are lent
-abbrev start : tie.AfterRecs → tie.Start
+abbrev start : tie.After-recs-1 → tie.Start
 start c = c.before.before.before
 
 slots : (c : tie.Start) → length c.args.cols ≡ 4
 slots c = search rules
 
 -- the numbers of the table are 32-bit numbers
-words : (c : tie.AfterSharedSliceKnown) (i : ℕ) → get_or c.before.args.table.now i 0 < 4294967296
-words c i = omega (arith, c.shared_slice_known.given i)
+words : (c : tie.After-shared_slice_known-1) (i : ℕ) → get_or c.before.args.table.now i 0 < 4294967296
+words c i = omega (arith, c.shared_slice_known-1.given i)
 
-shared_slice_read_n : tie.Need-shared-slice-read-n
+shared_slice_read_n : tie.Need-bounds-table-0
 shared_slice_read_n c = search rules
 
-cast_n : tie.Need-overflow-cast-n
+cast_n : tie.Need-overflow_cast-n
 cast_n c = search rules
 
-mul_end : tie.Need-overflow-mul-end
+mul_end : tie.Need-overflow_mul-end
 mul_end c = let f = c.before.before.requires.0 in omega (arith, ends _ _ f.columns.1 f.few)
 
-add_end : tie.Need-overflow-add-end
+add_end : tie.Need-overflow_add-end
 add_end c = let f = c.before.before.requires.0 in omega (arith, ends _ _ f.columns.1 f.few)
 
-sub_recs : tie.Need-overflow-sub-recs
+sub_recs : tie.Need-slice_bounds-recs-count
 sub_recs c = search rules
 
-part_recs_start : tie.Need-slice-bounds-recs-start
+part_recs_start : tie.Need-slice_bounds-recs-start
 part_recs_start c = search rules
 
-part_recs_end : tie.Need-slice-bounds-recs-end
+part_recs_end : tie.Need-slice_bounds-recs-end
 part_recs_end c = let f = c.before.before.requires.0 in omega (arith, ends _ _ f.columns.1 f.few)
 
-enum_known_range : tie.Need-enum-known-range
+enum_known_range : tie.Need-enum_known-range
 enum_known_range c = search rules
 
-enum_told : tie.Need-enum-told
+enum_told : tie.Need-enum_told-1
 enum_told c = search rules
 
-mask_words_requires : tie.Need-mask-words-requires
+mask_words_requires : tie.Need-mask_words-query-requires
 mask_words_requires c κs = search rules
 
-slice_aggregate_count_plain : tie.Need-slice-aggregate-count-plain
+slice_aggregate_count_plain : tie.Need-slice_bounds-count_plain-end
 slice_aggregate_count_plain c = search rules
 
-count_plain_requires : tie.Need-count-plain-requires
+count_plain_requires : tie.Need-count_plain-requires
 count_plain_requires c κs =
     let m = c.before in
     let s = start m.before.before.before in
     let f = s.pre.0 in
-    (records_stretch _ _ f, is_plain _ _ _ m.mask_words.ensures (slots s) f.columns.1)
+    (records_stretch _ _ f, is_plain _ _ _ m.mask_words-query.ensures (slots s) f.columns.1)
 
-cast_result : tie.Need-overflow-cast-result
+cast_result : tie.Need-overflow_cast-result
 cast_result c = search rules
 
-returns : tie.Need-returns
+returns : tie.Need-returns-in_default
 returns c =
     let m = c.before.before in
     let s = start m.before.before.before in
     let f = s.pre.0 in
     let a = s.args in
-    let k = kept_plain a.k a.table.now a.cols _ f m.mask_words.ensures (slots s) a.range m.before.enum_told.given.1 in
+    let k = kept_plain a.k a.table.now a.cols _ f m.mask_words-query.ensures (slots s) a.range m.before.enum_told-1.given.1 in
     counted _ _ f _ _ _ k _ c.count_plain.ensures
 
 -- where there is a range: the call, and its highest end
-abbrev ranged : tie.AfterKnownTold → tie.Start
+abbrev ranged : tie.In-Between → tie.Start
 ranged c = start c.before.before.before
 
-abbrev highest : tie.AfterKnownTold → ℕ
-highest c = c.before.range.given.0.1.1.0
+abbrev highest : tie.In-Between → ℕ
+highest c = c.before.range-1.given.0.1.1.0
 
-finds_none_requires : tie.Need-finds-none-requires
+finds_none_requires : tie.Need-finds_none-requires
 finds_none_requires c κs = search rules
 
 -- nothing is to be found
-returns_2 : tie.Need-returns-2
-returns_2 c = none_counted _ _ _ _ _ c.before.before.before.range.given.1 (sym c.before.finds_none.ensures ∙ c.if1.true) _
+returns_2 : tie.Need-returns-then-finds_none
+returns_2 c = none_counted _ _ _ _ _ c.before.before.before.range-1.given.1 (sym c.before.finds_none.ensures ∙ c.if-finds_none.true) _
 
 -- something may be
-some : (c : tie.Else1) → (let t = c.before.before in finds_none (take (ranged t).args.k (ranged t).args.cols) (highest t) ≡ false)
-some c = sym c.before.finds_none.ensures ∙ c.if1.false
+some : (c : tie.Else-finds_none) → (let t = c.before.before in finds_none (take (ranged t).args.k (ranged t).args.cols) (highest t) ≡ false)
+some c = sym c.before.finds_none.ensures ∙ c.if-finds_none.false
 
-bound_words_requires : tie.Need-bound-words-requires
+bound_words_requires : tie.Need-bound_words-query-requires
 bound_words_requires c κs =
     let t = c.before.before in
     let f = (ranged t).requires in
-    let e = t.before.range.given.1 in
+    let e = t.before.range-1.given.1 in
     (f.0.columns.1, (omega (arith, column_in _ _ _ _ _ _ e f.1, f.0.columns.1), (ends_ordered _ _ _ _ _ _ e f.1, (finds_some _ _ (some c)).1)))
 
-slice_aggregate_count_ranged : tie.Need-slice-aggregate-count-ranged
+slice_aggregate_count_ranged : tie.Need-slice_bounds-count_ranged-end
 slice_aggregate_count_ranged c = search rules
 
-count_ranged_requires : tie.Need-count-ranged-requires
+count_ranged_requires : tie.Need-count_ranged-requires
 count_ranged_requires c κs =
     let b = c.before in
     let t = b.before.before.before in
     let s = ranged t in
     let f = s.pre in
-    (records_stretch _ _ f.0, is_bounded _ _ _ _ _ _ t.before.range.given.1 f.1 _ b.bound_words.ensures.0 (slots s) f.0.columns.1)
+    (records_stretch _ _ f.0, is_bounded _ _ _ _ _ _ t.before.range-1.given.1 f.1 _ b.bound_words-query.ensures.0 (slots s) f.0.columns.1)
 
-cast_result_2 : tie.Need-overflow-cast-result-2
+cast_result_2 : tie.Need-overflow_cast-result-2
 cast_result_2 c = search rules
 
-returns_3 : tie.Need-returns-3
+returns_3 : tie.Need-returns
 returns_3 c =
     let b = c.before.before in
     let t = b.before.before.before in
@@ -122,8 +122,8 @@ returns_3 c =
     let f = s.pre in
     let a = s.args in
     let k =
-    kept_ranged a.k a.cols a.range _ _ _ t.before.range.given.1 f.1 _ b.bound_words.ensures.0 (slots s) f.0.columns.1
-    a.table.now f.0 b.bound_words.ensures.1 (search rules) (some b.before) (words t.before.before.before.before.before) in
+    kept_ranged a.k a.cols a.range _ _ _ t.before.range-1.given.1 f.1 _ b.bound_words-query.ensures.0 (slots s) f.0.columns.1
+    a.table.now f.0 b.bound_words-query.ensures.1 (search rules) (some b.before) (words t.before.before.before.before.before) in
     counted _ _ f.0 _ _ _ k _ c.count_ranged.ensures
 
 pub count_spec : {M : Type 1} → statement M

@@ -12,49 +12,49 @@ use Rattle.table.proofs.insert.Statement.{statement}
 use Rattle.table.proofs.insert.Tie as tie
 
 -- the spot that the scan gave is a place of the table
-spot_le : (c : tie.AfterSpot) → c.spot.given.0.0 ≤ get_or c.before.before.before.before.before.before.args.table.now 0 0
-spot_le c = spot_in _ _ c.before.before.before.before.before.before.requires _ c.before.before.seek.ensures _ c.spot.given.1
+spot_le : (c : tie.In-At-2) → c.spot-1.given.0.0 ≤ get_or c.before.before.before.before.before.before.args.table.now 0 0
+spot_le c = spot_in _ _ c.before.before.before.before.before.before.requires _ c.before.before.seek-spot.ensures _ c.spot-1.given.1
 
-spot_ends : (c : tie.AfterSpot) → 8 + c.spot.given.0.0 * length c.before.before.before.before.before.before.args.rec.now ≤ table_least
+spot_ends : (c : tie.In-At-2) → 8 + c.spot-1.given.0.0 * length c.before.before.before.before.before.before.args.rec.now ≤ table_least
 spot_ends c = scan_end _ _ _ _ c.before.before.before.before.before.before.requires (spot_le c) refl
 
-seek_requires : tie.Need-seek-requires
+seek_requires : tie.Need-seek-spot-requires
 seek_requires c κs = search rules
 
-enum_known_spot : tie.Need-enum-known-spot
+enum_known_spot : tie.Need-enum_known-spot
 enum_known_spot c = search rules
 
-enum_told : tie.Need-enum-told
+enum_told : tie.Need-enum_told-1
 enum_told c = search rules
 
-same_length : tie.Need-same-length
+same_length : tie.Need-shape_of-table-in_default
 same_length c = search rules
 
-returns : tie.Need-returns
-returns c = insert_there _ _ c.before.before.before.before.before.before.requires _ c.before.before.seek.ensures c.enum_told.given.1
+returns : tie.Need-returns-in_default
+returns c = insert_there _ _ c.before.before.before.before.before.before.requires _ c.before.before.seek-spot.ensures c.enum_told-1.given.1
 
-slice_read_n : tie.Need-slice-read-n
+slice_read_n : tie.Need-bounds-table-0
 slice_read_n c = search rules
 
-cast_n : tie.Need-overflow-cast-n
+cast_n : tie.Need-overflow_cast-n
 cast_n c = search rules
 
-same_length_2 : tie.Need-same-length-2
+same_length_2 : tie.Need-shape_of-table-then-n-ge-RECORDS
 same_length_2 c = search rules
 
-returns_2 : tie.Need-returns-2
-returns_2 c = let p = c.before.before.before in insert_full _ _ p.before.before.before.before.before.before.requires _ p.before.before.seek.ensures _ p.spot.given.1 c.if1.true
+returns_2 : tie.Need-returns-then-n-ge-RECORDS
+returns_2 c = let p = c.before.before.before in insert_full _ _ p.before.before.before.before.before.before.requires _ p.before.before.seek-spot.ensures _ p.spot-1.given.1 c.if-n-ge-RECORDS.true
 
-mul_at : tie.Need-overflow-mul-at
+mul_at : tie.Need-overflow_mul-at
 mul_at c = omega (arith, spot_ends c.before.before.before)
 
-add_at : tie.Need-overflow-add-at
+add_at : tie.Need-overflow_add-at
 add_at c = omega (arith, spot_ends c.before.before.before)
 
-mul_e : tie.Need-overflow-mul-e
+mul_e : tie.Need-overflow_mul-e
 mul_e c = omega (arith, in_use _ _ c.before.before.before.before.before.before.before.before.before.requires)
 
-add_e : tie.Need-overflow-add-e
+add_e : tie.Need-overflow_add-e
 add_e c = omega (arith, in_use _ _ c.before.before.before.before.before.before.before.before.before.requires)
 
 insert_requires : tie.Need-insert-requires
@@ -63,22 +63,22 @@ insert_requires c κs =
     let a = p.before.before.before.before.before.before in
     (omega (arith, mul-le-mul_right (length a.args.rec.now) (spot_le p)), omega (arith, room_for _ _ a.requires (search rules)))
 
-add_table : tie.Need-overflow-add-table
+add_table : tie.Need-overflow_add-table
 add_table c = search rules
 
-cast_table : tie.Need-overflow-cast-table
+cast_table : tie.Need-overflow_cast-table
 cast_table c = search rules
 
-slice_write_table : tie.Need-slice-write-table
+slice_write_table : tie.Need-bounds-table-0-2
 slice_write_table c = search rules
 
-same_length_3 : tie.Need-same-length-3
+same_length_3 : tie.Need-shape_of-table
 same_length_3 c = search rules
 
-returns_3 : tie.Need-returns-3
+returns_3 : tie.Need-returns
 returns_3 c =
     let p = c.before.before.before.before.before.before.before in
-    insert_added _ _ p.before.before.before.before.before.before.requires _ p.before.before.seek.ensures _ p.spot.given.1 _ c.before.before.before.before.if1.false c.before.before.insert.ensures
+    insert_added _ _ p.before.before.before.before.before.before.requires _ p.before.before.seek-spot.ensures _ p.spot-1.given.1 _ c.before.before.before.before.if-n-ge-RECORDS.false c.before.before.insert.ensures
 
 pub insert_spec : {M : Type 1} → statement M
 insert_spec =

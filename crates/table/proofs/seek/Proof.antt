@@ -13,85 +13,85 @@ use Rattle.table.proofs.Seeking.{Seeking, seek_none, turn_behind, turn_past, tur
 use Rattle.table.proofs.seek.Statement.{statement}
 use Rattle.table.proofs.seek.Tie as tie
 
-abbrev invariant_loop : tie.invariant_loop
+abbrev invariant_loop : tie.invariant-loop-i
 invariant_loop table rec k n i₀ at₀ spot₀ i at spot = Seeking rec (records_in k table) k n i at spot
 
-abbrev decreases_loop : tie.decreases_loop
+abbrev decreases_loop : tie.decreases-loop-i
 decreases_loop table rec k n i₀ at₀ spot₀ i at spot = n - i
 
-shared_slice_read_n : tie.Need-shared-slice-read-n invariant_loop decreases_loop
+shared_slice_read_n : tie.Need-bounds-table-0 invariant_loop decreases_loop
 shared_slice_read_n c = search rules
 
-cast_n : tie.Need-overflow-cast-n invariant_loop decreases_loop
+cast_n : tie.Need-overflow_cast-n invariant_loop decreases_loop
 cast_n c = search rules
 
 -- the record that the scan stands at ends inside the memory
-room : (c : tie.InLoop invariant_loop decreases_loop) → c.before.loop.at + length c.before.before.before.before.before.args.rec.now ≤ table_least
-room c = scan_in _ _ _ _ c.before.before.before.before.before.requires c.loop_test.true c.before.loop.invariant.at_is
+room : (c : tie.In-loop-i invariant_loop decreases_loop) → c.before.loop-i.at + length c.before.before.before.before.before.args.rec.now ≤ table_least
+room c = scan_in _ _ _ _ c.before.before.before.before.before.requires c.loop-i-test.true c.before.loop-i.invariant.at_is
 
-loop_holds : tie.Need-loop-init invariant_loop decreases_loop
+loop_holds : tie.Need-loop-i-init invariant_loop decreases_loop
 loop_holds c = seek_none _ _ _ _
 
-add_e : tie.Need-overflow-add-e invariant_loop decreases_loop
+add_e : tie.Need-overflow_add-e invariant_loop decreases_loop
 add_e c = omega (arith, room c)
 
-mul_compare : tie.Need-overflow-mul-compare invariant_loop decreases_loop
+mul_compare : tie.Need-offset_bounds-table-at invariant_loop decreases_loop
 mul_compare c = omega (arith, room c)
 
-sub_compare : tie.Need-overflow-sub-compare invariant_loop decreases_loop
+sub_compare : tie.Need-slice_bounds-compare-count invariant_loop decreases_loop
 sub_compare c = search rules
 
-part_compare_start : tie.Need-slice-bounds-compare-start invariant_loop decreases_loop
+part_compare_start : tie.Need-slice_bounds-compare-start invariant_loop decreases_loop
 part_compare_start c = search rules
 
-part_compare_end : tie.Need-slice-bounds-compare-end invariant_loop decreases_loop
+part_compare_end : tie.Need-slice_bounds-compare-end invariant_loop decreases_loop
 part_compare_end c = omega (arith, room c)
 
 compare_requires : tie.Need-compare-requires invariant_loop decreases_loop
 compare_requires c κs = search rules
 
-enum_told : tie.Need-enum-told invariant_loop decreases_loop
+enum_told : tie.Need-enum_told-1 invariant_loop decreases_loop
 enum_told c = search rules
 
-returns : tie.Need-returns invariant_loop decreases_loop
+returns : tie.Need-returns-in-Same invariant_loop decreases_loop
 returns c =
     let l = c.before.before.before.before.before in
     let a = l.before.before.before.before in
-    let h = c.before.before.before.before.loop_test.true in
-    seek_there _ _ _ _ _ _ _ l.loop.invariant h (length_records _ _) _
-    (part_is _ _ _ _ _ a.requires h l.loop.invariant.at_is refl) (part_long _ _ _ _ _ a.requires h l.loop.invariant.at_is refl)
-    (sym c.before.before.compare.ensures ∙ c.enum_told.given.1)
+    let h = c.before.before.before.before.loop-i-test.true in
+    seek_there _ _ _ _ _ _ _ l.loop-i.invariant h (length_records _ _) _
+    (part_is _ _ _ _ _ a.requires h l.loop-i.invariant.at_is refl) (part_long _ _ _ _ _ a.requires h l.loop-i.invariant.at_is refl)
+    (sym c.before.before.compare.ensures ∙ c.enum_told-1.given.1)
 
-enum_told_2 : tie.Need-enum-told-2 invariant_loop decreases_loop
+enum_told_2 : tie.Need-enum_told-in-Before invariant_loop decreases_loop
 enum_told_2 c = search rules
 
-add_spot : tie.Need-overflow-add-spot invariant_loop decreases_loop
+add_spot : tie.Need-overflow_add-spot invariant_loop decreases_loop
 add_spot c = search rules
 
-enum_told_3 : tie.Need-enum-told-3 invariant_loop decreases_loop
+enum_told_3 : tie.Need-enum_told-in-After invariant_loop decreases_loop
 enum_told_3 c = search rules
 
-add_i : tie.Need-overflow-add-i invariant_loop decreases_loop
+add_i : tie.Need-overflow_add-i invariant_loop decreases_loop
 add_i c = search rules
 
-loop_less : tie.Need-loop-smaller invariant_loop decreases_loop
+loop_less : tie.Need-loop-i-smaller invariant_loop decreases_loop
 loop_less c = search rules
 
-loop_again : tie.Need-loop-preserved invariant_loop decreases_loop
+loop_again : tie.Need-loop-i-preserved invariant_loop decreases_loop
 loop_again c =
     let l = c.before.before.before.before in
     let a = l.before.before.before.before in
-    let h = c.before.before.before.loop_test.true in
-    let p = part_is _ _ _ _ _ a.requires h l.loop.invariant.at_is refl in
-    let w = part_long _ _ _ _ _ a.requires h l.loop.invariant.at_is refl in
+    let h = c.before.before.before.loop-i-test.true in
+    let p = part_is _ _ _ _ _ a.requires h l.loop-i.invariant.at_is refl in
+    let w = part_long _ _ _ _ _ a.requires h l.loop-i.invariant.at_is refl in
     let o = sym c.before.compare.ensures in
-    ⊎_elim (λ x. turn_behind _ _ _ _ _ _ _ l.loop.invariant h (length_records _ _) _ p w _ (o ∙ x.1.given.1) x.2.taken x.3)
-    (⊎_elim (λ x. turn_past _ _ _ _ _ _ _ l.loop.invariant h (length_records _ _) _ p w _ (o ∙ x.1.given.1) x.2.left x.3)
-    (λ x. turn_greater _ _ _ _ _ _ _ l.loop.invariant h (length_records _ _) _ p w _ (o ∙ x.1.given.1) x.2))
+    ⊎_elim (λ x. turn_behind _ _ _ _ _ _ _ l.loop-i.invariant h (length_records _ _) _ p w _ (o ∙ x.1.given.1) x.2.taken x.3)
+    (⊎_elim (λ x. turn_past _ _ _ _ _ _ _ l.loop-i.invariant h (length_records _ _) _ p w _ (o ∙ x.1.given.1) x.2.left x.3)
+    (λ x. turn_greater _ _ _ _ _ _ _ l.loop-i.invariant h (length_records _ _) _ p w _ (o ∙ x.1.given.1) x.2))
     c.match.branch
 
-returns_2 : tie.Need-returns-2 invariant_loop decreases_loop
-returns_2 c = seek_all _ _ _ _ _ _ _ c.before.loop.invariant c.loop_test.false (length_records _ _)
+returns_2 : tie.Need-returns invariant_loop decreases_loop
+returns_2 c = seek_all _ _ _ _ _ _ _ c.before.loop-i.invariant c.loop-i-test.false (length_records _ _)
 
 pub seek_spec : {M : Type 1} → statement M
 seek_spec =

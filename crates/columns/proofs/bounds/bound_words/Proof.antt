@@ -73,10 +73,10 @@ loop_again c =
     let v = c.before.before.before in
     let l = v.before.before.before in
     let a = l.before.before.before.args in (
-      fill_on shift _ a.t1 a.k l.loop-i.i _ l.loop-i.invariant.0 _ _ (c.before.before.shift_of-least.ensures.0 ∙ ap shift_of v.value_of.ensures) (search rules) (search rules) (search rules),
+      fill_on shift _ a.cols a.k l.loop-i.i _ l.loop-i.invariant.0 _ _ (c.before.before.shift_of.ensures.0 ∙ ap shift_of v.value_of.ensures) (search rules) (search rules) (search rules),
       (
-        fill_on limit _ a.t1 a.k l.loop-i.i _ l.loop-i.invariant.1.0 _ _ (c.limit_of-all.ensures ∙ ap limit_of c.before.width_of_lem.ensures) (search rules) (search rules) (search rules),
-        (search rules, words_more a.t1 a.k l.loop-i.i _ _ l.loop-i.invariant.1.1.1 v.value_of.ensures c.before.before.shift_of-least.ensures.1 (search rules) (search rules)),
+        fill_on limit _ a.cols a.k l.loop-i.i _ l.loop-i.invariant.1.0 _ _ (c.limit_of.ensures ∙ ap limit_of c.before.width_of.ensures) (search rules) (search rules) (search rules),
+        (search rules, words_more a.cols a.k l.loop-i.i _ _ l.loop-i.invariant.1.1.1 v.value_of.ensures c.before.before.shift_of.ensures.1 (search rules) (search rules)),
       ),
     )
 
@@ -139,12 +139,12 @@ returns c =
     let l = e.before.loop-i in
     let p = e.before.before in
     let a = p.before.before.args in
-    let n : length (take a.k a.t1) ≡ a.k = length-take-le a.k a.t1 (search rules) in
+    let n : length (take a.k a.cols) ≡ a.k = length-take-le a.k a.cols (search rules) in
     let i : l.i ≡ a.k = (let y = e.loop-i-test.false in let z = l.invariant.1.1.0 in omega arith) in (
       rw (c.before.shift_of-2.ensures.0, c.limit_of-2.ensures)
-          (bounds_made (take a.k a.t1) l.shifts l.limits _ _ _ _ (omega arith)
-          (fill_end shift _ a.t1 a.k l.i _ l.invariant.0 (sym p.before.ShiftOf.ensures.0) e.loop-i-test.false)
-          (fill_end limit _ a.t1 a.k l.i _ l.invariant.1.0 (sym p.limit_of-all.ensures) e.loop-i-test.false)
+          (bounds_made (take a.k a.cols) l.shifts l.limits _ _ _ _ (omega arith)
+          (fill_end shift _ a.cols a.k l.i _ l.invariant.0 (sym p.before.shift_of-least.ensures.0) e.loop-i-test.false)
+          (fill_end limit _ a.cols a.k l.i _ l.invariant.1.0 (sym p.limit_of-all.ensures) e.loop-i-test.false)
           f.first_of-first.ensures),
       λ j h. l.invariant.1.1.1 j (omega arith),
     )

@@ -35,12 +35,12 @@ loop_again : tie.Need-loop-i-preserved invariant_loop decreases_loop
 loop_again c =
     let l = c.before.before.before in
     let a = l.before.args in
-    l.loop-i.invariant ∙ none_on a.t1 a.k l.loop-i.i l.loop-i.none _ _ c.names_zero-none.ensures (search rules) (search rules)
+    l.loop-i.invariant ∙ none_on a.cols a.k l.loop-i.i l.loop-i.none _ _ c.names_zero-none.ensures (search rules) (search rules)
 
 returns : tie.Need-returns invariant_loop decreases_loop
 returns c =
     let a = c.before.before.args in
-    sym (c.before.loop-i.invariant ∙ none_end a.t1 a.k c.before.loop-i.i c.before.loop-i.none c.loop-i-test.false)
+    sym (c.before.loop-i.invariant ∙ none_end a.cols a.k c.before.loop-i.i c.before.loop-i.none c.loop-i-test.false)
 
 pub finds_none_spec : {M : Type 1} → statement M
 finds_none_spec =

@@ -41,7 +41,7 @@ loop_less : tie.Need-loop-i-smaller invariant_loop decreases_loop
 loop_less c = search rules
 
 loop_again : tie.Need-loop-i-preserved invariant_loop decreases_loop
-loop_again c = let l = c.before.before.before in (search rules, keying_more _ l.before.before.args.t1 l.before.before.args.k l.loop-i.i _ _ l.loop-i.invariant.1 c.value_of-v.ensures (search rules) (search rules) (search rules))
+loop_again c = let l = c.before.before.before in (search rules, keying_more _ l.before.before.args.cols l.before.before.args.k l.loop-i.i _ _ l.loop-i.invariant.1 c.value_of-v.ensures (search rules) (search rules) (search rules))
 
 returns : tie.Need-returns invariant_loop decreases_loop
 returns c = let l = c.before in keying_all _ l.before.before.args.k l.loop-i.i _ l.loop-i.invariant.1 (search rules)

@@ -12,7 +12,7 @@ abbrev decreases_loop : tie.decreases-loop-i
 decreases_loop k cols marks₀ i₀ marks i = i
 
 loop_holds : tie.Need-loop-i-init invariant_loop decreases_loop
-loop_holds c = (search rules, (search rules, marks_none c.args.t1 c.args.k))
+loop_holds c = (search rules, (search rules, marks_none c.args.cols c.args.k))
 
 sub_i : tie.Need-overflow_sub-i invariant_loop decreases_loop
 sub_i c = search rules
@@ -38,8 +38,8 @@ loop_less c = search rules
 loop_again : tie.Need-loop-i-preserved invariant_loop decreases_loop
 loop_again c = let l = c.before.before.before in
     let a = l.before.args in
-    let e = marks_more _ a.t1 a.k l.loop-i.i (search rules) (search rules) (search rules) _ _ l.loop-i.invariant.1.1 c.mark_of-mark.ensures in
-    (search rules, (omega (arith, marks_four a.k (l.loop-i.i - 1) a.t1 (search rules)), e))
+    let e = marks_more _ a.cols a.k l.loop-i.i (search rules) (search rules) (search rules) _ _ l.loop-i.invariant.1.1 c.mark_of-mark.ensures in
+    (search rules, (omega (arith, marks_four a.k (l.loop-i.i - 1) a.cols (search rules)), e))
 
 returns : tie.Need-returns invariant_loop decreases_loop
 returns c = let l = c.before in down_all Encoding.marks _ l.loop-i.i _ l.loop-i.invariant.1.1 (search rules)

@@ -1,4 +1,5 @@
 -- `columns::keys::zero_under` meets its contract. The invariant: it holds of all exactly if it does of what is left. Assumes nothing.
+use Rattle.std.proofs.lemmas.Bool.{not_from_false, not_from_true}
 use Rattle.std.proofs.Common.{◌≡◌, ◌-◌, ◌≤◌, length, drop, sym, refl, ◌∙◌, rules}
 use Rattle.columns.specs.KeyContracts.{zero_under}
 use Rattle.columns.proofs.KeyLoops.{under_no, under_on, under_end}
@@ -24,7 +25,7 @@ keeps_requires : tie.Need-keeps-requires invariant_loop decreases_loop
 keeps_requires c κs = search rules
 
 returns : tie.Need-returns-then-not-keeps invariant_loop decreases_loop
-returns c = let l = c.before.before.before.before in sym (l.loop-i.invariant.1 ∙ under_no _ l.loop-i.left l.loop-i.i (search rules) _ c.before.keeps.ensures c.if-not-keeps.true)
+returns c = let l = c.before.before.before.before in sym (l.loop-i.invariant.1 ∙ under_no _ l.loop-i.left l.loop-i.i (search rules) _ c.before.keeps.ensures (not_from_false _ c.if-not-keeps.true))
 
 add_i : tie.Need-overflow_add-i invariant_loop decreases_loop
 add_i c = search rules
@@ -33,7 +34,7 @@ loop_less : tie.Need-loop-i-smaller invariant_loop decreases_loop
 loop_less c = search rules
 
 loop_again : tie.Need-loop-i-preserved invariant_loop decreases_loop
-loop_again c = let l = c.before.before.before.before in (search rules, l.loop-i.invariant.1 ∙ under_on _ l.loop-i.left l.loop-i.i (search rules) _ c.before.keeps.ensures c.if-not-keeps.false)
+loop_again c = let l = c.before.before.before.before in (search rules, l.loop-i.invariant.1 ∙ under_on _ l.loop-i.left l.loop-i.i (search rules) _ c.before.keeps.ensures (not_from_true _ c.if-not-keeps.false))
 
 returns_2 : tie.Need-returns invariant_loop decreases_loop
 returns_2 c = let l = c.before in sym (l.loop-i.invariant.1 ∙ under_end c.before.before.before.args.values.now l.loop-i.left l.loop-i.i (search rules))

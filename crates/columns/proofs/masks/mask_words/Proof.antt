@@ -48,7 +48,7 @@ loop_less c = search rules
 loop_again : tie.Need-loop-i-preserved invariant_loop decreases_loop
 loop_again c =
     let l = c.before.before.before.before in
-    let q = l.before.args.t1 in
+    let q = l.before.args.cols in
     let k = l.before.args.k in (
       fill_on mask_of 0 q k l.loop-i.i _ l.loop-i.invariant.0 _ _ c.before.mask_of.ensures (search rules) (search rules) (search rules),
       fill_on sought_of 0 q k l.loop-i.i _ l.loop-i.invariant.1 _ _ c.sought_of.ensures (search rules) (search rules) (search rules),
@@ -82,7 +82,7 @@ returns : tie.Need-returns invariant_loop decreases_loop
 unfolding mask_of sought_of
 returns c =
     let l = c.before.loop-i in
-    let q = c.before.before.args.t1 in
+    let q = c.before.before.args.cols in
     let k = c.before.before.args.k in
     let n : length (take k q) ≡ k = length-take-le k q (search rules) in
     made_of (take k q) l.masks l.values (omega arith)

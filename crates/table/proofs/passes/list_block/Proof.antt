@@ -12,100 +12,100 @@ use Rattle.table.proofs.Listing.{Listed, listed_none, list_end, list_found, list
 use Rattle.table.proofs.passes.list_block.Statement.{statement}
 use Rattle.table.proofs.passes.list_block.Tie as tie
 
-abbrev invariant_loop : tie.invariant_loop
+abbrev invariant_loop : tie.invariant-loop-at
 invariant_loop recs k ranged query out₀ had j₀ to₀ at₀ out j to at = Passing k recs at (Listed (test_of ranged k query) k recs out₀ had out j to)
 
-abbrev decreases_loop : tie.decreases_loop
+abbrev decreases_loop : tie.decreases-loop-at
 decreases_loop recs k ranged query out₀ had j₀ to₀ at₀ out j to at = length recs - at
 
 -- the call where the loop stands
-abbrev start : tie.AtLoop invariant_loop decreases_loop → tie.Start invariant_loop decreases_loop
+abbrev start : tie.At-loop-at invariant_loop decreases_loop → tie.Start invariant_loop decreases_loop
 start c = c.before.before.before.before
 
-abbrev at_loop : tie.Joined1 invariant_loop decreases_loop → tie.AtLoop invariant_loop decreases_loop
+abbrev at_loop : tie.Joined-fits invariant_loop decreases_loop → tie.At-loop-at invariant_loop decreases_loop
 at_loop c = c.before.before.before.before
 
-room : (c : tie.InLoop invariant_loop decreases_loop) → c.before.loop.at + (start c.before).args.k ≤ length (start c.before).args.recs.now
-room c = pass_room _ _ _ _ c.before.loop.invariant (start c.before).pre.0 c.loop_test.true
+room : (c : tie.In-loop-at invariant_loop decreases_loop) → c.before.loop-at.at + (start c.before).args.k ≤ length (start c.before).args.recs.now
+room c = pass_room _ _ _ _ c.before.loop-at.invariant (start c.before).pre.0 c.loop-at-test.true
 
-mul_to : tie.Need-overflow-mul-to invariant_loop decreases_loop
+mul_to : tie.Need-overflow_mul-to invariant_loop decreases_loop
 mul_to c =
     let f = c.before.before.before.requires in
     omega (arith, list_wide _ _ f.1.1.0 f.0.columns.1)
 
-loop_holds : tie.Need-loop-init invariant_loop decreases_loop
+loop_holds : tie.Need-loop-at-init invariant_loop decreases_loop
 loop_holds c = pass_start _ _ _ (listed_none _ _ _ _ _ c.before.before.before.requires.1.1.0)
 
-add_e : tie.Need-overflow-add-e invariant_loop decreases_loop
+add_e : tie.Need-overflow_add-e invariant_loop decreases_loop
 add_e c = search rules
 
-mul_rec : tie.Need-overflow-mul-rec invariant_loop decreases_loop
+mul_rec : tie.Need-offset_bounds-recs-at invariant_loop decreases_loop
 mul_rec c = search rules
 
-sub_rec : tie.Need-overflow-sub-rec invariant_loop decreases_loop
+sub_rec : tie.Need-slice_bounds-rec-count invariant_loop decreases_loop
 sub_rec c = search rules
 
-part_rec_start : tie.Need-slice-bounds-rec-start invariant_loop decreases_loop
+part_rec_start : tie.Need-slice_bounds-rec-start invariant_loop decreases_loop
 part_rec_start c = search rules
 
-part_rec_end : tie.Need-slice-bounds-rec-end invariant_loop decreases_loop
+part_rec_end : tie.Need-slice_bounds-rec-end invariant_loop decreases_loop
 part_rec_end c = omega (arith, room c)
 
-test_requires : tie.Need-test-requires invariant_loop decreases_loop
+test_requires : tie.Need-test-fits-requires invariant_loop decreases_loop
 test_requires c κs = search rules
 
-add_result : tie.Need-overflow-add-result invariant_loop decreases_loop
+add_result : tie.Need-overflow_add-result invariant_loop decreases_loop
 add_result c = search rules
 
-same_length : tie.Need-same-length invariant_loop decreases_loop
+same_length : tie.Need-shape_of-out-then-j-eq-LIST invariant_loop decreases_loop
 same_length c = search rules
 
-returns : tie.Need-returns invariant_loop decreases_loop
+returns : tie.Need-returns-then-j-eq-LIST invariant_loop decreases_loop
 returns c =
     let l = c.before.before.before.before.before in
-    let f = list_full _ _ _ _ _ _ _ _ _ _ (start l).requires.0 c.before.before.before.before.loop_test.true _ l.loop.invariant c.before.before.test.ensures c.before.if1.true c.if2.true in
+    let f = list_full _ _ _ _ _ _ _ _ _ _ (start l).requires.0 c.before.before.before.before.loop-at-test.true _ l.loop-at.invariant c.before.before.test-fits.ensures c.before.if-fits.true c.if-j-eq-LIST.true in
     ((λ n e. (f n e).0), (λ n e. (f n e).1))
 
 write_requires : tie.Need-write-requires invariant_loop decreases_loop
 write_requires c κs =
     let i = c.before.before.before.before.before in
-    list_room_law _ _ _ _ _ _ _ _ _ _ (start i.before).pre.0 i.loop_test.true _ i.before.loop.invariant c.before.before.before.test.ensures c.before.if2.false (start i.before).pre.1.1.1
+    list_room_law _ _ _ _ _ _ _ _ _ _ (start i.before).pre.0 i.loop-at-test.true _ i.before.loop-at.invariant c.before.before.before.test-fits.ensures c.before.if-j-eq-LIST.false (start i.before).pre.1.1.1
 
-cast_more : tie.Need-overflow-cast-more invariant_loop decreases_loop
+cast_more : tie.Need-overflow_cast-more invariant_loop decreases_loop
 cast_more c = search rules
 
-add_j : tie.Need-overflow-add-j invariant_loop decreases_loop
-add_j c = omega (arith, bit_most c.before.test.result, (at_loop c).loop.invariant.holds.few)
+add_j : tie.Need-overflow_add-j invariant_loop decreases_loop
+add_j c = omega (arith, bit_most c.before.test-fits.result, (at_loop c).loop-at.invariant.holds.few)
 
-mul_to_2 : tie.Need-overflow-mul-to-2 invariant_loop decreases_loop
-mul_to_2 c = omega (arith, bit_wide c.before.test.result (start (at_loop c)).args.k, (start (at_loop c)).pre.0.columns.1)
+mul_to_2 : tie.Need-overflow_mul-to-in-loop-at invariant_loop decreases_loop
+mul_to_2 c = omega (arith, bit_wide c.before.test-fits.result (start (at_loop c)).args.k, (start (at_loop c)).pre.0.columns.1)
 
-add_to : tie.Need-overflow-add-to invariant_loop decreases_loop
+add_to : tie.Need-overflow_add-to invariant_loop decreases_loop
 add_to c =
     let l = at_loop c in
     let f = (start l).pre.0.columns in
-    omega (arith, bit_wide c.before.test.result (start l).args.k, f.1, l.loop.inv.holds.to_is, list_wide _ _ l.loop.inv.holds.few f.1)
+    omega (arith, bit_wide c.before.test-fits.result (start l).args.k, f.1, l.loop-at.inv.holds.to_is, list_wide _ _ l.loop-at.inv.holds.few f.1)
 
-loop_less : tie.Need-loop-smaller invariant_loop decreases_loop
+loop_less : tie.Need-loop-at-smaller invariant_loop decreases_loop
 loop_less c = search rules
 
-loop_again : tie.Need-loop-preserved invariant_loop decreases_loop
+loop_again : tie.Need-loop-at-preserved invariant_loop decreases_loop
 loop_again c =
     let l = at_loop c in
     let f = (start l).pre in
-    let h = c.before.before.before.loop_test.true in
+    let h = c.before.before.before.loop-at-test.true in
     ⊎_elim
-    (λ w. list_found _ _ _ _ _ _ _ _ _ _ f.0 h _ l.loop.inv c.before.test.ensures w.0.taken w.1.left f.1.1.1 _ (w.6 ∙ w.3.ensures))
-    (λ w. list_other _ _ _ _ _ _ _ _ _ _ f.0 h _ l.loop.inv c.before.test.ensures w.0.left _ w.1)
-    c.if1.branch
+    (λ w. list_found _ _ _ _ _ _ _ _ _ _ f.0 h _ l.loop-at.inv c.before.test-fits.ensures w.0.taken w.1.left f.1.1.1 _ (w.6 ∙ w.3.ensures))
+    (λ w. list_other _ _ _ _ _ _ _ _ _ _ f.0 h _ l.loop-at.inv c.before.test-fits.ensures w.0.left _ w.1)
+    c.if-fits.branch
 
-same_length_2 : tie.Need-same-length-2 invariant_loop decreases_loop
+same_length_2 : tie.Need-shape_of-out invariant_loop decreases_loop
 same_length_2 c = search rules
 
-returns_2 : tie.Need-returns-2 invariant_loop decreases_loop
+returns_2 : tie.Need-returns invariant_loop decreases_loop
 returns_2 c =
     let l = c.before in
-    let f = list_end _ _ _ _ _ _ _ _ _ l.loop.invariant (start l).requires.0.columns.0 c.loop_test.false in
+    let f = list_end _ _ _ _ _ _ _ _ _ l.loop-at.invariant (start l).requires.0.columns.0 c.loop-at-test.false in
     ((λ n e. (f n e).0), (λ n e. (f n e).1))
 
 pub list_block_spec : {M : Type 1} → statement M

@@ -11,123 +11,123 @@ use Rattle.table.proofs.Listing.{Listed, listed_none, blocks_skip, block_end, bl
 use Rattle.table.proofs.passes.list_in.Statement.{statement}
 use Rattle.table.proofs.passes.list_in.Tie as tie
 
-abbrev invariant_loop : tie.invariant_loop
+abbrev invariant_loop : tie.invariant-loop-from
 invariant_loop recs k size ranged query out₀ end j₀ from₀ out j from = Passing k recs from (Listed (test_of ranged k query) k recs out₀ 0 out j (j * k))
 
-abbrev decreases_loop : tie.decreases_loop
+abbrev decreases_loop : tie.decreases-loop-from
 decreases_loop recs k size ranged query out₀ end j₀ from₀ out j from = length recs - from
 
 -- the call where the loop stands
-abbrev start : tie.AtLoop invariant_loop decreases_loop → tie.Start invariant_loop decreases_loop
+abbrev start : tie.At-loop-from invariant_loop decreases_loop → tie.Start invariant_loop decreases_loop
 start c = c.before.before.before.before
 
-abbrev at_loop : tie.AfterSkip invariant_loop decreases_loop → tie.AtLoop invariant_loop decreases_loop
+abbrev at_loop : tie.After-skip invariant_loop decreases_loop → tie.At-loop-from invariant_loop decreases_loop
 at_loop c = c.before.before.before
 
-abbrev block : tie.AfterListBlock invariant_loop decreases_loop → tie.AfterLeast invariant_loop decreases_loop
+abbrev block : tie.After-list_block-j invariant_loop decreases_loop → tie.After-least-e invariant_loop decreases_loop
 block c = c.before.before.before
 
 wide : (c : tie.Start invariant_loop decreases_loop) → (1 ≤ c.args.size * c.args.k) × (c.args.size * c.args.k ≤ 64)
 wide c = block_wide _ _ (c.requires.1.1.0, c.requires.1.1.1.0) c.requires.0.columns
 
 -- behind the blocks that have none, and where the next ends
-passed : (c : tie.AfterSkip invariant_loop decreases_loop) → let a = (start (at_loop c)).args in let l = (at_loop c).loop in
+passed : (c : tie.After-skip invariant_loop decreases_loop) → let a = (start (at_loop c)).args in let l = (at_loop c).loop-from in
     Passing a.k a.recs.now (l.from + c.skip.result) (Listed (test_of a.ranged a.k a.query.now) a.k a.recs.now a.out.now 0 l.out l.j (l.j * a.k))
 passed c =
     let l = at_loop c in
-    blocks_skip _ _ _ _ _ _ _ l.loop.inv _ (skip_passed _ _ _ _ (stretch_rest _ _ _ _ (start l).pre.0 l.loop.inv) _ c.skip.ensures)
+    blocks_skip _ _ _ _ _ _ _ l.loop-from.inv _ (skip_passed _ _ _ _ (stretch_rest _ _ _ _ (start l).pre.0 l.loop-from.inv) _ c.skip.ensures)
 
-ended : (c : tie.AfterLeast invariant_loop decreases_loop) → let a = (start (at_loop c.before)).args in let at = (at_loop c.before).loop.from + c.before.skip.result in
-    (m : ℕ) × (c.least.result ≡ at + m * a.k) × (at ≤ c.least.result) × (c.least.result ≤ length a.recs.now)
-ended c = block_end _ _ _ _ _ _ _ (passed c.before) (start (at_loop c.before)).pre.0 _ _ c.least.ensures
+ended : (c : tie.After-least-e invariant_loop decreases_loop) → let a = (start (at_loop c.before)).args in let at = (at_loop c.before).loop-from.from + c.before.skip.result in
+    (m : ℕ) × (c.least-e.result ≡ at + m * a.k) × (at ≤ c.least-e.result) × (c.least-e.result ≤ length a.recs.now)
+ended c = block_end _ _ _ _ _ _ _ (passed c.before) (start (at_loop c.before)).pre.0 _ _ c.least-e.ensures
 
-loop_holds : tie.Need-loop-init invariant_loop decreases_loop
+loop_holds : tie.Need-loop-from-init invariant_loop decreases_loop
 loop_holds c = pass_start _ _ _ (listed_none _ _ _ _ 0 (omega arith))
 
-mul_skip : tie.Need-overflow-mul-skip invariant_loop decreases_loop
+mul_skip : tie.Need-offset_bounds-recs-from invariant_loop decreases_loop
 mul_skip c = search rules
 
-sub_skip : tie.Need-overflow-sub-skip invariant_loop decreases_loop
+sub_skip : tie.Need-slice_bounds-skip-count invariant_loop decreases_loop
 sub_skip c = search rules
 
-part_skip_start : tie.Need-slice-bounds-skip-start invariant_loop decreases_loop
+part_skip_start : tie.Need-slice_bounds-skip-start invariant_loop decreases_loop
 part_skip_start c = search rules
 
-part_skip_end : tie.Need-slice-bounds-skip-end invariant_loop decreases_loop
+part_skip_end : tie.Need-slice_bounds-skip-end invariant_loop decreases_loop
 part_skip_end c = search rules
 
 skip_requires : tie.Need-skip-requires invariant_loop decreases_loop
 skip_requires c κs =
     let l = c.before.before in
     let f = (start l).requires in
-    (stretch_rest _ _ _ _ f.0 l.loop.invariant, (f.1.0, (f.1.1.0, f.1.1.1.0)))
+    (stretch_rest _ _ _ _ f.0 l.loop-from.invariant, (f.1.0, (f.1.1.0, f.1.1.1.0)))
 
-add_at : tie.Need-overflow-add-at invariant_loop decreases_loop
+add_at : tie.Need-overflow_add-at invariant_loop decreases_loop
 add_at c = omega (arith, (passed c).within, stretch_few _ _ (start (at_loop c)).pre.0)
 
-mul_least : tie.Need-overflow-mul-least invariant_loop decreases_loop
+mul_least : tie.Need-overflow_mul-size invariant_loop decreases_loop
 mul_least c = omega (arith, (wide (start (at_loop c))).1)
 
-add_least : tie.Need-overflow-add-least invariant_loop decreases_loop
+add_least : tie.Need-overflow_add-at-in-loop-from invariant_loop decreases_loop
 add_least c = omega (arith, (wide (start (at_loop c))).1, (passed c).within, stretch_few _ _ (start (at_loop c)).pre.0)
 
-least_requires : tie.Need-least-requires invariant_loop decreases_loop
+least_requires : tie.Need-least-e-requires invariant_loop decreases_loop
 least_requires c κs = search rules
 
-mul_list_block : tie.Need-overflow-mul-list-block invariant_loop decreases_loop
+mul_list_block : tie.Need-offset_bounds-recs-at invariant_loop decreases_loop
 mul_list_block c = omega (arith, (passed c.before).within, stretch_few _ _ (start (at_loop c.before)).pre.0)
 
-sub_list_block : tie.Need-overflow-sub-list-block invariant_loop decreases_loop
+sub_list_block : tie.Need-slice_bounds-list_block-count invariant_loop decreases_loop
 sub_list_block c = (ended c).2
 
-part_list_block_start : tie.Need-slice-bounds-list-block-start invariant_loop decreases_loop
+part_list_block_start : tie.Need-slice_bounds-list_block-start invariant_loop decreases_loop
 part_list_block_start c = (ended c).2
 
-part_list_block_end : tie.Need-slice-bounds-list-block-end invariant_loop decreases_loop
+part_list_block_end : tie.Need-slice_bounds-list_block-end invariant_loop decreases_loop
 part_list_block_end c = (ended c).3
 
-list_block_requires : tie.Need-list-block-requires invariant_loop decreases_loop
+list_block_requires : tie.Need-list_block-j-requires invariant_loop decreases_loop
 list_block_requires c κs =
     let e = ended c.before.before in
     let l = at_loop c.before.before.before in
     let f = (start l).pre in
-    (stretch_part _ _ _ _ _ f.0 e.2 e.3 e.1, (f.1.0, (l.loop.inv.holds.few, l.loop.inv.holds.same ∙ f.1.1.1.1)))
+    (stretch_part _ _ _ _ _ f.0 e.2 e.3 e.1, (f.1.0, (l.loop-from.inv.holds.few, l.loop-from.inv.holds.same ∙ f.1.1.1.1)))
 
-add_if1 : tie.Need-overflow-add-if1 invariant_loop decreases_loop
+add_if1 : tie.Need-overflow_add-t-13 invariant_loop decreases_loop
 add_if1 c = search rules
 
-same_length : tie.Need-same-length invariant_loop decreases_loop
+same_length : tie.Need-shape_of-out-then-j invariant_loop decreases_loop
 same_length c = search rules
 
-returns : tie.Need-returns invariant_loop decreases_loop
+returns : tie.Need-returns-then-j invariant_loop decreases_loop
 returns c =
     let b = c.before.before.before in
     let e = ended (block b) in
     let f = (start (at_loop (block b).before)).pre in
-    let x = blocks_full _ _ _ _ _ _ _ (passed (block b).before) f.0 _ _ _ _ f.1.1.1.1 e.1 e.3 b.list_block.ensures.0 b.list_block.ensures.1 c.if1.true in
+    let x = blocks_full _ _ _ _ _ _ _ (passed (block b).before) f.0 _ _ _ _ f.1.1.1.1 e.1 e.3 b.list_block-j.ensures.0 b.list_block-j.ensures.1 c.if-j.true in
     ((λ n q. (x n q).0), (λ n q. (x n q).1))
 
-loop_less : tie.Need-loop-smaller invariant_loop decreases_loop
+loop_less : tie.Need-loop-from-smaller invariant_loop decreases_loop
 loop_less c =
     let b = block c.before.before.before in
     let l = at_loop b.before in
-    let h = block_less l.loop.from (l.loop.from + b.before.skip.result) _ _ _ b.least.ensures (omega arith) b.before.before.before.loop_test.taken (wide (start l)).0 in
+    let h = block_less l.loop-from.from (l.loop-from.from + b.before.skip.result) _ _ _ b.least-e.ensures (omega arith) b.before.before.before.loop-from-test.taken (wide (start l)).0 in
     omega (arith, h, (ended b).3)
 
-loop_again : tie.Need-loop-preserved invariant_loop decreases_loop
+loop_again : tie.Need-loop-from-preserved invariant_loop decreases_loop
 loop_again c =
     let b = c.before.before.before in
     let e = ended (block b) in
     let f = (start (at_loop (block b).before)).pre in
-    blocks_on _ _ _ _ _ _ _ (passed (block b).before) f.0 _ _ _ _ f.1.1.1.1 e.1 e.3 b.list_block.ensures.0 b.list_block.ensures.1 c.if1.false
+    blocks_on _ _ _ _ _ _ _ (passed (block b).before) f.0 _ _ _ _ f.1.1.1.1 e.1 e.3 b.list_block-j.ensures.0 b.list_block-j.ensures.1 c.if-j.false
 
-same_length_2 : tie.Need-same-length-2 invariant_loop decreases_loop
+same_length_2 : tie.Need-shape_of-out invariant_loop decreases_loop
 same_length_2 c = search rules
 
-returns_2 : tie.Need-returns-2 invariant_loop decreases_loop
+returns_2 : tie.Need-returns invariant_loop decreases_loop
 returns_2 c =
     let l = c.before in
-    let x = blocks_all _ _ _ _ _ _ _ l.loop.invariant (start l).requires.0.columns.0 c.loop_test.false in
+    let x = blocks_all _ _ _ _ _ _ _ l.loop-from.invariant (start l).requires.0.columns.0 c.loop-from-test.false in
     ((λ n q. (x n q).0), (λ n q. (x n q).1))
 
 pub list_in_spec : {M : Type 1} → statement M

@@ -10,66 +10,66 @@ use Rattle.table.proofs.Skipping.{block_wide, Blocks, blocks_none, skip_turn, sk
 use Rattle.table.proofs.passes.skip.Statement.{statement}
 use Rattle.table.proofs.passes.skip.Tie as tie
 
-abbrev invariant_loop : tie.invariant_loop
+abbrev invariant_loop : tie.invariant-loop-at
 invariant_loop recs k size ranged query width at₀ at = Passing k recs at (Blocks (test_of ranged k query) k recs size)
 
-abbrev decreases_loop : tie.decreases_loop
+abbrev decreases_loop : tie.decreases-loop-at
 decreases_loop recs k size ranged query width at₀ at = length recs - at
 
 -- the call where the loop stands, and how wide a block is
-abbrev start : tie.AtLoop invariant_loop decreases_loop → tie.Start invariant_loop decreases_loop
+abbrev start : tie.At-loop-at invariant_loop decreases_loop → tie.Start invariant_loop decreases_loop
 start c = c.before.before.before
 
 wide : (c : tie.Start invariant_loop decreases_loop) → (1 ≤ c.args.size * c.args.k) × (c.args.size * c.args.k ≤ 64)
 wide c = block_wide _ _ c.requires.1.1 c.requires.0.columns
 
-few : (c : tie.AtLoop invariant_loop decreases_loop) → c.loop.at ≤ 8192
-few c = omega (arith, c.loop.invariant.within, stretch_few _ _ (start c).requires.0)
+few : (c : tie.At-loop-at invariant_loop decreases_loop) → c.loop-at.at ≤ 8192
+few c = omega (arith, c.loop-at.invariant.within, stretch_few _ _ (start c).requires.0)
 
-mul_width : tie.Need-overflow-mul-width invariant_loop decreases_loop
+mul_width : tie.Need-overflow_mul-width invariant_loop decreases_loop
 mul_width c = omega (arith, (wide c.before.before).1)
 
-loop_holds : tie.Need-loop-init invariant_loop decreases_loop
+loop_holds : tie.Need-loop-at-init invariant_loop decreases_loop
 loop_holds c = blocks_none _ _ _ _
 
-add_loop : tie.Need-overflow-add-loop invariant_loop decreases_loop
+add_loop : tie.Need-overflow_add-at invariant_loop decreases_loop
 add_loop c = omega (arith, few c, (wide (start c)).1)
 
-add_e : tie.Need-overflow-add-e invariant_loop decreases_loop
+add_e : tie.Need-overflow_add-e invariant_loop decreases_loop
 add_e c = omega (arith, few c.before, (wide (start c.before)).1)
 
-mul_some_in : tie.Need-overflow-mul-some-in invariant_loop decreases_loop
+mul_some_in : tie.Need-offset_bounds-recs-at invariant_loop decreases_loop
 mul_some_in c = search rules
 
-sub_some_in : tie.Need-overflow-sub-some-in invariant_loop decreases_loop
+sub_some_in : tie.Need-slice_bounds-some_in-count invariant_loop decreases_loop
 sub_some_in c = search rules
 
-part_some_in_start : tie.Need-slice-bounds-some-in-start invariant_loop decreases_loop
+part_some_in_start : tie.Need-slice_bounds-some_in-start invariant_loop decreases_loop
 part_some_in_start c = search rules
 
-part_some_in_end : tie.Need-slice-bounds-some-in-end invariant_loop decreases_loop
+part_some_in_end : tie.Need-slice_bounds-some_in-end invariant_loop decreases_loop
 part_some_in_end c = search rules
 
-some_in_requires : tie.Need-some-in-requires invariant_loop decreases_loop
+some_in_requires : tie.Need-some_in-requires invariant_loop decreases_loop
 some_in_requires c κs =
     let l = c.before.before in
-    (stretch_part _ _ _ _ _ (start l).requires.0 (search rules) c.before.loop_test.true refl, (start l).requires.1.0)
+    (stretch_part _ _ _ _ _ (start l).requires.0 (search rules) c.before.loop-at-test.true refl, (start l).requires.1.0)
 
-returns : tie.Need-returns invariant_loop decreases_loop
+returns : tie.Need-returns-then-some_in invariant_loop decreases_loop
 returns c =
     let l = c.before.before.before.before in
-    skip_found _ _ _ _ _ l.loop.invariant _ refl c.before.before.before.loop_test.true _ c.before.some_in.ensures c.if1.true (start l).requires.0.columns.0
+    skip_found _ _ _ _ _ l.loop-at.invariant _ refl c.before.before.before.loop-at-test.true _ c.before.some_in.ensures c.if-some_in.true (start l).requires.0.columns.0
 
-loop_less : tie.Need-loop-smaller invariant_loop decreases_loop
-loop_less c = omega (arith, (wide (start c.before.before.before.before)).0, c.before.before.before.loop_test.true)
+loop_less : tie.Need-loop-at-smaller invariant_loop decreases_loop
+loop_less c = omega (arith, (wide (start c.before.before.before.before)).0, c.before.before.before.loop-at-test.true)
 
-loop_again : tie.Need-loop-preserved invariant_loop decreases_loop
+loop_again : tie.Need-loop-at-preserved invariant_loop decreases_loop
 loop_again c =
     let l = c.before.before.before.before in
-    skip_turn _ _ _ _ _ l.loop.invariant _ refl c.before.before.before.loop_test.true _ c.before.some_in.ensures c.if1.false
+    skip_turn _ _ _ _ _ l.loop-at.invariant _ refl c.before.before.before.loop-at-test.true _ c.before.some_in.ensures c.if-some_in.false
 
-returns_2 : tie.Need-returns-2 invariant_loop decreases_loop
-returns_2 c = skip_end _ _ _ _ _ c.before.loop.invariant c.loop_test.false (start c.before).pre.0.columns.0
+returns_2 : tie.Need-returns invariant_loop decreases_loop
+returns_2 c = skip_end _ _ _ _ _ c.before.loop-at.invariant c.loop-at-test.false (start c.before).pre.0.columns.0
 
 pub skip_spec : {M : Type 1} → statement M
 skip_spec =

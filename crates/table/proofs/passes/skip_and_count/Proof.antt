@@ -7,29 +7,29 @@ use Rattle.table.proofs.Skipping.{Passed, skip_passed, stretch_behind, kept_behi
 use Rattle.table.proofs.passes.skip_and_count.Statement.{statement}
 use Rattle.table.proofs.passes.skip_and_count.Tie as tie
 
-abbrev start : tie.AfterSkip → tie.Start
+abbrev start : tie.After-skip-at → tie.Start
 start c = c.before.before.before
 
 -- no record before the place that `skip` gives passes the test
-passed : (c : tie.AfterSkip) → let a = (start c).args in Passed (test_of a.ranged a.k a.query.now) a.k a.recs.now c.skip.result
-passed c = skip_passed _ _ _ _ (start c).requires.0 _ c.skip.ensures
+passed : (c : tie.After-skip-at) → let a = (start c).args in Passed (test_of a.ranged a.k a.query.now) a.k a.recs.now c.skip-at.result
+passed c = skip_passed _ _ _ _ (start c).requires.0 _ c.skip-at.ensures
 
-skip_requires : tie.Need-skip-requires
+skip_requires : tie.Need-skip-at-requires
 skip_requires c κs = search rules
 
-mul_count_in : tie.Need-overflow-mul-count-in
+mul_count_in : tie.Need-offset_bounds-recs-at
 mul_count_in c = omega (arith, (passed c).within, stretch_few _ _ (start c).requires.0)
 
-sub_count_in : tie.Need-overflow-sub-count-in
+sub_count_in : tie.Need-slice_bounds-count_in-count
 sub_count_in c = (passed c).within
 
-part_count_in_start : tie.Need-slice-bounds-count-in-start
+part_count_in_start : tie.Need-slice_bounds-count_in-start
 part_count_in_start c = (passed c).within
 
-part_count_in_end : tie.Need-slice-bounds-count-in-end
+part_count_in_end : tie.Need-slice_bounds-count_in-end
 part_count_in_end c = search rules
 
-count_in_requires : tie.Need-count-in-requires
+count_in_requires : tie.Need-count_in-requires
 count_in_requires c κs = let f = (start c.before).requires in (stretch_behind _ _ _ _ f.0 (passed c.before), f.1.0)
 
 returns : tie.Need-returns

@@ -10,48 +10,48 @@ use Rattle.table.proofs.Passing.{Passing, pass_start, pass_room, pass_end, some_
 use Rattle.table.proofs.passes.some_in.Statement.{statement}
 use Rattle.table.proofs.passes.some_in.Tie as tie
 
-abbrev invariant_loop : tie.invariant_loop
+abbrev invariant_loop : tie.invariant-loop-at
 invariant_loop recs k ranged query any₀ at₀ any at = Passing k recs at (λ i. any ≡ some (test_of ranged k query) (rows k i recs))
 
-abbrev decreases_loop : tie.decreases_loop
+abbrev decreases_loop : tie.decreases-loop-at
 decreases_loop recs k ranged query any₀ at₀ any at = length recs - at
 
 -- the call where the loop stands
-abbrev start : tie.AtLoop invariant_loop decreases_loop → tie.Start invariant_loop decreases_loop
+abbrev start : tie.At-loop-at invariant_loop decreases_loop → tie.Start invariant_loop decreases_loop
 start c = c.before.before.before
 
-loop_holds : tie.Need-loop-init invariant_loop decreases_loop
+loop_holds : tie.Need-loop-at-init invariant_loop decreases_loop
 unfolding some rows
 loop_holds c = pass_start _ _ _ refl
 
-add_e : tie.Need-overflow-add-e invariant_loop decreases_loop
+add_e : tie.Need-overflow_add-e invariant_loop decreases_loop
 add_e c = search rules
 
-mul_test : tie.Need-overflow-mul-test invariant_loop decreases_loop
+mul_test : tie.Need-offset_bounds-recs-at invariant_loop decreases_loop
 mul_test c = search rules
 
-sub_test : tie.Need-overflow-sub-test invariant_loop decreases_loop
+sub_test : tie.Need-slice_bounds-test-count invariant_loop decreases_loop
 sub_test c = search rules
 
-part_test_start : tie.Need-slice-bounds-test-start invariant_loop decreases_loop
+part_test_start : tie.Need-slice_bounds-test-start invariant_loop decreases_loop
 part_test_start c = search rules
 
-part_test_end : tie.Need-slice-bounds-test-end invariant_loop decreases_loop
-part_test_end c = omega (arith, pass_room _ _ _ _ c.before.loop.invariant (start c.before).pre.0 c.loop_test.true)
+part_test_end : tie.Need-slice_bounds-test-end invariant_loop decreases_loop
+part_test_end c = omega (arith, pass_room _ _ _ _ c.before.loop-at.invariant (start c.before).pre.0 c.loop-at-test.true)
 
-test_requires : tie.Need-test-requires invariant_loop decreases_loop
+test_requires : tie.Need-test-fits-requires invariant_loop decreases_loop
 test_requires c κs = search rules
 
-loop_less : tie.Need-loop-smaller invariant_loop decreases_loop
+loop_less : tie.Need-loop-at-smaller invariant_loop decreases_loop
 loop_less c = search rules
 
-loop_again : tie.Need-loop-preserved invariant_loop decreases_loop
+loop_again : tie.Need-loop-at-preserved invariant_loop decreases_loop
 loop_again c =
     let l = c.before.before.before in
-    some_turn _ _ _ _ _ (start l).requires.0 c.before.before.loop_test.true _ _ l.loop.invariant c.test.ensures
+    some_turn _ _ _ _ _ (start l).requires.0 c.before.before.loop-at-test.true _ _ l.loop-at.invariant c.test-fits.ensures
 
 returns : tie.Need-returns invariant_loop decreases_loop
-returns c n e = pass_end _ _ _ _ c.before.loop.invariant n (start c.before).pre.0.columns.0 c.loop_test.false e
+returns c n e = pass_end _ _ _ _ c.before.loop-at.invariant n (start c.before).pre.0.columns.0 c.loop-at-test.false e
 
 pub some_in_spec : {M : Type 1} → statement M
 some_in_spec =
