@@ -245,7 +245,7 @@ unfolding ran with_tray call_of tray_after call_result
 returns_9 c =
     let b = c.before.before.before.before.before.before.before.before in
     let k = b.before.before.before.before.before.before in
-    rw k.call9.given.1 (without_tray _ b.evicts_answer.ensures)
+    rw k.call9.given.1 (without_tray _ b.evict_answer.ensures)
 
 same_length_38 : tie.Need-same-length-38
 same_length_38 c = search rules
@@ -264,7 +264,7 @@ unfolding ran with_tray call_of tray_after call_result
 returns_10 c =
     let b = c.before.before.before.before.before.before.before.before in
     let k = b.before.before.before.before.before.before in
-    rw k.call10.given.1 (without_tray _ b.evicts_node.ensures)
+    rw k.call10.given.1 (without_tray _ b.evict_node.ensures)
 
 same_length_42 : tie.Need-same-length-42
 same_length_42 c = search rules

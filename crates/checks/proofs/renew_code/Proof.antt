@@ -17,10 +17,10 @@ all_idle_requires : tie.Need-all-idle-requires
 all_idle_requires c κs = omega (arith, sound_memories _ (sym c.before.sound_code.ensures ∙ c.if1.false))
 
 returns_2 : tie.Need-returns-2
-returns_2 c = renew_busy _ _ _ _ _ c.before.before.before.sound_code.ensures c.before.before.if1.false _ c.before.all_idle_law.ensures c.if2.true
+returns_2 c = renew_busy _ _ _ _ _ c.before.before.before.sound_code.ensures c.before.before.if1.false _ c.before.all_idle.ensures c.if2.true
 
 returns_3 : tie.Need-returns-3
-returns_3 c = renew_fine _ _ _ _ _ c.before.before.before.sound_code.ensures c.before.before.if1.false _ c.before.all_idle_law.ensures c.if2.false
+returns_3 c = renew_fine _ _ _ _ _ c.before.before.before.sound_code.ensures c.before.before.if1.false _ c.before.all_idle.ensures c.if2.false
 
 pub renew_code_spec : {M : Type 1} → statement M
 renew_code_spec =

@@ -15,7 +15,7 @@ abbrev start : tie.Else1 → tie.Start
 start c = c.before.before.before
 
 query_there : (c : tie.Else1) → is_query (shape_of (start c).args.k) (start c).args.asked.now ≡ true
-query_there c = let s = (start c).args in is_query_law _ s.kind s.counts s.range _ _ c.before.is_query_law.ensures c.if1.false
+query_there c = let s = (start c).args in is_query_law _ s.kind s.counts s.range _ _ c.before.is_query.ensures c.if1.false
 
 is_query_requires : tie.Need-is-query-requires
 is_query_requires c κs = search rules
@@ -27,7 +27,7 @@ returns : tie.Need-returns
 returns c =
     let q = c.before.before in
     let s = q.before.before.args in
-    let f = fault_query _ s.kind s.counts s.range _ _ q.is_query_law.ensures c.before.if1.true in
+    let f = fault_query _ s.kind s.counts s.range _ _ q.is_query.ensures c.before.if1.true in
     keyless_as refused_columns c.keyless.ensures f (λ z l. let y = f in omega arith)
 
 read_asked_requires : tie.Need-read-asked-requires
@@ -40,7 +40,7 @@ insert_asked_requires : tie.Need-insert-asked-requires
 insert_asked_requires c κs = query_there c.before.before
 
 returns_3 : tie.Need-returns-3
-returns_3 c = let s = (start c.before.before.before).args in asked_insert _ s.counts s.range _ c.before.if3.true c.insert_asked_law.ensures
+returns_3 c = let s = (start c.before.before.before).args in asked_insert _ s.counts s.range _ c.before.if3.true c.insert_asked.ensures
 
 keyless_requires_2 : tie.Need-keyless-requires-2
 keyless_requires_2 c κs = search rules

@@ -17,7 +17,7 @@ same_length : tie.Need-shape_of-clients
 same_length c = search rules
 
 returns : tie.Need-returns
-returns c = stepped_left _ _ c.before.before.before.before.before.before.before.requires.0 _ _ c.before.before.before.before.steps_of-made.ensures c.before.before.put.ensures
+returns c = stepped_left _ _ c.requires.0 _ _ c.steps_of-made.ensures c.put.ensures
 
 pub advance_spec : {M : Type 1} → statement M
 advance_spec = tie.close (tie.spec steps_of_requires add_put put_requires same_length returns)

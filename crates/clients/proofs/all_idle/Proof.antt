@@ -1,4 +1,5 @@
 -- `clients::all_idle` meets its contract. The invariant: every client before d is idle. Assumes nothing.
+use Rattle.std.proofs.lemmas.Bool.{not_from_false, not_from_true}
 use mathlib.Core.Path.{◌≡◌}
 use mathlib.Core.Bool.{true}
 use Prim.Native.Nat.{◌-◌, ◌≤◌}
@@ -24,7 +25,7 @@ is_idle_requires : tie.Need-is_idle-requires invariant_loop decreases_loop
 is_idle_requires c κs = search rules
 
 returns : tie.Need-returns-then-not-is_idle invariant_loop decreases_loop
-returns c = idle_stops _ _ _ _ c.before.is_idle.ensures c.if-not-is_idle.true (search rules)
+returns c = idle_stops _ _ _ _ c.is_idle.ensures (not_from_false _ c.if-not-is_idle.true) (search rules)
 
 add_d : tie.Need-overflow_add-d invariant_loop decreases_loop
 add_d c = search rules
@@ -33,10 +34,10 @@ loop_less : tie.Need-loop-d-smaller invariant_loop decreases_loop
 loop_less c = search rules
 
 loop_again : tie.Need-loop-d-preserved invariant_loop decreases_loop
-loop_again c = (search rules, idle_next _ _ _ c.before.is_idle.ensures c.if-not-is_idle.false c.before.before.before.loop-d.invariant.1)
+loop_again c = (search rules, idle_next _ _ _ c.is_idle.ensures (not_from_true _ c.if-not-is_idle.false) c.loop-d.invariant.1)
 
 returns_2 : tie.Need-returns invariant_loop decreases_loop
-returns_2 c = idle_all _ _ _ (search rules) (search rules) c.before.loop-d.invariant.1
+returns_2 c = idle_all _ _ _ (search rules) (search rules) c.loop-d.invariant.1
 
 pub all_idle_spec : {M : Type 1} → statement M
 all_idle_spec =

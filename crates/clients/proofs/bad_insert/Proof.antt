@@ -12,7 +12,7 @@ names_all_requires : tie.Need-names_all-requires
 names_all_requires c κs = search rules
 
 returns_2 : tie.Need-returns
-returns_2 c = insert_names _ _ _ _ c.names_all.ensures c.before.if-kind-ne-INSERTS.false
+returns_2 c = insert_names _ _ _ _ c.names_all.ensures c.if-kind-ne-INSERTS.false
 
 pub bad_insert_spec : {M : Type 1} → statement M
 bad_insert_spec = tie.close (tie.spec returns names_all_requires returns_2)

@@ -31,7 +31,7 @@ few : (c : tie.After-query_width) → c.query_width.result ≤ key_width - 1
 few c = query_few _ _ c.query_width.ensures
 
 add_end : tie.Need-overflow_add-end
-add_end c = omega (arith, few c, c.before.before.requires.0.below)
+add_end c = omega (arith, few c, c.requires.0.below)
 
 mul_is_key : tie.Need-offset_bounds-clients-at
 mul_is_key c = search rules
@@ -43,17 +43,17 @@ part_is_key_start : tie.Need-slice_bounds-is_key-start
 part_is_key_start c = search rules
 
 part_is_key_end : tie.Need-slice_bounds-is_key-end
-part_is_key_end c = let f = c.before.before.requires.0 in omega (arith, few c, f.below, f.long)
+part_is_key_end c = let f = c.requires.0 in omega (arith, few c, f.below, f.long)
 
 is_key_requires : tie.Need-is_key-requires
-is_key_requires c κs = (c.before.before.before.requires.1, omega (arith, few c.before))
+is_key_requires c κs = (c.requires.1, omega (arith, few c.before))
 
 returns : tie.Need-returns
 unfolding plain_key
 returns c =
     let q = c.before.before in
-    let a = q.before.before.args in
-    ap not (c.is_key_law.ensures ∙ ap (λ (l : List ℕ). is_key (shape_of a.k) (a.marks ∷ padded (key_width - 1) l))
+    let a = q.args in
+    ap not (c.is_key.ensures ∙ ap (λ (l : List ℕ). is_key (shape_of a.k) (a.marks ∷ padded (key_width - 1) l))
     (rest_read a.clients.now a.d q.query_width.result (few q) ∙ rw q.query_width.ensures))
 
 pub bad_key_spec : {M : Type 1} → statement M

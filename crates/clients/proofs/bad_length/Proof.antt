@@ -8,10 +8,10 @@ word_requires : tie.Need-word-n-requires
 word_requires c κs = search rules
 
 returns : tie.Need-returns-then-counts
-returns c = long_count _ _ c.before.word-n.ensures _ c.before.before.before.requires.1 c.if-counts.true
+returns c = long_count _ _ c.word-n.ensures _ c.requires.1 c.if-counts.true
 
 returns_2 : tie.Need-returns
-returns_2 c = long_list _ _ c.before.word-n.ensures _ c.before.before.before.requires.1 c.if-counts.false
+returns_2 c = long_list _ _ c.word-n.ensures _ c.requires.1 c.if-counts.false
 
 pub bad_length_spec : {M : Type 1} → statement M
 bad_length_spec = tie.close (tie.spec word_requires returns returns_2)

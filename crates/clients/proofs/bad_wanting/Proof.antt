@@ -7,16 +7,16 @@ use Rattle.clients.proofs.bad_wanting.Statement.{statement}
 use Rattle.clients.proofs.bad_wanting.Tie as tie
 
 returns : tie.Need-returns-then-kind-eq-READS
-returns c = let a = c.before.args in wanting_read a.kind a.counts (is_ranged a.range) c.if-kind-eq-READS.true
+returns c = let a = c.args in wanting_read a.kind a.counts (is_ranged a.range) c.if-kind-eq-READS.true
 
 returns_2 : tie.Need-returns-then-counts
-returns_2 c = let a = c.before.before.args in wanting_count a.kind a.counts (is_ranged a.range) c.before.if-kind-eq-READS.false c.if-counts.true
+returns_2 c = let a = c.args in wanting_count a.kind a.counts (is_ranged a.range) c.if-kind-eq-READS.false c.if-counts.true
 
 is_ranged_requires : tie.Need-is_ranged-requires
 is_ranged_requires c κs = search rules
 
 returns_3 : tie.Need-returns
-returns_3 c = let a = c.before.before.before.args in c.is_ranged.ensures ∙ wanting_range a.kind a.counts (is_ranged a.range) c.before.before.if-kind-eq-READS.false c.before.if-counts.false
+returns_3 c = let a = c.args in c.is_ranged.ensures ∙ wanting_range a.kind a.counts (is_ranged a.range) c.if-kind-eq-READS.false c.if-counts.false
 
 pub bad_wanting_spec : {M : Type 1} → statement M
 bad_wanting_spec = tie.close (tie.spec returns returns_2 is_ranged_requires returns_3)

@@ -31,11 +31,7 @@ same_length c = search rules
 
 returns : tie.Need-returns
 returns c =
-    let w = c.before.before in
-    let h = w.before.before.before.before in
-    let i = h.before.before.before.before.before in
-    let s = i.before.before.before.before in
-    w.write-2.ensures ∙ begun_left _ _ s.requires.0 _ _ _ _ i.set_idle.ensures h.write.ensures s.requires.1
+    c.write-2.ensures ∙ begun_left _ _ c.requires.0 _ _ _ _ c.set_idle.ensures c.write.ensures c.requires.1
 
 pub begin_spec : {M : Type 1} → statement M
 begin_spec =

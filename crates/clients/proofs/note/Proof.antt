@@ -18,10 +18,7 @@ same_length c = search rules
 
 returns : tie.Need-returns-then-pending-eq0
 returns c =
-    let p = c.before.before.before in
-    let a = p.before.before.before.before in
-    let s = a.before.before.before in
-    noted_quiet _ _ s.requires.0 _ _ s.args.j _ _ a.advance.ensures p.put.ensures c.if-pending-eq0.true
+    noted_quiet _ _ c.requires.0 _ _ c.args.j _ _ c.advance.ensures c.put.ensures c.if-pending-eq0.true
 
 put_requires_2 : tie.Need-put-requires-2
 put_requires_2 c κs = search rules
@@ -31,11 +28,7 @@ same_length_2 c = search rules
 
 returns_2 : tie.Need-returns
 returns_2 c =
-    let i = c.before.before.before.before in
-    let p = i.before.before.before in
-    let a = p.before.before.before.before in
-    let s = a.before.before.before in
-    noted_seen _ _ s.requires.0 _ _ s.args.j _ _ a.advance.ensures p.put.ensures _ c.before.before.put-2.ensures i.if-pending-eq0.false
+    noted_seen _ _ c.requires.0 _ _ c.args.j _ _ c.advance.ensures c.put.ensures _ c.put-2.ensures c.if-pending-eq0.false
 
 pub note_spec : {M : Type 1} → statement M
 note_spec =

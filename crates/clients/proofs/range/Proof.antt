@@ -25,10 +25,7 @@ range_of_requires c κs = search rules
 
 returns : tie.Need-returns
 returns c =
-    let h = c.before in
-    let l = h.before in
-    let f = l.before in
-    range_read _ (length_client _ _ f.before.before.requires) _ f.word-first.ensures _ _ _ l.word-lowest.ensures h.word-highest.ensures c.range_of.ensures
+    range_read _ (length_client _ _ c.requires) _ c.word-first.ensures _ _ _ c.word-lowest.ensures c.word-highest.ensures c.range_of.ensures
 
 pub range_spec : {M : Type 1} → statement M
 range_spec =

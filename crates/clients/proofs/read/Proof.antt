@@ -77,16 +77,14 @@ is_count_requires c κs = search rules
 returns : tie.Need-returns
 unfolding kind
 returns c =
-    let w = c.before.before in
-    let f = w.before.before.before.before.before.before in
-    let p = f.before.before.before.requires in
+    let p = c.requires in
     let l = length_client _ _ p in
     record {
       columns = refl;
-      kind = w.word.ensures;
-      steps = f.before.steps_of-steps.ensures;
-      marks = marks_read _ l _ f.word-first.ensures _ c.before.bare_marks.ensures;
-      counts = counts_read _ l _ f.word-first.ensures _ c.is_count.ensures;
+      kind = c.word.ensures;
+      steps = c.steps_of-steps.ensures;
+      marks = marks_read _ l _ c.word-first.ensures _ c.bare_marks.ensures;
+      counts = counts_read _ l _ c.word-first.ensures _ c.is_count.ensures;
       values = values_read _ _ _ p refl;
     }
 

@@ -32,7 +32,7 @@ same_length : tie.Need-shape_of-clients
 same_length c = search rules
 
 returns : tie.Need-returns
-returns c = idle_left _ _ c.before.before.before.before.before.requires _ c.before.before.clear.ensures
+returns c = idle_left _ _ c.requires _ c.clear.ensures
 
 pub set_idle_spec : {M : Type 1} → statement M
 set_idle_spec =

@@ -57,11 +57,7 @@ same_length c = search rules
 
 returns : tie.Need-returns
 returns c =
-    let w = c.before.before in
-    let p = w.before.before.before.before in
-    let a = p.before.before.before.before in
-    let s = a.before.before.before in
-    λ sh. value_left _ _ s.requires.0 _ _ _ _ s.args.used sh a.advance.ensures p.put.ensures w.clear.ensures s.requires.1.1.0
+    λ sh. value_left _ _ c.requires.0 _ _ _ _ c.args.used sh c.advance.ensures c.put.ensures c.clear.ensures c.requires.1.1.0
 
 pub set_value_spec : {M : Type 1} → statement M
 set_value_spec =

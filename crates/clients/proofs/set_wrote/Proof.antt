@@ -24,11 +24,8 @@ same_length c = search rules
 
 returns : tie.Need-returns
 returns c =
-    let q = c.before.before in
-    let p = q.before.before.before.before.before in
-    let a = p.before.before.before.before.before in
-    wrote_left _ _ a.before.before.before.requires.0 _ _ _ _ _ _ _ a.advance.ensures p.put.ensures q.put-2.ensures
-    p.before.flag.ensures q.before.flag-2.ensures
+    wrote_left _ _ c.requires.0 _ _ _ _ _ _ _ c.advance.ensures c.put.ensures c.put-2.ensures
+    c.flag.ensures c.flag-2.ensures
 
 pub set_wrote_spec : {M : Type 1} → statement M
 set_wrote_spec =

@@ -11,10 +11,10 @@ look_count_requires : tie.Need-look_count-requires
 look_count_requires c κs = search rules
 
 add_result : tie.Need-overflow_add-result
-add_result c = let a = c.before.before in omega (arith, look_few _ _ _ c.look_count.ensures a.requires.0)
+add_result c = omega (arith, look_few _ _ _ c.look_count.ensures c.requires.0)
 
 returns : tie.Need-returns-then-kind-eq-READS
-returns c = last_read _ _ _ _ c.look_count.ensures c.before.if-kind-eq-READS.true
+returns c = last_read _ _ _ _ c.look_count.ensures c.if-kind-eq-READS.true
 
 power_requires : tie.Need-power-count-requires
 power_requires c κs = search rules
@@ -29,7 +29,7 @@ add_result_3 : tie.Need-overflow_add-result-3
 add_result_3 c = omega (arith, power_small _ _ c.power-count.ensures (search rules))
 
 returns_2 : tie.Need-returns
-returns_2 c = last_write _ _ _ _ c.power-count.ensures c.before.if-kind-eq-READS.false
+returns_2 c = last_write _ _ _ _ c.power-count.ensures c.if-kind-eq-READS.false
 
 pub steps_in_all_spec : {M : Type 1} → statement M
 steps_in_all_spec =

@@ -23,7 +23,7 @@ same_length_4 : tie.Need-same-length-4
 same_length_4 c = search rules
 
 returns : tie.Need-returns
-returns c = sends _ _ _ _ c.reply_of.ensures c.before.before.before.before.before.before.before.before.before.evicts_node.ensures
+returns c = sends _ _ _ _ c.reply_of.ensures c.before.before.before.before.before.before.before.before.before.evict_node.ensures
 
 pub mondzafeky_evict_node_spec : {M : Type 1} → statement M
 mondzafeky_evict_node_spec =

@@ -18,7 +18,7 @@ slots c = search rules
 one : (c : tie.Else-k-eq2) → (start c.before.before.before).args.k ≡ 1
 one c =
     let f = (start c.before.before.before).requires.columns in
-    omega (arith, f.0, f.1, c.if-k-eq2.false, c.before.if-k-eq3.false, c.before.before.if-k-eq4.false)
+    omega (arith, f.0, f.1, c.if-k-eq2.false, c.if-k-eq3.false, c.if-k-eq4.false)
 
 mask_words_requires : tie.Need-mask_words-query-requires
 mask_words_requires c κs = search rules

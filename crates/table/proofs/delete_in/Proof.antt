@@ -32,8 +32,8 @@ abbrev in_loop : tie.Joined-stays invariant_loop decreases_loop → tie.In-loop-
 in_loop c = c.before.before.before.before
 
 -- the record that the scan stands at ends inside the memory, and so does the last
-room : (c : tie.In-loop-i invariant_loop decreases_loop) → c.before.loop-i.from + (start c.before).args.k ≤ table_least
-room c = scan_in _ _ _ _ (start c.before).pre.0 c.loop-i-test.true c.before.loop-i.invariant.scan.at_is
+room : (c : tie.In-loop-i invariant_loop decreases_loop) → c.loop-i.from + (start c.before).args.k ≤ table_least
+room c = scan_in _ _ _ _ (start c.before).pre.0 c.loop-i-test.true c.loop-i.invariant.scan.at_is
 
 ended : (c : tie.At-loop-i invariant_loop decreases_loop) → c.loop-i.from ≤ table_least
 ended c = scan_end _ _ _ _ (start c).requires.0 c.loop-i.invariant.scan.le c.loop-i.invariant.scan.at_is
@@ -72,13 +72,13 @@ cast_more : tie.Need-overflow_cast-more invariant_loop decreases_loop
 cast_more c = search rules
 
 mul_to : tie.Need-overflow_mul-to invariant_loop decreases_loop
-mul_to c = omega (arith, bit_wide (not c.before.lies-stays.result) (start (in_loop c).before).args.k, room (in_loop c))
+mul_to c = omega (arith, bit_wide (not c.lies-stays.result) (start (in_loop c).before).args.k, room (in_loop c))
 
 add_to : tie.Need-overflow_add-to invariant_loop decreases_loop
-add_to c = omega (arith, bit_wide (not c.before.lies-stays.result) (start (in_loop c).before).args.k, room (in_loop c), (in_loop c).before.loop-i.invariant.fewer)
+add_to c = omega (arith, bit_wide (not c.lies-stays.result) (start (in_loop c).before).args.k, room (in_loop c), (in_loop c).before.loop-i.invariant.fewer)
 
 add_j : tie.Need-overflow_add-j invariant_loop decreases_loop
-add_j c = omega (arith, bit_most (not c.before.lies-stays.result), (in_loop c).before.loop-i.invariant.scan.few, (in_loop c).before.loop-i.invariant.scan.le)
+add_j c = omega (arith, bit_most (not c.lies-stays.result), (in_loop c).before.loop-i.invariant.scan.few, (in_loop c).before.loop-i.invariant.scan.le)
 
 add_i : tie.Need-overflow_add-i invariant_loop decreases_loop
 add_i c = search rules
@@ -93,7 +93,7 @@ loop_again c =
     let h = (in_loop c).loop-i-test.true in
     let e = l.loop-i.inv.scan.at_is in
     let d = l.loop-i.inv.back in
-    let r = tested _ _ _ _ _ f h e d _ _ c.before.lies-stays.ensures in
+    let r = tested _ _ _ _ _ f h e d _ _ c.lies-stays.ensures in
     ⊎_elim
     (λ w. let n = one_more _ l.loop-i.j (start l).args.k l.loop-i.to w.0.taken in
     turn_stays _ _ _ _ _ _ _ _ _ _ l.loop-i.inv h (length_records _ _) _ _ _ (part_is _ _ _ _ _ f h e d) (part_long _ _ _ _ _ f h e d)
@@ -132,7 +132,7 @@ sub_result c = search rules
 returns : tie.Need-returns invariant_loop decreases_loop
 returns c =
     let l = c.before.before.before.before in
-    delete_all _ _ _ _ _ _ _ _ _ (start l.before).pre.0 l.before.loop-i.invariant l.loop-i-test.false c.before.before.clear.ensures
+    delete_all _ _ _ _ _ _ _ _ _ (start l.before).pre.0 l.loop-i.invariant l.loop-i-test.false c.clear.ensures
 
 same_length : tie.Need-shape_of-table invariant_loop decreases_loop
 same_length c = ap length (returns c).1 ∙ write_length _ _ (delete _) (start c.before.before.before.before.before).pre.0 tt

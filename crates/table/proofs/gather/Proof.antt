@@ -20,7 +20,7 @@ slots : (c : tie.Start) → length c.args.cols ≡ 4
 slots c = search rules
 
 -- the numbers of the table are 32-bit numbers
-words : (c : tie.After-shared_slice_known-1) (i : ℕ) → get_or c.before.args.table.now i 0 < 4294967296
+words : (c : tie.After-shared_slice_known-1) (i : ℕ) → get_or c.args.table.now i 0 < 4294967296
 words c i = omega (arith, c.shared_slice_known-1.given i)
 
 shared_slice_read_n : tie.Need-bounds-table-0
@@ -30,10 +30,10 @@ cast_n : tie.Need-overflow_cast-n
 cast_n c = search rules
 
 mul_end : tie.Need-overflow_mul-end
-mul_end c = let f = c.before.before.before.requires.0.0 in omega (arith, ends _ _ f.columns.1 f.few)
+mul_end c = let f = c.requires.0.0 in omega (arith, ends _ _ f.columns.1 f.few)
 
 add_end : tie.Need-overflow_add-end
-add_end c = let f = c.before.before.before.requires.0.0 in omega (arith, ends _ _ f.columns.1 f.few)
+add_end c = let f = c.requires.0.0 in omega (arith, ends _ _ f.columns.1 f.few)
 
 sub_recs : tie.Need-slice_bounds-recs-count
 sub_recs c = search rules
@@ -42,7 +42,7 @@ part_recs_start : tie.Need-slice_bounds-recs-start
 part_recs_start c = search rules
 
 part_recs_end : tie.Need-slice_bounds-recs-end
-part_recs_end c = let f = c.before.before.before.requires.0.0 in omega (arith, ends _ _ f.columns.1 f.few)
+part_recs_end c = let f = c.requires.0.0 in omega (arith, ends _ _ f.columns.1 f.few)
 
 enum_known_range : tie.Need-enum_known-range
 enum_known_range c = search rules
@@ -73,7 +73,7 @@ returns c =
     let s = start m.before.before.before in
     let f = s.pre.0.0 in
     let a = s.args in
-    let k = kept_plain a.k a.table.now a.cols _ f m.mask_words-query.ensures (slots s) a.range m.before.enum_told-1.given.1 in
+    let k = kept_plain a.k a.table.now a.cols _ f m.mask_words-query.ensures (slots s) a.range m.enum_told-1.given.1 in
     (gathered_is _ _ f _ _ _ k _ l.list_plain.ensures.0, listed_is _ _ f _ _ _ k _ _ l.list_plain.ensures.1)
 
 -- where there is a range: the call, and its highest end, a 32-bit number
@@ -81,7 +81,7 @@ abbrev ranged : tie.In-Between → tie.Start
 ranged c = start c.before.before.before
 
 abbrev highest : tie.In-Between → ℕ
-highest c = c.before.range-1.given.0.1.1.0
+highest c = c.range-1.given.0.1.1.0
 
 small : (c : tie.In-Between) → highest c < 4294967296
 small c = search rules
@@ -92,19 +92,19 @@ finds_none_requires c κs = search rules
 -- nothing is to be found
 returns_2 : tie.Need-returns-then-finds_none
 returns_2 c =
-    let e = c.before.before.before.range-1.given.1 in
-    let n = sym c.before.finds_none.ensures ∙ c.if-finds_none.true in
+    let e = c.range-1.given.1 in
+    let n = sym c.finds_none.ensures ∙ c.if-finds_none.true in
     (none_gathered _ _ _ _ _ e n _, none_written _ _ _ _ _ e n _ _)
 
 -- something may be
 some : (c : tie.Else-finds_none) → (let t = c.before.before in finds_none (take (ranged t).args.k (ranged t).args.cols) (highest t) ≡ false)
-some c = sym c.before.finds_none.ensures ∙ c.if-finds_none.false
+some c = sym c.finds_none.ensures ∙ c.if-finds_none.false
 
 bound_words_requires : tie.Need-bound_words-query-requires
 bound_words_requires c κs =
     let t = c.before.before in
     let f = (ranged t).requires.0 in
-    let e = t.before.range-1.given.1 in
+    let e = t.range-1.given.1 in
     (f.0.columns.1, (omega (arith, column_in _ _ _ _ _ _ e f.1, f.0.columns.1), (ends_ordered _ _ _ _ _ _ e f.1, (finds_some _ _ (some c)).1)))
 
 slice_aggregate_list_ranged : tie.Need-slice_bounds-list_ranged-end
@@ -116,7 +116,7 @@ list_ranged_requires c κs =
     let t = b.before.before.before in
     let s = ranged t in
     let f = s.pre in
-    (records_stretch _ _ f.0.0, (is_bounded _ _ _ _ _ _ t.before.range-1.given.1 f.0.1 _ b.bound_words-query.ensures.0 (slots s) f.0.0.columns.1, f.1))
+    (records_stretch _ _ f.0.0, (is_bounded _ _ _ _ _ _ t.range-1.given.1 f.0.1 _ b.bound_words-query.ensures.0 (slots s) f.0.0.columns.1, f.1))
 
 same_length_2 : tie.Need-shape_of-out
 same_length_2 c = search rules
@@ -130,7 +130,7 @@ returns_3 c =
     let f = s.pre.0 in
     let a = s.args in
     let k =
-    kept_ranged a.k a.cols a.range _ _ _ t.before.range-1.given.1 f.1 _ b.bound_words-query.ensures.0 (slots s) f.0.columns.1
+    kept_ranged a.k a.cols a.range _ _ _ t.range-1.given.1 f.1 _ b.bound_words-query.ensures.0 (slots s) f.0.columns.1
     a.table.now f.0 b.bound_words-query.ensures.1 (small t) (some b.before) (words t.before.before.before.before.before.before) in
     (gathered_is _ _ f.0 _ _ _ k _ l.list_ranged.ensures.0, listed_is _ _ f.0 _ _ _ k _ _ l.list_ranged.ensures.1)
 

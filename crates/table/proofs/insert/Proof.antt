@@ -12,11 +12,11 @@ use Rattle.table.proofs.insert.Statement.{statement}
 use Rattle.table.proofs.insert.Tie as tie
 
 -- the spot that the scan gave is a place of the table
-spot_le : (c : tie.In-At-2) → c.spot-1.given.0.0 ≤ get_or c.before.before.before.before.before.before.args.table.now 0 0
-spot_le c = spot_in _ _ c.before.before.before.before.before.before.requires _ c.before.before.seek-spot.ensures _ c.spot-1.given.1
+spot_le : (c : tie.In-At-2) → c.spot-1.given.0.0 ≤ get_or c.args.table.now 0 0
+spot_le c = spot_in _ _ c.requires _ c.seek-spot.ensures _ c.spot-1.given.1
 
-spot_ends : (c : tie.In-At-2) → 8 + c.spot-1.given.0.0 * length c.before.before.before.before.before.before.args.rec.now ≤ table_least
-spot_ends c = scan_end _ _ _ _ c.before.before.before.before.before.before.requires (spot_le c) refl
+spot_ends : (c : tie.In-At-2) → 8 + c.spot-1.given.0.0 * length c.args.rec.now ≤ table_least
+spot_ends c = scan_end _ _ _ _ c.requires (spot_le c) refl
 
 seek_requires : tie.Need-seek-spot-requires
 seek_requires c κs = search rules
@@ -31,7 +31,7 @@ same_length : tie.Need-shape_of-table-in_default
 same_length c = search rules
 
 returns : tie.Need-returns-in_default
-returns c = insert_there _ _ c.before.before.before.before.before.before.requires _ c.before.before.seek-spot.ensures c.enum_told-1.given.1
+returns c = insert_there _ _ c.requires _ c.seek-spot.ensures c.in_default.is
 
 slice_read_n : tie.Need-bounds-table-0
 slice_read_n c = search rules
@@ -43,7 +43,7 @@ same_length_2 : tie.Need-shape_of-table-then-n-ge-RECORDS
 same_length_2 c = search rules
 
 returns_2 : tie.Need-returns-then-n-ge-RECORDS
-returns_2 c = let p = c.before.before.before in insert_full _ _ p.before.before.before.before.before.before.requires _ p.before.before.seek-spot.ensures _ p.spot-1.given.1 c.if-n-ge-RECORDS.true
+returns_2 c = insert_full _ _ c.requires _ c.seek-spot.ensures _ c.spot-1.given.1 c.if-n-ge-RECORDS.true
 
 mul_at : tie.Need-overflow_mul-at
 mul_at c = omega (arith, spot_ends c.before.before.before)
@@ -52,16 +52,15 @@ add_at : tie.Need-overflow_add-at
 add_at c = omega (arith, spot_ends c.before.before.before)
 
 mul_e : tie.Need-overflow_mul-e
-mul_e c = omega (arith, in_use _ _ c.before.before.before.before.before.before.before.before.before.requires)
+mul_e c = omega (arith, in_use _ _ c.requires)
 
 add_e : tie.Need-overflow_add-e
-add_e c = omega (arith, in_use _ _ c.before.before.before.before.before.before.before.before.before.requires)
+add_e c = omega (arith, in_use _ _ c.requires)
 
 insert_requires : tie.Need-insert-requires
 insert_requires c κs =
     let p = c.before.before.before.before in
-    let a = p.before.before.before.before.before.before in
-    (omega (arith, mul-le-mul_right (length a.args.rec.now) (spot_le p)), omega (arith, room_for _ _ a.requires (search rules)))
+    (omega (arith, mul-le-mul_right (length p.args.rec.now) (spot_le p)), omega (arith, room_for _ _ p.requires (search rules)))
 
 add_table : tie.Need-overflow_add-table
 add_table c = search rules
@@ -77,8 +76,7 @@ same_length_3 c = search rules
 
 returns_3 : tie.Need-returns
 returns_3 c =
-    let p = c.before.before.before.before.before.before.before in
-    insert_added _ _ p.before.before.before.before.before.before.requires _ p.before.before.seek-spot.ensures _ p.spot-1.given.1 _ c.before.before.before.before.if-n-ge-RECORDS.false c.before.before.insert.ensures
+    insert_added _ _ c.requires _ c.seek-spot.ensures _ c.spot-1.given.1 _ c.if-n-ge-RECORDS.false c.insert.ensures
 
 pub insert_spec : {M : Type 1} → statement M
 insert_spec =

@@ -26,8 +26,8 @@ cast_n : tie.Need-overflow_cast-n invariant_loop decreases_loop
 cast_n c = search rules
 
 -- the record that the scan stands at ends inside the memory
-room : (c : tie.In-loop-i invariant_loop decreases_loop) → c.before.loop-i.at + length c.before.before.before.before.before.args.rec.now ≤ table_least
-room c = scan_in _ _ _ _ c.before.before.before.before.before.requires c.loop-i-test.true c.before.loop-i.invariant.at_is
+room : (c : tie.In-loop-i invariant_loop decreases_loop) → c.loop-i.at + length c.args.rec.now ≤ table_least
+room c = scan_in _ _ _ _ c.requires c.loop-i-test.true c.loop-i.invariant.at_is
 
 loop_holds : tie.Need-loop-i-init invariant_loop decreases_loop
 loop_holds c = seek_none _ _ _ _
@@ -55,12 +55,10 @@ enum_told c = search rules
 
 returns : tie.Need-returns-in-Same invariant_loop decreases_loop
 returns c =
-    let l = c.before.before.before.before.before in
-    let a = l.before.before.before.before in
-    let h = c.before.before.before.before.loop-i-test.true in
-    seek_there _ _ _ _ _ _ _ l.loop-i.invariant h (length_records _ _) _
-    (part_is _ _ _ _ _ a.requires h l.loop-i.invariant.at_is refl) (part_long _ _ _ _ _ a.requires h l.loop-i.invariant.at_is refl)
-    (sym c.before.before.compare.ensures ∙ c.enum_told-1.given.1)
+    let h = c.loop-i-test.true in
+    seek_there _ _ _ _ _ _ _ c.loop-i.invariant h (length_records _ _) _
+    (part_is _ _ _ _ _ c.requires h c.loop-i.invariant.at_is refl) (part_long _ _ _ _ _ c.requires h c.loop-i.invariant.at_is refl)
+    (sym c.compare.ensures ∙ c.in_default.is)
 
 enum_told_2 : tie.Need-enum_told-in-Before invariant_loop decreases_loop
 enum_told_2 c = search rules
@@ -79,19 +77,17 @@ loop_less c = search rules
 
 loop_again : tie.Need-loop-i-preserved invariant_loop decreases_loop
 loop_again c =
-    let l = c.before.before.before.before in
-    let a = l.before.before.before.before in
-    let h = c.before.before.before.loop-i-test.true in
-    let p = part_is _ _ _ _ _ a.requires h l.loop-i.invariant.at_is refl in
-    let w = part_long _ _ _ _ _ a.requires h l.loop-i.invariant.at_is refl in
-    let o = sym c.before.compare.ensures in
-    ⊎_elim (λ x. turn_behind _ _ _ _ _ _ _ l.loop-i.invariant h (length_records _ _) _ p w _ (o ∙ x.1.given.1) x.2.taken x.3)
-    (⊎_elim (λ x. turn_past _ _ _ _ _ _ _ l.loop-i.invariant h (length_records _ _) _ p w _ (o ∙ x.1.given.1) x.2.left x.3)
-    (λ x. turn_greater _ _ _ _ _ _ _ l.loop-i.invariant h (length_records _ _) _ p w _ (o ∙ x.1.given.1) x.2))
+    let h = c.loop-i-test.true in
+    let p = part_is _ _ _ _ _ c.requires h c.loop-i.invariant.at_is refl in
+    let w = part_long _ _ _ _ _ c.requires h c.loop-i.invariant.at_is refl in
+    let o = sym c.compare.ensures in
+    ⊎_elim (λ x. turn_behind _ _ _ _ _ _ _ c.loop-i.invariant h (length_records _ _) _ p w _ (o ∙ x.1.given.1) x.2.taken x.3)
+    (⊎_elim (λ x. turn_past _ _ _ _ _ _ _ c.loop-i.invariant h (length_records _ _) _ p w _ (o ∙ x.1.given.1) x.2.left x.3)
+    (λ x. turn_greater _ _ _ _ _ _ _ c.loop-i.invariant h (length_records _ _) _ p w _ (o ∙ x.1.given.1) x.2))
     c.match.branch
 
 returns_2 : tie.Need-returns invariant_loop decreases_loop
-returns_2 c = seek_all _ _ _ _ _ _ _ c.before.loop-i.invariant c.loop-i-test.false (length_records _ _)
+returns_2 c = seek_all _ _ _ _ _ _ _ c.loop-i.invariant c.loop-i-test.false (length_records _ _)
 
 pub seek_spec : {M : Type 1} → statement M
 seek_spec =

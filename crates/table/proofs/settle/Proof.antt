@@ -14,7 +14,7 @@ returns : tie.Need-returns-then-to-from
 returns c = search rules
 
 returns_2 : tie.Need-returns-else-to-from
-returns_2 c = let a = c.before.before.args in settled a.table.now a.from a.to a.k c.if-to-from.false (search rules)
+returns_2 c = let a = c.args in settled a.table.now a.from a.to a.k c.if-to-from.false (search rules)
 
 pub settle_spec : {M : Type 1} → statement M
 settle_spec = tie.close (tie.spec slide_requires same_length returns returns_2)

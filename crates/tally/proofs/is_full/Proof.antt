@@ -4,7 +4,7 @@ use borrow.Author.Rules.{rules}
 use Rattle.tally.proofs.is_full.Statement.{statement}
 use Rattle.tally.proofs.is_full.Tie as tie
 
-count_in_requires : tie.Need-count-in-requires
+count_in_requires : tie.Need-count_in-requires
 count_in_requires c κs = search rules
 
 returns : tie.Need-returns

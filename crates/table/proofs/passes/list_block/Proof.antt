@@ -25,16 +25,16 @@ start c = c.before.before.before.before
 abbrev at_loop : tie.Joined-fits invariant_loop decreases_loop → tie.At-loop-at invariant_loop decreases_loop
 at_loop c = c.before.before.before.before
 
-room : (c : tie.In-loop-at invariant_loop decreases_loop) → c.before.loop-at.at + (start c.before).args.k ≤ length (start c.before).args.recs.now
-room c = pass_room _ _ _ _ c.before.loop-at.invariant (start c.before).pre.0 c.loop-at-test.true
+room : (c : tie.In-loop-at invariant_loop decreases_loop) → c.loop-at.at + (start c.before).args.k ≤ length (start c.before).args.recs.now
+room c = pass_room _ _ _ _ c.loop-at.invariant (start c.before).pre.0 c.loop-at-test.true
 
 mul_to : tie.Need-overflow_mul-to invariant_loop decreases_loop
 mul_to c =
-    let f = c.before.before.before.requires in
+    let f = c.requires in
     omega (arith, list_wide _ _ f.1.1.0 f.0.columns.1)
 
 loop_holds : tie.Need-loop-at-init invariant_loop decreases_loop
-loop_holds c = pass_start _ _ _ (listed_none _ _ _ _ _ c.before.before.before.requires.1.1.0)
+loop_holds c = pass_start _ _ _ (listed_none _ _ _ _ _ c.requires.1.1.0)
 
 add_e : tie.Need-overflow_add-e invariant_loop decreases_loop
 add_e c = search rules
@@ -63,28 +63,28 @@ same_length c = search rules
 returns : tie.Need-returns-then-j-eq-LIST invariant_loop decreases_loop
 returns c =
     let l = c.before.before.before.before.before in
-    let f = list_full _ _ _ _ _ _ _ _ _ _ (start l).requires.0 c.before.before.before.before.loop-at-test.true _ l.loop-at.invariant c.before.before.test-fits.ensures c.before.if-fits.true c.if-j-eq-LIST.true in
+    let f = list_full _ _ _ _ _ _ _ _ _ _ (start l).requires.0 c.loop-at-test.true _ l.loop-at.invariant c.test-fits.ensures c.if-fits.true c.if-j-eq-LIST.true in
     ((λ n e. (f n e).0), (λ n e. (f n e).1))
 
 write_requires : tie.Need-write-requires invariant_loop decreases_loop
 write_requires c κs =
     let i = c.before.before.before.before.before in
-    list_room_law _ _ _ _ _ _ _ _ _ _ (start i.before).pre.0 i.loop-at-test.true _ i.before.loop-at.invariant c.before.before.before.test-fits.ensures c.before.if-j-eq-LIST.false (start i.before).pre.1.1.1
+    list_room_law _ _ _ _ _ _ _ _ _ _ (start i.before).pre.0 i.loop-at-test.true _ i.loop-at.invariant c.test-fits.ensures c.if-j-eq-LIST.false (start i.before).pre.1.1.1
 
 cast_more : tie.Need-overflow_cast-more invariant_loop decreases_loop
 cast_more c = search rules
 
 add_j : tie.Need-overflow_add-j invariant_loop decreases_loop
-add_j c = omega (arith, bit_most c.before.test-fits.result, (at_loop c).loop-at.invariant.holds.few)
+add_j c = omega (arith, bit_most c.test-fits.result, (at_loop c).loop-at.invariant.holds.few)
 
 mul_to_2 : tie.Need-overflow_mul-to-in-loop-at invariant_loop decreases_loop
-mul_to_2 c = omega (arith, bit_wide c.before.test-fits.result (start (at_loop c)).args.k, (start (at_loop c)).pre.0.columns.1)
+mul_to_2 c = omega (arith, bit_wide c.test-fits.result (start (at_loop c)).args.k, (start (at_loop c)).pre.0.columns.1)
 
 add_to : tie.Need-overflow_add-to invariant_loop decreases_loop
 add_to c =
     let l = at_loop c in
     let f = (start l).pre.0.columns in
-    omega (arith, bit_wide c.before.test-fits.result (start l).args.k, f.1, l.loop-at.inv.holds.to_is, list_wide _ _ l.loop-at.inv.holds.few f.1)
+    omega (arith, bit_wide c.test-fits.result (start l).args.k, f.1, l.loop-at.inv.holds.to_is, list_wide _ _ l.loop-at.inv.holds.few f.1)
 
 loop_less : tie.Need-loop-at-smaller invariant_loop decreases_loop
 loop_less c = search rules
@@ -93,10 +93,10 @@ loop_again : tie.Need-loop-at-preserved invariant_loop decreases_loop
 loop_again c =
     let l = at_loop c in
     let f = (start l).pre in
-    let h = c.before.before.before.loop-at-test.true in
+    let h = c.loop-at-test.true in
     ⊎_elim
-    (λ w. list_found _ _ _ _ _ _ _ _ _ _ f.0 h _ l.loop-at.inv c.before.test-fits.ensures w.0.taken w.1.left f.1.1.1 _ (w.6 ∙ w.3.ensures))
-    (λ w. list_other _ _ _ _ _ _ _ _ _ _ f.0 h _ l.loop-at.inv c.before.test-fits.ensures w.0.left _ w.1)
+    (λ w. list_found _ _ _ _ _ _ _ _ _ _ f.0 h _ l.loop-at.inv c.test-fits.ensures w.0.taken w.1.left f.1.1.1 _ (w.6 ∙ w.3.ensures))
+    (λ w. list_other _ _ _ _ _ _ _ _ _ _ f.0 h _ l.loop-at.inv c.test-fits.ensures w.0.left _ w.1)
     c.if-fits.branch
 
 same_length_2 : tie.Need-shape_of-out invariant_loop decreases_loop

@@ -37,7 +37,7 @@ passed c =
     let l = at_loop c in
     blocks_skip _ _ _ _ _ _ _ l.loop-from.inv _ (skip_passed _ _ _ _ (stretch_rest _ _ _ _ (start l).pre.0 l.loop-from.inv) _ c.skip.ensures)
 
-ended : (c : tie.After-least-e invariant_loop decreases_loop) → let a = (start (at_loop c.before)).args in let at = (at_loop c.before).loop-from.from + c.before.skip.result in
+ended : (c : tie.After-least-e invariant_loop decreases_loop) → let a = (start (at_loop c.before)).args in let at = (at_loop c.before).loop-from.from + c.skip.result in
     (m : ℕ) × (c.least-e.result ≡ at + m * a.k) × (at ≤ c.least-e.result) × (c.least-e.result ≤ length a.recs.now)
 ended c = block_end _ _ _ _ _ _ _ (passed c.before) (start (at_loop c.before)).pre.0 _ _ c.least-e.ensures
 
@@ -111,7 +111,7 @@ loop_less : tie.Need-loop-from-smaller invariant_loop decreases_loop
 loop_less c =
     let b = block c.before.before.before in
     let l = at_loop b.before in
-    let h = block_less l.loop-from.from (l.loop-from.from + b.before.skip.result) _ _ _ b.least-e.ensures (omega arith) b.before.before.before.loop-from-test.taken (wide (start l)).0 in
+    let h = block_less l.loop-from.from (l.loop-from.from + b.skip.result) _ _ _ b.least-e.ensures (omega arith) b.loop-from-test.taken (wide (start l)).0 in
     omega (arith, h, (ended b).3)
 
 loop_again : tie.Need-loop-from-preserved invariant_loop decreases_loop

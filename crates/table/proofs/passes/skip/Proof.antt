@@ -53,23 +53,22 @@ part_some_in_end c = search rules
 some_in_requires : tie.Need-some_in-requires invariant_loop decreases_loop
 some_in_requires c κs =
     let l = c.before.before in
-    (stretch_part _ _ _ _ _ (start l).requires.0 (search rules) c.before.loop-at-test.true refl, (start l).requires.1.0)
+    (stretch_part _ _ _ _ _ (start l).requires.0 (search rules) c.loop-at-test.true refl, (start l).requires.1.0)
 
 returns : tie.Need-returns-then-some_in invariant_loop decreases_loop
 returns c =
     let l = c.before.before.before.before in
-    skip_found _ _ _ _ _ l.loop-at.invariant _ refl c.before.before.before.loop-at-test.true _ c.before.some_in.ensures c.if-some_in.true (start l).requires.0.columns.0
+    skip_found _ _ _ _ _ l.loop-at.invariant _ refl c.loop-at-test.true _ c.some_in.ensures c.if-some_in.true (start l).requires.0.columns.0
 
 loop_less : tie.Need-loop-at-smaller invariant_loop decreases_loop
-loop_less c = omega (arith, (wide (start c.before.before.before.before)).0, c.before.before.before.loop-at-test.true)
+loop_less c = omega (arith, (wide (start c.before.before.before.before)).0, c.loop-at-test.true)
 
 loop_again : tie.Need-loop-at-preserved invariant_loop decreases_loop
 loop_again c =
-    let l = c.before.before.before.before in
-    skip_turn _ _ _ _ _ l.loop-at.invariant _ refl c.before.before.before.loop-at-test.true _ c.before.some_in.ensures c.if-some_in.false
+    skip_turn _ _ _ _ _ c.loop-at.invariant _ refl c.loop-at-test.true _ c.some_in.ensures c.if-some_in.false
 
 returns_2 : tie.Need-returns invariant_loop decreases_loop
-returns_2 c = skip_end _ _ _ _ _ c.before.loop-at.invariant c.loop-at-test.false (start c.before).pre.0.columns.0
+returns_2 c = skip_end _ _ _ _ _ c.loop-at.invariant c.loop-at-test.false (start c.before).pre.0.columns.0
 
 pub skip_spec : {M : Type 1} → statement M
 skip_spec =

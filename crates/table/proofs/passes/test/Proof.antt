@@ -12,14 +12,14 @@ lies_requires c κs = let f = (start c.before).requires in (f.0.long, f.1)
 
 returns : tie.Need-returns-then-ranged
 unfolding test_of
-returns c = c.lies.ensures ∙ rw c.before.if-ranged.true
+returns c = c.lies.ensures ∙ rw c.if-ranged.true
 
 lies_requires_2 : tie.Need-lies-requires-2
 lies_requires_2 c κs = let f = (start c.before).requires in (f.0.masked c.if-ranged.false, f.1)
 
 returns_2 : tie.Need-returns
 unfolding test_of
-returns_2 c = c.lies-2.ensures ∙ rw c.before.if-ranged.false
+returns_2 c = c.lies-2.ensures ∙ rw c.if-ranged.false
 
 pub test_spec : {M : Type 1} → statement M
 test_spec = tie.close (tie.spec lies_requires returns lies_requires_2 returns_2)

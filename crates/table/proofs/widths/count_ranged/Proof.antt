@@ -17,7 +17,7 @@ abbrev pass : tie.Start → ℕ → ℕ → ℕ
 pass s m n = length (fitting true m s.args.query.now n s.args.recs.now)
 
 one : (c : tie.Else-k-eq2) → (start c.before.before.before).args.k ≡ 1
-one c = width_one _ (start c.before.before.before).requires.0.columns c.before.before.if-k-eq4.false c.before.if-k-eq3.false c.if-k-eq2.false
+one c = width_one _ (start c.before.before.before).requires.0.columns c.if-k-eq4.false c.if-k-eq3.false c.if-k-eq2.false
 
 skip_and_count_requires : tie.Need-skip_and_count-requires
 skip_and_count_requires c κs = let f = (start c.before).requires in (stretch_for _ 4 _ c.if-k-eq4.true f.0, (f.1, (omega arith, omega arith)))

@@ -28,7 +28,7 @@ abbrev left : tie.Start → ℕ → ℕ → List ℕ
 left s m n = written s.args.out.now 0 (flat (take max_list (passed s m n)))
 
 one : (c : tie.Else-k-eq2) → (start c.before.before.before).args.k ≡ 1
-one c = width_one _ (start c.before.before.before).requires.0.columns c.before.before.if-k-eq4.false c.before.if-k-eq3.false c.if-k-eq2.false
+one c = width_one _ (start c.before.before.before).requires.0.columns c.if-k-eq4.false c.if-k-eq3.false c.if-k-eq2.false
 
 list_in_requires : tie.Need-list_in-requires
 list_in_requires c κs = let t = c.before in let f = (start t.before).requires in (stretch_for _ 4 _ t.if-k-eq4.true f.0, (f.1.0, (omega arith, (omega arith, f.1.1))))
