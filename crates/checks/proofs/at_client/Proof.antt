@@ -11,48 +11,45 @@ use borrow.Author.Rules.{rules}
 use Rattle.checks.proofs.at_client.Statement.{statement}
 use Rattle.checks.proofs.at_client.Tie as tie
 
-is_unsound_requires : tie.Need-is-unsound-requires
-is_unsound_requires c κs = c.before.before.before.before.requires
+is_unsound_requires : tie.Need-is_unsound-requires
+is_unsound_requires c κs = c.requires
 
 refused_requires : tie.Need-refused-requires
 refused_requires c κs = search rules
 
-returns : tie.Need-returns
-returns c = let i = c.before in refused_with refused_unsound c.refused.ensures (λ z. omega arith) (client_unsound _ _ (sym i.if1.true ∙ i.before.is_unsound.ensures))
+returns : tie.Need-returns-then-is_unsound
+returns c = refused_with refused_unsound c.refused.ensures (λ z. omega arith) (client_unsound _ _ (sym c.if-is_unsound.true ∙ c.is_unsound.ensures))
 
-refused_requires_2 : tie.Need-refused-requires-2
+refused_requires_2 : tie.Need-refused-requires-then-d-ge-CLIENTS
 refused_requires_2 c κs = search rules
 
-returns_2 : tie.Need-returns-2
+returns_2 : tie.Need-returns-then-d-ge-CLIENTS
 returns_2 c =
-    let i = c.before in
-    refused_with refused_no_client c.refused2.ensures (λ z. omega arith)
-    (client_none _ _ (sym i.before.if1.false ∙ i.before.before.is_unsound.ensures) (omega (arith, i.if2.true)))
+    refused_with refused_no_client c.refused-then-d-ge-CLIENTS.ensures (λ z. omega arith)
+    (client_none _ _ (sym c.if-is_unsound.false ∙ c.is_unsound.ensures) (omega (arith, c.if-d-ge-CLIENTS.true)))
 
 -- the memories are sound where the client is there
-abbrev start : tie.Else2 → tie.Start
+abbrev start : tie.Else-d-ge-CLIENTS → tie.Start
 start c =
     let u = c.before.before in
     u.before.before.before.before.before
 
-good : (c : tie.Else2) → let a = (start c).args in Sound (mem a.table.now a.nodes.now a.answers.now a.clients.now)
-good c = let i = c.before in sound _ (start c).requires (sym (sym i.if1.false ∙ i.before.is_unsound.ensures))
+good : (c : tie.Else-d-ge-CLIENTS) → let a = (start c).args in Sound (mem a.table.now a.nodes.now a.answers.now a.clients.now)
+good c = sound _ (start c).requires (sym (sym c.if-is_unsound.false ∙ c.is_unsound.ensures))
 
-read_requires : tie.Need-read-requires
-read_requires c κs = client_fit (good c) _ (omega (arith, c.if2.false))
+read_requires : tie.Need-read-held-requires
+read_requires c κs = client_fit (good c) _ (omega (arith, c.if-d-ge-CLIENTS.false))
 
-client_code_requires : tie.Need-client-code-requires
+client_code_requires : tie.Need-client_code-code-requires
 client_code_requires c κs =
     let g = good c.before in
-    (client_fit g _ (omega (arith, c.before.if2.false)), (c.read.ensures, omega (arith, g.most, c.read.ensures.columns)))
+    (client_fit g _ (omega (arith, c.if-d-ge-CLIENTS.false)), (c.read-held.ensures, omega (arith, g.most, c.read-held.ensures.columns)))
 
-returns_3 : tie.Need-returns-3
+returns_3 : tie.Need-returns
 returns_3 c =
-    let r = c.before in
-    let i = r.before in
     record {
-      code = client_there _ _ _ _ _ (sym i.before.if1.false ∙ i.before.before.is_unsound.ensures) (omega (arith, i.if2.false)) _ c.client_code.ensures;
-      held = λ z. r.read.ensures;
+      code = client_there _ _ _ _ _ (sym c.if-is_unsound.false ∙ c.is_unsound.ensures) (omega (arith, c.if-d-ge-CLIENTS.false)) _ c.client_code-code.ensures;
+      held = λ z. c.read-held.ensures;
     }
 
 pub at_client_spec : {M : Type 1} → statement M

@@ -8,40 +8,32 @@ use borrow.Author.Rules.{rules}
 use Rattle.checks.proofs.begin_check.Statement.{statement}
 use Rattle.checks.proofs.begin_check.Tie as tie
 
-is_short_requires : tie.Need-is-short-requires
+is_short_requires : tie.Need-is_short-requires
 is_short_requires c κs = search rules
 
 keyless_requires : tie.Need-keyless-requires
 keyless_requires c κs = search rules
 
-returns : tie.Need-returns
-returns c = let i = c.before in begin_short _ _ _ c.keyless.ensures (sym i.if1.true ∙ i.before.is_short.ensures _)
+returns : tie.Need-returns-then-is_short
+returns c = begin_short _ _ _ c.keyless.ensures (sym c.if-is_short.true ∙ c.is_short.ensures _)
 
-shared_slice_read_request_of : tie.Need-shared-slice-read-request-of
-shared_slice_read_request_of c = let i = c.before in omega (arith, long (shape_of 0) _ (sym (sym i.if1.false ∙ i.before.is_short.ensures _)))
+shared_slice_read_request_of : tie.Need-bounds-clients-0
+shared_slice_read_request_of c = omega (arith, long (shape_of 0) _ (sym (sym c.if-is_short.false ∙ c.is_short.ensures _)))
 
-request_of_requires : tie.Need-request-of-requires
+request_of_requires : tie.Need-request_of-request-requires
 request_of_requires c κs = search rules
 
-returns_2 : tie.Need-returns-2
+returns_2 : tie.Need-returns-then-request-ne0
 returns_2 c =
-    let q = c.before.before in
-    let i = q.before.before in
-    begin_fault _ _ _ (sym i.if1.false ∙ i.before.is_short.ensures _) q.request_of.ensures (λ z. omega (arith, z, c.if2.true))
+    begin_fault _ _ _ (sym c.if-is_short.false ∙ c.is_short.ensures _) c.request_of-request.ensures (λ z. omega (arith, z, c.if-request-ne0.true))
 
-desk_code_requires : tie.Need-desk-code-requires
+desk_code_requires : tie.Need-desk_code-code-requires
 desk_code_requires c κs =
-    let q = c.before.before in
-    let i = q.before.before in
-    sym (sym i.if1.false ∙ i.before.is_short.ensures _)
+    sym (sym c.if-is_short.false ∙ c.is_short.ensures _)
 
-returns_3 : tie.Need-returns-3
+returns_3 : tie.Need-returns
 returns_3 c =
-    let d = c.before in
-    let z = d.before in
-    let q = z.before.before in
-    let i = q.before.before in
-    begin_desk _ _ _ (sym i.if1.false ∙ i.before.is_short.ensures _) q.request_of.ensures (omega (arith, z.if2.false)) (d.desk_code.ensures _ _ _) refl
+    begin_desk _ _ _ (sym c.if-is_short.false ∙ c.is_short.ensures _) c.request_of-request.ensures (omega (arith, c.if-request-ne0.false)) (c.desk_code-code.ensures _ _ _) refl
 
 pub begin_check_spec : {M : Type 1} → statement M
 begin_check_spec =

@@ -6,44 +6,31 @@ use Rattle.checks.proofs.BeginCodes.{reads_only, writes_only, desk_busy, desk_ot
 use Rattle.checks.proofs.desk_code.Statement.{statement}
 use Rattle.checks.proofs.desk_code.Tie as tie
 
-at_client_requires : tie.Need-at-client-requires
-at_client_requires c κs = c.before.before.before.before.requires
+at_client_requires : tie.Need-at_client-found-requires
+at_client_requires c κs = c.requires
 
-returns : tie.Need-returns
-returns c = let f = c.before.before in λ b g a. desk_busy _ _ _ _ f.at_client.ensures.code c.if1.true
+returns : tie.Need-returns-then-found-eq0
+returns c = λ b g a. desk_busy _ _ _ _ c.at_client-found.ensures.code c.if-found-eq0.true
 
-returns_2 : tie.Need-returns-2
+returns_2 : tie.Need-returns-then-found-ne-REFUSED_IDLE
 returns_2 c =
-    let i = c.before.before in
-    let f = i.before.before in
-    λ b g a. desk_other _ _ _ _ f.at_client.ensures.code i.if1.false c.if2.true
+    λ b g a. desk_other _ _ _ _ c.at_client-found.ensures.code c.if-found-eq0.false c.if-found-ne-REFUSED_IDLE.true
 
-returns_3 : tie.Need-returns-3
+returns_3 : tie.Need-returns-then-kind-eq-READS
 returns_3 c =
-    let e = c.before in
-    let f = e.before.before.before.before in
-    λ b g a. desk_read _ _ _ _ f.at_client.ensures.code e.if2.false (reads_only 0 _ b g a c.if3.true)
+    λ b g a. desk_read _ _ _ _ c.at_client-found.ensures.code c.if-found-ne-REFUSED_IDLE.false (reads_only 0 _ b g a c.if-kind-eq-READS.true)
 
-is_worn_requires : tie.Need-is-worn-requires
+is_worn_requires : tie.Need-is_worn-requires
 is_worn_requires c κs =
-    let e = c.before in
-    let f = e.before.before.before.before in
-    let s = f.before.before.before.before.before in
-    nodes_fit (idle_passed _ _ s.requires (sym f.at_client.ensures.code ∙ e.if2.false))
+    nodes_fit (idle_passed _ _ c.requires (sym c.at_client-found.ensures.code ∙ c.if-found-ne-REFUSED_IDLE.false))
 
-returns_4 : tie.Need-returns-4
+returns_4 : tie.Need-returns-then-is_worn
 returns_4 c =
-    let k = c.before.before in
-    let e = k.before in
-    let f = e.before.before.before.before in
-    λ b g a. desk_worn _ _ _ _ f.at_client.ensures.code e.if2.false (writes_only 0 _ b g a k.if3.false) (sym c.if4.true ∙ c.before.is_worn.ensures _)
+    λ b g a. desk_worn _ _ _ _ c.at_client-found.ensures.code c.if-found-ne-REFUSED_IDLE.false (writes_only 0 _ b g a c.if-kind-eq-READS.false) (sym c.if-is_worn.true ∙ c.is_worn.ensures _)
 
-returns_5 : tie.Need-returns-5
+returns_5 : tie.Need-returns
 returns_5 c =
-    let k = c.before.before in
-    let e = k.before in
-    let f = e.before.before.before.before in
-    λ b g a. desk_write _ _ _ _ f.at_client.ensures.code e.if2.false (writes_only 0 _ b g a k.if3.false) (sym c.if4.false ∙ c.before.is_worn.ensures _)
+    λ b g a. desk_write _ _ _ _ c.at_client-found.ensures.code c.if-found-ne-REFUSED_IDLE.false (writes_only 0 _ b g a c.if-kind-eq-READS.false) (sym c.if-is_worn.false ∙ c.is_worn.ensures _)
 
 pub desk_code_spec : {M : Type 1} → statement M
 desk_code_spec =

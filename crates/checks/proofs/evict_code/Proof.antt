@@ -7,29 +7,29 @@ use borrow.Author.Rules.{rules}
 use Rattle.checks.proofs.evict_code.Statement.{statement}
 use Rattle.checks.proofs.evict_code.Tie as tie
 
-sound_code_requires : tie.Need-sound-code-requires
+sound_code_requires : tie.Need-sound_code-found-requires
 sound_code_requires c κs = search rules
 
-returns : tie.Need-returns
-returns c = evict_out _ _ c.before.sound_code.ensures _ _ c.if1.true
+returns : tie.Need-returns-then-found-ne0
+returns c = evict_out _ _ c.sound_code-found.ensures _ _ c.if-found-ne0.true
 
-enum_told : tie.Need-enum-told
+enum_told : tie.Need-enum_told-1
 enum_told c = search rules
 
-answer_code_requires : tie.Need-answer-code-requires
-answer_code_requires c κs = let i = c.before.before in omega (arith, sound_memories _ (sym i.before.sound_code.ensures ∙ i.if1.false))
+answer_code_requires : tie.Need-answer_code-requires
+answer_code_requires c κs = omega (arith, sound_memories _ (sym c.sound_code-found.ensures ∙ c.if-found-ne0.false))
 
-enum_told_2 : tie.Need-enum-told-2
+enum_told_2 : tie.Need-enum_told-in-Node
 enum_told_2 c = search rules
 
-node_code_requires : tie.Need-node-code-requires
-node_code_requires c κs = let i = c.before.before in nodes_fit (sound_memories _ (sym i.before.sound_code.ensures ∙ i.if1.false))
+node_code_requires : tie.Need-node_code-requires
+node_code_requires c κs = nodes_fit (sound_memories _ (sym c.sound_code-found.ensures ∙ c.if-found-ne0.false))
 
-returns_2 : tie.Need-returns-2
-returns_2 c = let i = c.before.before.before in evicts_answer _ _ i.before.sound_code.ensures i.if1.false _ _ _ c.before.enum_told.given.1 c.answer_code.ensures
+returns_2 : tie.Need-returns-in-Answer
+returns_2 c = evicts_answer _ _ c.sound_code-found.ensures c.if-found-ne0.false _ _ _ c.in-Answer.is c.answer_code.ensures
 
-returns_3 : tie.Need-returns-3
-returns_3 c = let i = c.before.before.before in evicts_node _ _ _ _ _ i.before.sound_code.ensures i.if1.false _ _ _ c.before.enum_told2.given.1 c.node_code.ensures
+returns_3 : tie.Need-returns-in-Node
+returns_3 c = evicts_node _ _ _ _ _ c.sound_code-found.ensures c.if-found-ne0.false _ _ _ c.in-Node.is c.node_code.ensures
 
 pub evict_code_spec : {M : Type 1} → statement M
 evict_code_spec =

@@ -5,26 +5,24 @@ use borrow.Author.Rules.{rules}
 use Rattle.checks.proofs.insert_asked.Statement.{statement}
 use Rattle.checks.proofs.insert_asked.Tie as tie
 
-take_record_requires : tie.Need-take-record-requires
+take_record_requires : tie.Need-take_record-taken-requires
 take_record_requires c κs = search rules
 
 keyless_requires : tie.Need-keyless-requires
 keyless_requires c κs = search rules
 
-returns : tie.Need-returns
+returns : tie.Need-returns-then-k-gt-COLUMNS
 returns c =
-    let t = c.before.before in
-    let p = t.before.before.requires in
-    too_many _ c.keyless.ensures (insert_code _ _ p _ t.take_record.ensures) c.before.if1.true
+    let p = c.requires in
+    too_many _ c.keyless.ensures (insert_code _ _ p _ c.take_record-taken.ensures) c.if-k-gt-COLUMNS.true
 
-record_key_requires : tie.Need-record-key-requires
+record_key_requires : tie.Need-record_key-key-requires
 record_key_requires c κs = search rules
 
-returns_2 : tie.Need-returns-2
+returns_2 : tie.Need-returns
 returns_2 c =
-    let t = c.before.before.before in
-    let p = t.before.before.requires in
-    insert_asked_law _ _ p _ t.take_record.ensures refl c.before.before.if1.false c.record_key.ensures
+    let p = c.requires in
+    insert_asked_law _ _ p _ c.take_record-taken.ensures refl c.if-k-gt-COLUMNS.false c.record_key-key.ensures
 
 pub insert_asked_spec : {M : Type 1} → statement M
 insert_asked_spec =

@@ -5,46 +5,40 @@ use Rattle.checks.proofs.CheckCodes.{unsound_none, unsound_many, unsound_records
 use Rattle.checks.proofs.is_unsound.Statement.{statement}
 use Rattle.checks.proofs.is_unsound.Tie as tie
 
-shared_slice_read_k : tie.Need-shared-slice-read-k
-shared_slice_read_k c = omega (arith, long _ _ c.before.before.before.before.before.requires)
+shared_slice_read_k : tie.Need-bounds-clients-0
+shared_slice_read_k c = omega (arith, long _ _ c.requires)
 
-returns : tie.Need-returns
-returns c = unsound_none _ c.if1.true
+returns : tie.Need-returns-then-k-eq0
+returns c = unsound_none _ c.if-k-eq0.true
 
-returns_2 : tie.Need-returns-2
-returns_2 c = unsound_many _ c.before.if1.false c.if2.true
+returns_2 : tie.Need-returns-then-k-gt-COLUMNS
+returns_2 c = unsound_many _ c.if-k-eq0.false c.if-k-gt-COLUMNS.true
 
-shared_slice_read_if3 : tie.Need-shared-slice-read-if3
-shared_slice_read_if3 c = omega (arith, long _ _ c.before.before.before.before.before.before.before.before.requires)
+shared_slice_read_if3 : tie.Need-bounds-table-0
+shared_slice_read_if3 c = omega (arith, long _ _ c.requires)
 
-returns_3 : tie.Need-returns-3
-returns_3 c = unsound_records _ c.before.before.before.if1.false c.before.before.if2.false c.if3.true
+returns_3 : tie.Need-returns-then-table-gt-RECORDS
+returns_3 c = unsound_records _ c.if-k-eq0.false c.if-k-gt-COLUMNS.false c.if-table-gt-RECORDS.true
 
-shared_slice_read_if4 : tie.Need-shared-slice-read-if4
-shared_slice_read_if4 c = let s = c.before.before.before.before.before in omega (arith, long _ _ s.before.before.before.before.before.requires)
+shared_slice_read_if4 : tie.Need-bounds-nodes-1
+shared_slice_read_if4 c = omega (arith, long _ _ c.requires)
 
-returns_4 : tie.Need-returns-4
-returns_4 c = let m = c.before.before.before.before in unsound_nodes _ m.before.if1.false m.if2.false c.before.before.if3.false c.if4.true
+returns_4 : tie.Need-returns-then-nodes-gt-NODES
+returns_4 c = unsound_nodes _ c.if-k-eq0.false c.if-k-gt-COLUMNS.false c.if-table-gt-RECORDS.false c.if-nodes-gt-NODES.true
 
-shared_slice_read_if5 : tie.Need-shared-slice-read-if5
-shared_slice_read_if5 c = let s = c.before.before.before.before.before.before in omega (arith, long _ _ s.before.before.before.before.before.before.requires)
+shared_slice_read_if5 : tie.Need-bounds-answers-0
+shared_slice_read_if5 c = omega (arith, long _ _ c.requires)
 
-returns_5 : tie.Need-returns-5
+returns_5 : tie.Need-returns-then-answers-gt-ANSWERS
 returns_5 c =
-    let k = c.before.before in
-    let r = k.before.before in
-    let m = r.before.before in
-    unsound_answers _ m.before.if1.false m.if2.false r.if3.false k.if4.false c.if5.true
+    unsound_answers _ c.if-k-eq0.false c.if-k-gt-COLUMNS.false c.if-table-gt-RECORDS.false c.if-nodes-gt-NODES.false c.if-answers-gt-ANSWERS.true
 
-some_long_requires : tie.Need-some-long-requires
-some_long_requires c κs = let s = c.before.before.before.before.before.before.before in record { long = omega (arith, (long _ _ s.before.before.before.before.before.before.requires).answers); few = c.if5.false }
+some_long_requires : tie.Need-some_long-requires
+some_long_requires c κs = record { long = omega (arith, (long _ _ c.requires).answers); few = c.if-answers-gt-ANSWERS.false }
 
-returns_6 : tie.Need-returns-6
+returns_6 : tie.Need-returns
 returns_6 c =
-    let k = c.before.before.before in
-    let r = k.before.before in
-    let m = r.before.before in
-    unsound_lists _ m.before.if1.false m.if2.false r.if3.false k.if4.false _ c.before.if5.false c.some_long.ensures
+    unsound_lists _ c.if-k-eq0.false c.if-k-gt-COLUMNS.false c.if-table-gt-RECORDS.false c.if-nodes-gt-NODES.false _ c.if-answers-gt-ANSWERS.false c.some_long.ensures
 
 pub is_unsound_spec : {M : Type 1} → statement M
 is_unsound_spec =

@@ -6,56 +6,42 @@ use Rattle.checks.proofs.BeginCodes.{range_none, range_past, mark_in, range_name
 use Rattle.checks.proofs.range_code.Statement.{statement}
 use Rattle.checks.proofs.range_code.Tie as tie
 
--- the call, where the range is taken apart
-abbrev start : tie.AfterKnownTold → tie.Start
-start c = c.before.before.before
-
-enum_known_range : tie.Need-enum-known-range
+enum_known_range : tie.Need-enum_known-range
 enum_known_range c = search rules
 
-enum_told : tie.Need-enum-told
+enum_told : tie.Need-enum_told-1
 enum_told c = search rules
 
-returns : tie.Need-returns
-returns c = λ b. range_none _ _ c.before.before.requires b _ c.enum_told.given.1
+returns : tie.Need-returns-in_default
+returns c = λ b. range_none _ _ c.requires b _ c.in_default.is
 
-returns_2 : tie.Need-returns-2
-returns_2 c = let k = c.before in λ b. range_past _ _ (start k).requires b _ _ _ _ k.before.range.given.1 c.if1.true
+returns_2 : tie.Need-returns-then-k-column
+returns_2 c = λ b. range_past _ _ c.requires b _ _ _ _ c.in-Between.is c.if-k-column.true
 
-cast_if2 : tie.Need-overflow-cast-if2
+cast_if2 : tie.Need-overflow_cast-column
 cast_if2 c = search rules
 
-mul_if2 : tie.Need-overflow-mul-if2
+mul_if2 : tie.Need-overflow_mul-column
 mul_if2 c = search rules
 
-mul_if2_2 : tie.Need-overflow-mul-if2-2
+mul_if2_2 : tie.Need-offset_bounds-asked-column
 mul_if2_2 c = search rules
 
-shared_slice_read_if2 : tie.Need-shared-slice-read-if2
+shared_slice_read_if2 : tie.Need-bounds-asked-column
 shared_slice_read_if2 c =
-    let e = c.before in
-    let k = e.before in
-    mark_in _ _ (start k).requires false (start k).args.range _ _ _ k.before.range.given.1 e.if1.false
+    mark_in _ _ c.requires false c.args.range _ _ _ c.in-Between.is c.if-k-column.false
 
-returns_3 : tie.Need-returns-3
+returns_3 : tie.Need-returns-then-asked-column-ne0
 returns_3 c =
-    let e = c.before.before in
-    let k = e.before in
-    λ b. range_named _ _ (start k).requires b _ _ _ _ k.before.range.given.1 e.if1.false _ refl c.if2.true
+    λ b. range_named _ _ c.requires b _ _ _ _ c.in-Between.is c.if-k-column.false _ refl c.if-asked-column-ne0.true
 
-returns_4 : tie.Need-returns-4
+returns_4 : tie.Need-returns-then-highest-lowest
 returns_4 c =
-    let m = c.before in
-    let e = m.before.before in
-    let k = e.before in
-    λ b. range_reversed _ _ (start k).requires b _ _ _ _ k.before.range.given.1 e.if1.false _ refl m.if2.false c.if3.true
+    λ b. range_reversed _ _ c.requires b _ _ _ _ c.in-Between.is c.if-k-column.false _ refl c.if-asked-column-ne0.false c.if-highest-lowest.true
 
-returns_5 : tie.Need-returns-5
+returns_5 : tie.Need-returns
 returns_5 c =
-    let m = c.before in
-    let e = m.before.before in
-    let k = e.before in
-    λ b. range_ordered _ _ (start k).requires b _ _ _ _ k.before.range.given.1 e.if1.false _ refl m.if2.false c.if3.false
+    λ b. range_ordered _ _ c.requires b _ _ _ _ c.in-Between.is c.if-k-column.false _ refl c.if-asked-column-ne0.false c.if-highest-lowest.false
 
 pub range_code_spec : {M : Type 1} → statement M
 range_code_spec =
