@@ -2,7 +2,7 @@
 -- results that document 01 gives. Leans on rules' Cases and on the definitions. Assumes nothing.
 use mathlib.Core.Bool.{true, false}
 use mathlib.Core.List.{List, [], ◌∷◌}
-use Prim.Native.Nat.{ℕ, ◌-◌}
+use Prim.Native.Nat.{ℕ}
 use lib.Dec.{T}
 use lib.ListN.{replicate}
 use Rattle.lists.specs.Lists.{same, before, keep, place, without, all_below, listed, padded, written, rows, flat, entries_in, with_entries, stretch, with_stretch, joined, parts_in, with_parts, kept_in, with_kept, wholes, halves, wholes_at, halves_at}
@@ -12,7 +12,6 @@ use Rattle.query.specs.Encoding.{column_of, query_of, well_marked, is_query, nam
 use Rattle.query.specs.declared.Range.TheVariants.{None}
 use Rattle.query.specs.Range as range
 use Rattle.query.specs.Range.{is_named, is_range, is_reversed}
-use Rattle.query.proofs.NodeCases as nodes
 use Rattle.rules.specs.Table.{list_of, has, put_in, target, is_full, outside, effect, no_room, changes}
 use Rattle.rules.specs.Work.{read_of, insert_of, of_records, of_number, ask_fault, list_within, value_of, may_answer, read_labels, ask_key, ask_in, write_labels, change_kind, kind_of, key_of, change_in, write_in, work_in, work_fault, steps_in_all, is_write, ask_of, work_of, fault_of}
 use Rattle.query.specs.Shape.{Form, narrow, wide, shape_of}

@@ -1,6 +1,6 @@
 -- Laws of what an insert takes, column after column as they arrive, and of the record that it then has. Leans on ColumnLoops.
 -- Assumes nothing.
-use Rattle.std.proofs.Common.{◌≡◌, ℕ, suc, ◌+◌, ◌*◌, ◌<◌, ◌≤◌, Bool, true, false, cond, List, [], ◌∷◌, ◌++◌, length, get_or, take, drop, set, replicate, sym, refl, ap, ◌∙◌, append_assoc, append-nil, arith, length-append, length-drop, take_all}
+use Rattle.std.proofs.Common.{◌≡◌, ℕ, suc, ◌+◌, ◌<◌, ◌≤◌, true, false, List, [], ◌∷◌, ◌++◌, length, get_or, take, drop, set, replicate, sym, refl, ap, ◌∙◌, append_assoc, append-nil, arith, length-append, length-drop, take_all}
 use Rattle.lists.specs.Lists.{padded}
 use Rattle.laws.proofs.ListLaws.{take_padded}
 use Rattle.query.specs.declared.Column.{Column}
@@ -8,7 +8,6 @@ use Rattle.query.specs.declared.Column.TheVariants.{Is, Wildcard}
 use Rattle.query.specs.Query.{Query, Record, named, naming}
 use Rattle.query.specs.Encoding.{column_of, query_of, names_all, record_of, key_words}
 use Rattle.query.specs.Shape.{max_columns}
-use Rattle.query.proofs.NodeLists.{named_most}
 use Rattle.rules.specs.Layout.{refused_columns}
 use Rattle.columns.specs.declared.Taken.{Taken}
 use Rattle.columns.specs.ColumnContracts.{front, taken_of}

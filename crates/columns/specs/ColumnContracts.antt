@@ -1,5 +1,5 @@
 -- What the functions over `[Column; 4]` give, where crates/query/specs has no name for it. Definitions only. Assumes nothing.
-use Rattle.std.specs.Prelude.{ℕ, ◌-◌, Bool, cond, ◌&&◌, ◌||◌, List, [], ◌∷◌, ◌++◌, length, take, replicate, ◌==◌, nat_le}
+use Rattle.std.specs.Prelude.{ℕ, ◌-◌, Bool, cond, ◌&&◌, ◌||◌, [], ◌∷◌, ◌++◌, length, take, replicate, ◌==◌, nat_le}
 use Rattle.lists.specs.Lists.{padded}
 use Rattle.query.specs.declared.Column.TheVariants.{Is, Wildcard}
 use Rattle.query.specs.Query.{Query, Record}

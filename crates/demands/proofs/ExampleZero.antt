@@ -24,7 +24,7 @@ use Rattle.rules.specs.Nodes.{new_node, added, is_free, oldest_free, make_room, 
 use Rattle.rules.specs.Answers.{key_in, length_in, revision_in, list_in, value_in, has_key_of, at_least, serves, fetch_place, key_place, filed, is_long, some_long, is_count, most_in}
 use Rattle.rules.specs.Client.{kind, steps, saw_pending, did_change, found_full, entry_of, idle, is_idle, begun, ask_at, write_at, work_at, is_bad, stepped, flag, noted, holding, wrote}
 use Rattle.query.specs.Shape.{shape_of}
-use Rattle.rules.specs.Memory.{Mem, mem, records_in, with_records, store_in, with_store, answers_in, with_answers, client_in, with_client, cleared, opened}
+use Rattle.rules.specs.Memory.{Mem, records_in, with_records, store_in, with_store, answers_in, with_answers, client_in, with_client, cleared, opened}
 use Rattle.rules.specs.Memory.{wide_floor, with_wide_floor, node_from, node_to, entry_from, entry_to, told}
 use Rattle.rules.specs.Checks.{check_of, misfit, labelled, bared, check_for}
 use Rattle.rules.specs.Refusals.{form, client, is_short, bad_columns, is_unsound, no_client, open_code, begin_code, at_client, step_code, shape}

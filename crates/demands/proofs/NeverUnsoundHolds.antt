@@ -16,14 +16,12 @@ use Rattle.rules.specs.Layout.{max_clients, tray_least}
 use Rattle.rules.specs.Client.{is_idle}
 use Rattle.rules.specs.Work.{Work, asking, writing, Request, work_of, steps_in_all}
 use Rattle.rules.specs.Memory.{opened}
-use Rattle.rules.specs.Outcome.{number}
 use Rattle.rules.specs.Refusals.{form, client}
 use Rattle.rules.specs.History.{step, abandon, renew, untrayed, call_result, is_accepted}
 use Rattle.rules.specs.Tally.{Made, made, is_full_for, is_tally_full, unlent, mem_after}
 use Rattle.machine.specs.Machine as machine
 use Rattle.machine.specs.Machine.{State, Phase, idle, looking, tabling, filing, announcing, raising, at_client, with_store, Response, is_refused, is_end}
 use Rattle.machine.specs.Transition.{Transition}
-use Rattle.machine.specs.Transition
 use Rattle.machine.proofs.Sums.{upd_same}
 use Rattle.machine.proofs.Log.{stepped}
 use Rattle.machine.proofs.Frames.{phase_work, transition_accepted}

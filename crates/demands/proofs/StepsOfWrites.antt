@@ -19,7 +19,7 @@ use Rattle.query.proofs.Agreement.{write_node_edge, write_edge_node}
 use Rattle.rules.specs.Layout.{max_nodes}
 use Rattle.rules.specs.Table.{Table, Change, insert, delete, target, has, effect, is_full, no_room}
 use Rattle.rules.specs.Nodes.{has_label, Words, Store, is_present, node_of, revision, pending, announced, retired}
-use Rattle.rules.specs.Client.{steps, stepped, wrote}
+use Rattle.rules.specs.Client.{stepped}
 use Rattle.rules.specs.Memory.{Mem, records_in, store_in}
 use Rattle.rules.specs.Outcome.{StepResult}
 use Rattle.rules.specs.Refusals.{form, shape, columns, client}
@@ -54,7 +54,6 @@ use Rattle.revisions.specs.EffectiveRevision.{tally, lifts}
 use Rattle.demands.proofs.StepsMade.{Under, under_step, keeps_since, write_at, step_before, no_twice, not_refused, nodes_after, few_nodes, nodes_count, made_in, made_since}
 use Rattle.rules.specs.History as rules
 use Rattle.machine.specs.Machine as machine
-use Rattle.machine.specs.Transition
 
 -- ---- The writer, and how many nodes it has
 pub since_under : (h : History) (r : Request) (w : Change) → Begins r w → (d b n : ℕ) → Under h r d b n → Since h (writing (of h w)) d b n

@@ -17,7 +17,7 @@ use Rattle.query.specs.Shape.{Form, Shape, max_columns}
 use Rattle.rules.specs.Layout.{max_clients, max_pending, max_revision, worn_above, first_floor}
 use Rattle.rules.proofs.NodeLaws.{worn_room}
 use Rattle.rules.specs.Work.{writing, Write, write_labels}
-use Rattle.rules.specs.Nodes.{Words, store, is_worn}
+use Rattle.rules.specs.Nodes.{Words, is_worn}
 use Rattle.rules.proofs.WorkLaws.{write_labels_differ}
 use Rattle.revisions.specs.EffectiveRevision.{effective, pending_of, one, tally}
 use Rattle.revisions.proofs.NodeRows.{Each}
@@ -25,7 +25,6 @@ use Rattle.revisions.proofs.RevisionBounds.{Below, below_effective, worn_below}
 use Rattle.machine.specs.Machine.{upd, State, Phase, idle, looking, tabling, filing, announcing, raising, opened, at_client, with_store, with_filing, with_tab}
 use Rattle.machine.specs.Machine.{Call, begin, step, abandon, evicts_answer, evicts_node, renew, Response, went}
 use Rattle.machine.specs.Transition.{Transition}
-use Rattle.machine.specs.Transition
 use Rattle.machine.proofs.Asks.{write_few}
 use Rattle.machine.proofs.Sums.{sum_below, sum_below_change, sum_below_none, sum_below_ge, upd_same, upd_other}
 use Rattle.machine.proofs.PendingLabels.{holds, held_of, Leaves, tally_append, tally_drop, tally_pos, one_self}

@@ -11,7 +11,7 @@ use borrow.Author.Tests.{le-leb, lt-leb, eq-eqb, ne_eqb}
 use Rattle.laws.proofs.TestLaws.{by_test}
 use Rattle.query.specs.Query.{Record, naming}
 use Rattle.query.specs.Encoding.{key_width, key_words, record_of, bare_key}
-use Rattle.query.specs.Shape.{Shape, max_columns, wide}
+use Rattle.query.specs.Shape.{Shape, max_columns}
 use Rattle.query.proofs.EncodingLaws.{query_in_key, query_in_length, key_words_length}
 use Rattle.rules.specs.Layout.{max_records, max_list, client_width, reads}
 use Rattle.rules.specs.Table.{Change, insert, delete, target}

@@ -19,7 +19,7 @@ use Rattle.rules.specs.Work.{Request, read_of, insert_of, delete_of, is_write, w
 use Rattle.rules.specs.Nodes.{Words, Store, ensured, announced, retired}
 use Rattle.rules.specs.Client.{Client, saw_pending, did_change, found_full, entry_of, is_idle}
 use Rattle.rules.specs.Memory.{Mem, store_in, with_store, answers_in, renewed}
-use Rattle.rules.specs.Refusals.{form, columns, client, shape, step_code, begin_code, abandon_code, evict_answer_code, evict_node_code, renew_code}
+use Rattle.rules.specs.Refusals.{form, client, shape, step_code, begin_code, abandon_code, evict_answer_code, evict_node_code, renew_code}
 use Rattle.rules.specs.Outcome.{Result, result_of, StepResult, result_with, number}
 use Rattle.rules.specs.Steps.{now_at, store_back, answered, look_result, fetch_result, table_result, file_result, read_result, announce_result, write_table_result, end_of}
 use Rattle.rules.specs.Steps.{raise_result, write_result, progress_of, progress}

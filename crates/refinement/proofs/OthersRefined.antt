@@ -26,7 +26,7 @@ use Rattle.rules.specs.Nodes.{Words, Store, store, retired, evict_node}
 use Rattle.rules.specs.Answers.{Entry}
 use Rattle.rules.specs.Client.{saw_pending, is_idle}
 use Rattle.rules.specs.Memory.{Mem, with_filed, store_in, answers_in, with_answers, renewed}
-use Rattle.rules.specs.Refusals.{form, columns, client, begin_code, abandon_code, evict_answer_code, evict_node_code, renew_code, shape}
+use Rattle.rules.specs.Refusals.{form, client, begin_code, abandon_code, evict_answer_code, evict_node_code, renew_code, shape}
 use Rattle.rules.specs.Outcome.{result_of}
 use Rattle.rules.specs.Steps.{store_back}
 use Rattle.rules.specs.Calls.{begin_result, past_table, announced_labels, labels_left, retire_result, abandoned_write, abandoned, abandon_result, evict_answer_result, evict_node_result, renew_result, abandoned_of}

@@ -14,7 +14,6 @@ use Rattle.laws.proofs.TestLaws.{by_test}
 use Rattle.laws.proofs.SearchLaws.{place_at, place_before}
 use Rattle.laws.proofs.Members.{in_at, in_place}
 use Rattle.query.specs.Query.{Record}
-use Rattle.query.specs.Shape.{wide}
 use Rattle.rules.specs.Layout.{max_records, max_list, max_clients, entry_width}
 use Rattle.rules.specs.declared.Outcome.TheVariants.{Accepted, Long}
 use Rattle.rules.specs.Nodes.{Words, Store, node_of, revision, pending}

@@ -1,6 +1,6 @@
 -- `columns::take_record` meets its contract. The invariant is `Taking`: the values so far, and no wildcard among them. Assumes nothing.
-use Rattle.std.proofs.Common.{◌-◌, length, ⊎_elim, rules}
-use Rattle.columns.proofs.TakeLoop.{Taking, taking_none, taking_more, taking_past, taking_stops, taking_all}
+use Rattle.std.proofs.Common.{◌-◌, length}
+use Rattle.columns.proofs.TakeLoop.{Taking}
 use Rattle.columns.proofs.take_record.Given as goal
 
 abbrev pub invariant-loop-from : goal.invariant-loop-from

@@ -59,8 +59,8 @@ slice_aggregate_count_plain c = search rules
 count_plain_requires : tie.Need-count_plain-requires
 count_plain_requires c κs =
     let m = c.before in
-    let s = start m.before.before.before in
-    let f = s.pre.0 in
+    let s = start m.before.before in
+    let f = s.requires.0 in
     (records_stretch _ _ f, is_plain _ _ _ m.mask_words-query.ensures (slots s) f.columns.1)
 
 cast_result : tie.Need-overflow_cast-result
@@ -69,25 +69,25 @@ cast_result c = search rules
 returns : tie.Need-returns-in_default
 returns c =
     let m = c.before.before in
-    let s = start m.before.before.before in
-    let f = s.pre.0 in
+    let s = start m.before.before in
+    let f = s.requires.0 in
     let a = s.args in
-    let k = kept_plain a.k a.table.now a.cols _ f m.mask_words-query.ensures (slots s) a.range m.enum_told-1.given.1 in
+    let k = kept_plain a.k a.table.now a.cols _ f m.mask_words-query.ensures (slots s) a.range m.in_default.is in
     counted _ _ f _ _ _ k _ c.count_plain.ensures
 
 -- where there is a range: the call, and its highest end
 abbrev ranged : tie.In-Between → tie.Start
-ranged c = start c.before.before.before
+ranged c = start c.before
 
 abbrev highest : tie.In-Between → ℕ
-highest c = c.range-1.given.0.1.1.0
+highest c = c.in-Between.highest
 
 finds_none_requires : tie.Need-finds_none-requires
 finds_none_requires c κs = search rules
 
 -- nothing is to be found
 returns_2 : tie.Need-returns-then-finds_none
-returns_2 c = none_counted _ _ _ _ _ c.range-1.given.1 (sym c.finds_none.ensures ∙ c.if-finds_none.true) _
+returns_2 c = none_counted _ _ _ _ _ c.in-Between.is (sym c.finds_none.ensures ∙ c.if-finds_none.true) _
 
 -- something may be
 some : (c : tie.Else-finds_none) → (let t = c.before.before in finds_none (take (ranged t).args.k (ranged t).args.cols) (highest t) ≡ false)
@@ -97,7 +97,7 @@ bound_words_requires : tie.Need-bound_words-query-requires
 bound_words_requires c κs =
     let t = c.before.before in
     let f = (ranged t).requires in
-    let e = t.range-1.given.1 in
+    let e = t.in-Between.is in
     (f.0.columns.1, (omega (arith, column_in _ _ _ _ _ _ e f.1, f.0.columns.1), (ends_ordered _ _ _ _ _ _ e f.1, (finds_some _ _ (some c)).1)))
 
 slice_aggregate_count_ranged : tie.Need-slice_bounds-count_ranged-end
@@ -108,8 +108,8 @@ count_ranged_requires c κs =
     let b = c.before in
     let t = b.before.before.before in
     let s = ranged t in
-    let f = s.pre in
-    (records_stretch _ _ f.0, is_bounded _ _ _ _ _ _ t.range-1.given.1 f.1 _ b.bound_words-query.ensures.0 (slots s) f.0.columns.1)
+    let f = s.requires in
+    (records_stretch _ _ f.0, is_bounded _ _ _ _ _ _ t.in-Between.is f.1 _ b.bound_words-query.ensures.0 (slots s) f.0.columns.1)
 
 cast_result_2 : tie.Need-overflow_cast-result-2
 cast_result_2 c = search rules
@@ -119,11 +119,11 @@ returns_3 c =
     let b = c.before.before in
     let t = b.before.before.before in
     let s = ranged t in
-    let f = s.pre in
+    let f = s.requires in
     let a = s.args in
     let k =
-    kept_ranged a.k a.cols a.range _ _ _ t.range-1.given.1 f.1 _ b.bound_words-query.ensures.0 (slots s) f.0.columns.1
-    a.table.now f.0 b.bound_words-query.ensures.1 (search rules) (some b.before) (words t.before.before.before.before.before) in
+    kept_ranged a.k a.cols a.range _ _ _ t.in-Between.is f.1 _ b.bound_words-query.ensures.0 (slots s) f.0.columns.1
+    a.table.now f.0 b.bound_words-query.ensures.1 (search rules) (some b.before) (words t.before.before.before) in
     counted _ _ f.0 _ _ _ k _ c.count_ranged.ensures
 
 pub count_spec : {M : Type 1} → statement M

@@ -1,12 +1,12 @@
 -- `table::delete_in` meets its contract. Invariant: of the records passed, those that stay lie at the front; what is to come is as it was.
 -- Assumes nothing.
-use mathlib.Core.Logic.{⊎_elim}
 use mathlib.Core.Path.{ap, ◌∙◌}
 use mathlib.Core.Bool.{not}
 use Prim.Native.Nat.{◌+◌, ◌-◌, ◌≤◌}
 use native.Mathlib.Omega.{arith}
 use lib.ListN.{length}
 use borrow.Author.Rules.{rules}
+use Rattle.std.proofs.lemmas.Bool.{not_from_false, not_from_true}
 use Rattle.columns.specs.MaskContracts.{query_under}
 use Rattle.rules.specs.Layout.{table_least}
 use Rattle.rules.specs.Table.{delete, outside}
@@ -16,6 +16,7 @@ use Rattle.table.proofs.TableMemory.{write_length, scan_in, scan_end, part_is, p
 use Rattle.table.proofs.Passing.{bit_most, bit_wide}
 use Rattle.table.proofs.Deleting.{Deleting, delete_none, stays, goes, one_more, no_more, turn_stays, turn_goes, delete_all}
 use Rattle.table.proofs.delete_in.Statement.{statement}
+use Rattle.table.proofs.delete_in.Lts.{then-stays, else-stays}
 use Rattle.table.proofs.delete_in.Tie as tie
 
 abbrev invariant_loop : tie.invariant-loop-i
@@ -29,11 +30,11 @@ abbrev start : tie.At-loop-i invariant_loop decreases_loop → tie.Start invaria
 start c = c.before.before.before.before
 
 abbrev in_loop : tie.Joined-stays invariant_loop decreases_loop → tie.In-loop-i invariant_loop decreases_loop
-in_loop c = c.before.before.before.before
+in_loop c = c.before.before.before
 
 -- the record that the scan stands at ends inside the memory, and so does the last
 room : (c : tie.In-loop-i invariant_loop decreases_loop) → c.loop-i.from + (start c.before).args.k ≤ table_least
-room c = scan_in _ _ _ _ (start c.before).pre.0 c.loop-i-test.true c.loop-i.invariant.scan.at_is
+room c = scan_in _ _ _ _ (start c.before).requires.0 c.loop-i-test.true c.loop-i.invariant.scan.at_is
 
 ended : (c : tie.At-loop-i invariant_loop decreases_loop) → c.loop-i.from ≤ table_least
 ended c = scan_end _ _ _ _ (start c).requires.0 c.loop-i.invariant.scan.le c.loop-i.invariant.scan.at_is
@@ -60,13 +61,13 @@ part_lies_start : tie.Need-slice_bounds-lies-start invariant_loop decreases_loop
 part_lies_start c = search rules
 
 part_lies_end : tie.Need-slice_bounds-lies-end invariant_loop decreases_loop
-part_lies_end c = omega (arith, room c.before)
+part_lies_end c = omega (arith, room c)
 
 lies_requires : tie.Need-lies-stays-requires invariant_loop decreases_loop
 lies_requires c κs = search rules
 
 settle_requires : tie.Need-settle-requires invariant_loop decreases_loop
-settle_requires c κs = (search rules, omega (arith, room c.before.before.before.before.before))
+settle_requires c κs = (search rules, omega (arith, room c.before.before.before.before))
 
 cast_more : tie.Need-overflow_cast-more invariant_loop decreases_loop
 cast_more c = search rules
@@ -89,18 +90,18 @@ loop_less c = search rules
 loop_again : tie.Need-loop-i-preserved invariant_loop decreases_loop
 loop_again c =
     let l = (in_loop c).before in
-    let f = (start l).pre.0 in
+    let f = (start l).requires.0 in
     let h = (in_loop c).loop-i-test.true in
-    let e = l.loop-i.inv.scan.at_is in
-    let d = l.loop-i.inv.back in
+    let e = l.loop-i.invariant.scan.at_is in
+    let d = l.loop-i.invariant.back in
     let r = tested _ _ _ _ _ f h e d _ _ c.lies-stays.ensures in
-    ⊎_elim
-    (λ w. let n = one_more _ l.loop-i.j (start l).args.k l.loop-i.to w.0.taken in
-    turn_stays _ _ _ _ _ _ _ _ _ _ l.loop-i.inv h (length_records _ _) _ _ _ (part_is _ _ _ _ _ f h e d) (part_long _ _ _ _ _ f h e d)
-    (omega (arith, room (in_loop c))) (stays _ _ _ r w.0.taken) (w.5 ∙ w.2.ensures) n.0 n.1)
-    (λ w. let n = no_more _ l.loop-i.j (start l).args.k l.loop-i.to w.0.left in
-    turn_goes _ _ _ _ _ _ _ _ _ _ l.loop-i.inv h (length_records _ _) _ _ _ (goes _ _ _ r w.0.left) w.1 n.0 n.1)
-    c.if-stays.branch
+    elim c.if-stays.branch [
+      | then-stays w ↦ let n = one_more _ l.loop-i.j (start l).args.k l.loop-i.to (not_from_false _ w.if-stays.true) in
+          turn_stays _ _ _ _ _ _ _ _ _ _ l.loop-i.invariant h (length_records _ _) _ _ _ (part_is _ _ _ _ _ f h e d) (part_long _ _ _ _ _ f h e d)
+          (omega (arith, room (in_loop c))) (stays _ _ _ r (not_from_false _ w.if-stays.true)) (w.table-is ∙ w.settle.ensures) n.0 n.1
+      | else-stays w ↦ let n = no_more _ l.loop-i.j (start l).args.k l.loop-i.to (not_from_true _ w.if-stays.false) in
+          turn_goes _ _ _ _ _ _ _ _ _ _ l.loop-i.invariant h (length_records _ _) _ _ _ (goes _ _ _ r (not_from_true _ w.if-stays.false)) w.table-is n.0 n.1
+    ]
 
 sub_freed : tie.Need-overflow_sub-freed invariant_loop decreases_loop
 sub_freed c = search rules
@@ -132,10 +133,10 @@ sub_result c = search rules
 returns : tie.Need-returns invariant_loop decreases_loop
 returns c =
     let l = c.before.before.before.before in
-    delete_all _ _ _ _ _ _ _ _ _ (start l.before).pre.0 l.loop-i.invariant l.loop-i-test.false c.clear.ensures
+    delete_all _ _ _ _ _ _ _ _ _ (start l.before).requires.0 l.loop-i.invariant l.loop-i-test.false c.clear.ensures
 
 same_length : tie.Need-shape_of-table invariant_loop decreases_loop
-same_length c = ap length (returns c).1 ∙ write_length _ _ (delete _) (start c.before.before.before.before.before).pre.0 tt
+same_length c = ap length (returns c).1 ∙ write_length _ _ (delete _) (start c.before.before.before.before.before).requires.0 tt
 
 pub delete_in_spec : {M : Type 1} → statement M
 delete_in_spec =

@@ -59,8 +59,8 @@ slice_aggregate_list_plain c = search rules
 list_plain_requires : tie.Need-list_plain-requires
 list_plain_requires c κs =
     let m = c.before.before in
-    let s = start m.before.before.before in
-    let f = s.pre in
+    let s = start m.before.before in
+    let f = s.requires in
     (records_stretch _ _ f.0.0, (is_plain _ _ _ m.mask_words-query.ensures (slots s) f.0.0.columns.1, f.1))
 
 same_length : tie.Need-shape_of-out-in_default
@@ -70,18 +70,18 @@ returns : tie.Need-returns-in_default
 returns c =
     let l = c.before.before in
     let m = l.before.before.before in
-    let s = start m.before.before.before in
-    let f = s.pre.0.0 in
+    let s = start m.before.before in
+    let f = s.requires.0.0 in
     let a = s.args in
-    let k = kept_plain a.k a.table.now a.cols _ f m.mask_words-query.ensures (slots s) a.range m.enum_told-1.given.1 in
+    let k = kept_plain a.k a.table.now a.cols _ f m.mask_words-query.ensures (slots s) a.range m.in_default.is in
     (gathered_is _ _ f _ _ _ k _ l.list_plain.ensures.0, listed_is _ _ f _ _ _ k _ _ l.list_plain.ensures.1)
 
 -- where there is a range: the call, and its highest end, a 32-bit number
 abbrev ranged : tie.In-Between → tie.Start
-ranged c = start c.before.before.before
+ranged c = start c.before
 
 abbrev highest : tie.In-Between → ℕ
-highest c = c.range-1.given.0.1.1.0
+highest c = c.in-Between.highest
 
 small : (c : tie.In-Between) → highest c < 4294967296
 small c = search rules
@@ -92,7 +92,7 @@ finds_none_requires c κs = search rules
 -- nothing is to be found
 returns_2 : tie.Need-returns-then-finds_none
 returns_2 c =
-    let e = c.range-1.given.1 in
+    let e = c.in-Between.is in
     let n = sym c.finds_none.ensures ∙ c.if-finds_none.true in
     (none_gathered _ _ _ _ _ e n _, none_written _ _ _ _ _ e n _ _)
 
@@ -104,7 +104,7 @@ bound_words_requires : tie.Need-bound_words-query-requires
 bound_words_requires c κs =
     let t = c.before.before in
     let f = (ranged t).requires.0 in
-    let e = t.range-1.given.1 in
+    let e = t.in-Between.is in
     (f.0.columns.1, (omega (arith, column_in _ _ _ _ _ _ e f.1, f.0.columns.1), (ends_ordered _ _ _ _ _ _ e f.1, (finds_some _ _ (some c)).1)))
 
 slice_aggregate_list_ranged : tie.Need-slice_bounds-list_ranged-end
@@ -115,8 +115,8 @@ list_ranged_requires c κs =
     let b = c.before.before in
     let t = b.before.before.before in
     let s = ranged t in
-    let f = s.pre in
-    (records_stretch _ _ f.0.0, (is_bounded _ _ _ _ _ _ t.range-1.given.1 f.0.1 _ b.bound_words-query.ensures.0 (slots s) f.0.0.columns.1, f.1))
+    let f = s.requires in
+    (records_stretch _ _ f.0.0, (is_bounded _ _ _ _ _ _ t.in-Between.is f.0.1 _ b.bound_words-query.ensures.0 (slots s) f.0.0.columns.1, f.1))
 
 same_length_2 : tie.Need-shape_of-out
 same_length_2 c = search rules
@@ -127,11 +127,11 @@ returns_3 c =
     let b = l.before.before.before in
     let t = b.before.before.before in
     let s = ranged t in
-    let f = s.pre.0 in
+    let f = s.requires.0 in
     let a = s.args in
     let k =
-    kept_ranged a.k a.cols a.range _ _ _ t.range-1.given.1 f.1 _ b.bound_words-query.ensures.0 (slots s) f.0.columns.1
-    a.table.now f.0 b.bound_words-query.ensures.1 (small t) (some b.before) (words t.before.before.before.before.before.before) in
+    kept_ranged a.k a.cols a.range _ _ _ t.in-Between.is f.1 _ b.bound_words-query.ensures.0 (slots s) f.0.columns.1
+    a.table.now f.0 b.bound_words-query.ensures.1 (small t) (some b.before) (words t.before.before.before.before) in
     (gathered_is _ _ f.0 _ _ _ k _ l.list_ranged.ensures.0, listed_is _ _ f.0 _ _ _ k _ _ l.list_ranged.ensures.1)
 
 pub gather_spec : {M : Type 1} → statement M

@@ -12,10 +12,10 @@ use Rattle.table.proofs.insert.Statement.{statement}
 use Rattle.table.proofs.insert.Tie as tie
 
 -- the spot that the scan gave is a place of the table
-spot_le : (c : tie.In-At-2) → c.spot-1.given.0.0 ≤ get_or c.args.table.now 0 0
-spot_le c = spot_in _ _ c.requires _ c.seek-spot.ensures _ c.spot-1.given.1
+spot_le : (c : tie.In-At) → c.in-At.i ≤ get_or c.args.table.now 0 0
+spot_le c = spot_in _ _ c.requires _ c.seek-spot.ensures _ c.in-At.is
 
-spot_ends : (c : tie.In-At-2) → 8 + c.spot-1.given.0.0 * length c.args.rec.now ≤ table_least
+spot_ends : (c : tie.In-At) → 8 + c.in-At.i * length c.args.rec.now ≤ table_least
 spot_ends c = scan_end _ _ _ _ c.requires (spot_le c) refl
 
 seek_requires : tie.Need-seek-spot-requires
@@ -43,13 +43,13 @@ same_length_2 : tie.Need-shape_of-table-then-n-ge-RECORDS
 same_length_2 c = search rules
 
 returns_2 : tie.Need-returns-then-n-ge-RECORDS
-returns_2 c = insert_full _ _ c.requires _ c.seek-spot.ensures _ c.spot-1.given.1 c.if-n-ge-RECORDS.true
+returns_2 c = insert_full _ _ c.requires _ c.seek-spot.ensures _ c.in-At.is c.if-n-ge-RECORDS.true
 
 mul_at : tie.Need-overflow_mul-at
-mul_at c = omega (arith, spot_ends c.before.before.before)
+mul_at c = omega (arith, spot_ends c.before.before)
 
 add_at : tie.Need-overflow_add-at
-add_at c = omega (arith, spot_ends c.before.before.before)
+add_at c = omega (arith, spot_ends c.before.before)
 
 mul_e : tie.Need-overflow_mul-e
 mul_e c = omega (arith, in_use _ _ c.requires)
@@ -59,7 +59,7 @@ add_e c = omega (arith, in_use _ _ c.requires)
 
 insert_requires : tie.Need-insert-requires
 insert_requires c κs =
-    let p = c.before.before.before.before in
+    let p = c.before.before.before in
     (omega (arith, mul-le-mul_right (length p.args.rec.now) (spot_le p)), omega (arith, room_for _ _ p.requires (search rules)))
 
 add_table : tie.Need-overflow_add-table
@@ -76,7 +76,7 @@ same_length_3 c = search rules
 
 returns_3 : tie.Need-returns
 returns_3 c =
-    insert_added _ _ c.requires _ c.seek-spot.ensures _ c.spot-1.given.1 _ c.if-n-ge-RECORDS.false c.insert.ensures
+    insert_added _ _ c.requires _ c.seek-spot.ensures _ c.in-At.is _ c.if-n-ge-RECORDS.false c.insert.ensures
 
 pub insert_spec : {M : Type 1} → statement M
 insert_spec =

@@ -1,5 +1,4 @@
 -- `table::seek` meets its contract. Invariant: the record is none of those passed, and its place among them is known. Assumes nothing.
-use mathlib.Core.Logic.{⊎_elim}
 use mathlib.Core.Path.{refl, sym, ◌∙◌}
 use Prim.Native.Nat.{◌+◌, ◌-◌, ◌≤◌}
 use native.Mathlib.Omega.{arith}
@@ -11,6 +10,7 @@ use Rattle.rules.proofs.MemoryLaws.{length_records}
 use Rattle.table.proofs.TableMemory.{scan_in, part_is, part_long}
 use Rattle.table.proofs.Seeking.{Seeking, seek_none, turn_behind, turn_past, turn_greater, seek_there, seek_all}
 use Rattle.table.proofs.seek.Statement.{statement}
+use Rattle.table.proofs.seek.Lts.{in-Before+then-spot-i, in-Before+else-spot-i, in-After}
 use Rattle.table.proofs.seek.Tie as tie
 
 abbrev invariant_loop : tie.invariant-loop-i
@@ -58,7 +58,7 @@ returns c =
     let h = c.loop-i-test.true in
     seek_there _ _ _ _ _ _ _ c.loop-i.invariant h (length_records _ _) _
     (part_is _ _ _ _ _ c.requires h c.loop-i.invariant.at_is refl) (part_long _ _ _ _ _ c.requires h c.loop-i.invariant.at_is refl)
-    (sym c.compare.ensures ∙ c.in_default.is)
+    (sym c.compare.ensures ∙ c.in-Same.is)
 
 enum_told_2 : tie.Need-enum_told-in-Before invariant_loop decreases_loop
 enum_told_2 c = search rules
@@ -81,10 +81,11 @@ loop_again c =
     let p = part_is _ _ _ _ _ c.requires h c.loop-i.invariant.at_is refl in
     let w = part_long _ _ _ _ _ c.requires h c.loop-i.invariant.at_is refl in
     let o = sym c.compare.ensures in
-    ⊎_elim (λ x. turn_behind _ _ _ _ _ _ _ c.loop-i.invariant h (length_records _ _) _ p w _ (o ∙ x.1.given.1) x.2.taken x.3)
-    (⊎_elim (λ x. turn_past _ _ _ _ _ _ _ c.loop-i.invariant h (length_records _ _) _ p w _ (o ∙ x.1.given.1) x.2.left x.3)
-    (λ x. turn_greater _ _ _ _ _ _ _ c.loop-i.invariant h (length_records _ _) _ p w _ (o ∙ x.1.given.1) x.2))
-    c.match.branch
+    elim c.match-compare.branch [
+      | in-Before+then-spot-i x ↦ turn_behind _ _ _ _ _ _ _ c.loop-i.invariant h (length_records _ _) _ p w _ (o ∙ x.in-Before.is) x.if-spot-i.true x.spot-is
+      | in-Before+else-spot-i x ↦ turn_past _ _ _ _ _ _ _ c.loop-i.invariant h (length_records _ _) _ p w _ (o ∙ x.in-Before.is) x.if-spot-i.false x.spot-is
+      | in-After x ↦ turn_greater _ _ _ _ _ _ _ c.loop-i.invariant h (length_records _ _) _ p w _ (o ∙ x.in-After.is) x.spot-is
+    ]
 
 returns_2 : tie.Need-returns invariant_loop decreases_loop
 returns_2 c = seek_all _ _ _ _ _ _ _ c.loop-i.invariant c.loop-i-test.false (length_records _ _)

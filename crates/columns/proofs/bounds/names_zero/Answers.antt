@@ -1,5 +1,5 @@
 -- `columns::bounds::names_zero` meets its contract: each variant by its own way out. Assumes nothing.
-use Rattle.std.proofs.Common.{refl, rules}
+use Rattle.std.proofs.Common.{refl}
 use Rattle.query.specs.Query.{is_zero}
 use Rattle.columns.proofs.bounds.names_zero.Goals as goal
 

@@ -1,5 +1,4 @@
 -- `columns::bounds::width_of` meets its contract: each variant by its own way out. Assumes nothing.
-use Rattle.std.proofs.Common.{rules}
 use Rattle.columns.specs.BoundContracts.{width_of}
 use Rattle.columns.proofs.bounds.width_of.Goals as goal
 

@@ -1,5 +1,5 @@
 -- `columns::keys::ask_key` meets its contract: the query's key, with the bit added where a count is wanted, and with its range. Assumes nothing.
-use Rattle.std.proofs.Common.{◌∙◌, ⊎_elim, arith, rules}
+use Rattle.std.proofs.Common.{◌∙◌, arith, rules}
 use Rattle.columns.proofs.KeyLoops.{first_small, count_low, list_low, count_wanted, list_wanted}
 use Rattle.columns.proofs.keys.ask_key.Goals as goal
 use Rattle.columns.proofs.keys.ask_key.Goals.{then-counts, else-counts}
@@ -18,6 +18,6 @@ returns c =
     let a = c.args in
     c.ranged_key.ensures
     ∙ elim c.if-counts.branch [
-        then-counts w ↦ count_wanted a.cols a.k _ c.key_words-key.ensures _ _ w.if-counts.true w.key-is
-        | else-counts w ↦ list_wanted a.cols a.k _ c.key_words-key.ensures _ _ w.if-counts.false w.key-is
-        ]
+      | then-counts w ↦ count_wanted a.cols a.k _ c.key_words-key.ensures _ _ w.if-counts.true w.key-is
+      | else-counts w ↦ list_wanted a.cols a.k _ c.key_words-key.ensures _ _ w.if-counts.false w.key-is
+    ]

@@ -1,5 +1,5 @@
 -- `columns::keys::bad_range` meets its contract: test by test, as `is_range` and `is_reversed` have them. Assumes nothing.
-use Rattle.std.proofs.Common.{arith, rules}
+use Rattle.std.proofs.Common.{arith}
 use Rattle.columns.proofs.KeyLoops.{no_range, range_past, range_named, range_ends}
 use Rattle.columns.proofs.keys.bad_range.Goals as goal
 

@@ -1,5 +1,4 @@
 -- `columns::keys::is_ranged` meets its contract: each variant by its own way out. Assumes nothing.
-use Rattle.std.proofs.Common.{rules}
 use Rattle.query.specs.Range.{is_ranged}
 use Rattle.columns.proofs.keys.is_ranged.Goals as goal
 

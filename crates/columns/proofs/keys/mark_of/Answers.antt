@@ -1,5 +1,4 @@
 -- `columns::keys::mark_of` meets its contract: each variant by its own way out. Assumes nothing.
-use Rattle.std.proofs.Common.{rules}
 use Rattle.columns.specs.KeyContracts.{mark_of}
 use Rattle.columns.proofs.keys.mark_of.Goals as goal
 

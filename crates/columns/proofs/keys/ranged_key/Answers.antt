@@ -1,5 +1,5 @@
 -- `columns::keys::ranged_key` meets its contract: a number more in the first, and both ends. Assumes nothing.
-use Rattle.std.proofs.Common.{◌≡◌, refl, arith, rules}
+use Rattle.std.proofs.Common.{◌≡◌, refl, arith}
 use Rattle.query.specs.declared.Range.TheVariants.{None}
 use Rattle.query.specs.Encoding.{range_key}
 use Rattle.columns.proofs.keys.ranged_key.Goals as goal

@@ -1,5 +1,4 @@
 -- `columns::keys::value_of` meets its contract: each variant by its own way out. Assumes nothing.
-use Rattle.std.proofs.Common.{rules}
 use Rattle.query.specs.Encoding.{column_value}
 use Rattle.columns.proofs.keys.value_of.Goals as goal
 

@@ -1,5 +1,5 @@
 -- `columns::masks::mask_of` meets its contract: each variant by its own way out, and a named value by the test of 0. Assumes nothing.
-use Rattle.std.proofs.Common.{refl, rules, ne_eqb}
+use Rattle.std.proofs.Common.{refl, ne_eqb}
 use Rattle.columns.specs.MaskContracts.{mask_of}
 use Rattle.columns.proofs.masks.mask_of.Goals as goal
 

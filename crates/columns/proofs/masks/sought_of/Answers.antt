@@ -1,5 +1,5 @@
 -- `columns::masks::sought_of` meets its contract: each variant by its own way out, and a named value by the test of 0. Assumes nothing.
-use Rattle.std.proofs.Common.{refl, rules, ne_eqb}
+use Rattle.std.proofs.Common.{refl, ne_eqb}
 use Rattle.columns.specs.MaskContracts.{sought_of}
 use Rattle.columns.proofs.masks.sought_of.Goals as goal
 

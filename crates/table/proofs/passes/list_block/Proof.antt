@@ -1,6 +1,5 @@
 -- `table::passes::list_block` meets its contract. Invariant: of the records passed, those that pass the test are in `out`, behind those that it had.
 -- Assumes nothing.
-use mathlib.Core.Logic.{⊎_elim}
 use mathlib.Core.Path.{◌∙◌}
 use Prim.Native.Nat.{◌+◌, ◌-◌, ◌≤◌}
 use native.Mathlib.Omega.{arith}
@@ -10,6 +9,7 @@ use Rattle.table.specs.TableContracts.{test_of}
 use Rattle.table.proofs.Passing.{Passing, pass_start, pass_room, bit_most, bit_wide}
 use Rattle.table.proofs.Listing.{Listed, listed_none, list_end, list_found, list_other, list_full, list_room_law, list_wide}
 use Rattle.table.proofs.passes.list_block.Statement.{statement}
+use Rattle.table.proofs.passes.list_block.Lts.{then-fits+else-j-eq-LIST, else-fits}
 use Rattle.table.proofs.passes.list_block.Tie as tie
 
 abbrev invariant_loop : tie.invariant-loop-at
@@ -26,7 +26,7 @@ abbrev at_loop : tie.Joined-fits invariant_loop decreases_loop → tie.At-loop-a
 at_loop c = c.before.before.before.before
 
 room : (c : tie.In-loop-at invariant_loop decreases_loop) → c.loop-at.at + (start c.before).args.k ≤ length (start c.before).args.recs.now
-room c = pass_room _ _ _ _ c.loop-at.invariant (start c.before).pre.0 c.loop-at-test.true
+room c = pass_room _ _ _ _ c.loop-at.invariant (start c.before).requires.0 c.loop-at-test.true
 
 mul_to : tie.Need-overflow_mul-to invariant_loop decreases_loop
 mul_to c =
@@ -69,7 +69,7 @@ returns c =
 write_requires : tie.Need-write-requires invariant_loop decreases_loop
 write_requires c κs =
     let i = c.before.before.before.before.before in
-    list_room_law _ _ _ _ _ _ _ _ _ _ (start i.before).pre.0 i.loop-at-test.true _ i.loop-at.invariant c.test-fits.ensures c.if-j-eq-LIST.false (start i.before).pre.1.1.1
+    list_room_law _ _ _ _ _ _ _ _ _ _ (start i.before).requires.0 i.loop-at-test.true _ i.loop-at.invariant c.test-fits.ensures c.if-j-eq-LIST.false (start i.before).requires.1.1.1
 
 cast_more : tie.Need-overflow_cast-more invariant_loop decreases_loop
 cast_more c = search rules
@@ -78,13 +78,13 @@ add_j : tie.Need-overflow_add-j invariant_loop decreases_loop
 add_j c = omega (arith, bit_most c.test-fits.result, (at_loop c).loop-at.invariant.holds.few)
 
 mul_to_2 : tie.Need-overflow_mul-to-in-loop-at invariant_loop decreases_loop
-mul_to_2 c = omega (arith, bit_wide c.test-fits.result (start (at_loop c)).args.k, (start (at_loop c)).pre.0.columns.1)
+mul_to_2 c = omega (arith, bit_wide c.test-fits.result (start (at_loop c)).args.k, (start (at_loop c)).requires.0.columns.1)
 
 add_to : tie.Need-overflow_add-to invariant_loop decreases_loop
 add_to c =
     let l = at_loop c in
-    let f = (start l).pre.0.columns in
-    omega (arith, bit_wide c.test-fits.result (start l).args.k, f.1, l.loop-at.inv.holds.to_is, list_wide _ _ l.loop-at.inv.holds.few f.1)
+    let f = (start l).requires.0.columns in
+    omega (arith, bit_wide c.test-fits.result (start l).args.k, f.1, l.loop-at.invariant.holds.to_is, list_wide _ _ l.loop-at.invariant.holds.few f.1)
 
 loop_less : tie.Need-loop-at-smaller invariant_loop decreases_loop
 loop_less c = search rules
@@ -92,12 +92,12 @@ loop_less c = search rules
 loop_again : tie.Need-loop-at-preserved invariant_loop decreases_loop
 loop_again c =
     let l = at_loop c in
-    let f = (start l).pre in
+    let f = (start l).requires in
     let h = c.loop-at-test.true in
-    ⊎_elim
-    (λ w. list_found _ _ _ _ _ _ _ _ _ _ f.0 h _ l.loop-at.inv c.test-fits.ensures w.0.taken w.1.left f.1.1.1 _ (w.6 ∙ w.3.ensures))
-    (λ w. list_other _ _ _ _ _ _ _ _ _ _ f.0 h _ l.loop-at.inv c.test-fits.ensures w.0.left _ w.1)
-    c.if-fits.branch
+    elim c.if-fits.branch [
+      | then-fits+else-j-eq-LIST w ↦ list_found _ _ _ _ _ _ _ _ _ _ f.0 h _ l.loop-at.invariant c.test-fits.ensures w.if-fits.true w.if-j-eq-LIST.false f.1.1.1 _ (w.out-is ∙ w.write.ensures)
+      | else-fits w ↦ list_other _ _ _ _ _ _ _ _ _ _ f.0 h _ l.loop-at.invariant c.test-fits.ensures w.if-fits.false _ w.out-is
+    ]
 
 same_length_2 : tie.Need-shape_of-out invariant_loop decreases_loop
 same_length_2 c = search rules

@@ -35,11 +35,11 @@ passed : (c : tie.After-skip invariant_loop decreases_loop) → let a = (start (
     Passing a.k a.recs.now (l.from + c.skip.result) (Listed (test_of a.ranged a.k a.query.now) a.k a.recs.now a.out.now 0 l.out l.j (l.j * a.k))
 passed c =
     let l = at_loop c in
-    blocks_skip _ _ _ _ _ _ _ l.loop-from.inv _ (skip_passed _ _ _ _ (stretch_rest _ _ _ _ (start l).pre.0 l.loop-from.inv) _ c.skip.ensures)
+    blocks_skip _ _ _ _ _ _ _ l.loop-from.invariant _ (skip_passed _ _ _ _ (stretch_rest _ _ _ _ (start l).requires.0 l.loop-from.invariant) _ c.skip.ensures)
 
 ended : (c : tie.After-least-e invariant_loop decreases_loop) → let a = (start (at_loop c.before)).args in let at = (at_loop c.before).loop-from.from + c.skip.result in
     (m : ℕ) × (c.least-e.result ≡ at + m * a.k) × (at ≤ c.least-e.result) × (c.least-e.result ≤ length a.recs.now)
-ended c = block_end _ _ _ _ _ _ _ (passed c.before) (start (at_loop c.before)).pre.0 _ _ c.least-e.ensures
+ended c = block_end _ _ _ _ _ _ _ (passed c.before) (start (at_loop c.before)).requires.0 _ _ c.least-e.ensures
 
 loop_holds : tie.Need-loop-from-init invariant_loop decreases_loop
 loop_holds c = pass_start _ _ _ (listed_none _ _ _ _ 0 (omega arith))
@@ -63,19 +63,19 @@ skip_requires c κs =
     (stretch_rest _ _ _ _ f.0 l.loop-from.invariant, (f.1.0, (f.1.1.0, f.1.1.1.0)))
 
 add_at : tie.Need-overflow_add-at invariant_loop decreases_loop
-add_at c = omega (arith, (passed c).within, stretch_few _ _ (start (at_loop c)).pre.0)
+add_at c = omega (arith, (passed c).within, stretch_few _ _ (start (at_loop c)).requires.0)
 
 mul_least : tie.Need-overflow_mul-size invariant_loop decreases_loop
 mul_least c = omega (arith, (wide (start (at_loop c))).1)
 
 add_least : tie.Need-overflow_add-at-in-loop-from invariant_loop decreases_loop
-add_least c = omega (arith, (wide (start (at_loop c))).1, (passed c).within, stretch_few _ _ (start (at_loop c)).pre.0)
+add_least c = omega (arith, (wide (start (at_loop c))).1, (passed c).within, stretch_few _ _ (start (at_loop c)).requires.0)
 
 least_requires : tie.Need-least-e-requires invariant_loop decreases_loop
 least_requires c κs = search rules
 
 mul_list_block : tie.Need-offset_bounds-recs-at invariant_loop decreases_loop
-mul_list_block c = omega (arith, (passed c.before).within, stretch_few _ _ (start (at_loop c.before)).pre.0)
+mul_list_block c = omega (arith, (passed c.before).within, stretch_few _ _ (start (at_loop c.before)).requires.0)
 
 sub_list_block : tie.Need-slice_bounds-list_block-count invariant_loop decreases_loop
 sub_list_block c = (ended c).2
@@ -90,8 +90,8 @@ list_block_requires : tie.Need-list_block-j-requires invariant_loop decreases_lo
 list_block_requires c κs =
     let e = ended c.before.before in
     let l = at_loop c.before.before.before in
-    let f = (start l).pre in
-    (stretch_part _ _ _ _ _ f.0 e.2 e.3 e.1, (f.1.0, (l.loop-from.inv.holds.few, l.loop-from.inv.holds.same ∙ f.1.1.1.1)))
+    let f = (start l).requires in
+    (stretch_part _ _ _ _ _ f.0 e.2 e.3 e.1, (f.1.0, (l.loop-from.invariant.holds.few, l.loop-from.invariant.holds.same ∙ f.1.1.1.1)))
 
 add_if1 : tie.Need-overflow_add-t-13 invariant_loop decreases_loop
 add_if1 c = search rules
@@ -103,7 +103,7 @@ returns : tie.Need-returns-then-j invariant_loop decreases_loop
 returns c =
     let b = c.before.before.before in
     let e = ended (block b) in
-    let f = (start (at_loop (block b).before)).pre in
+    let f = (start (at_loop (block b).before)).requires in
     let x = blocks_full _ _ _ _ _ _ _ (passed (block b).before) f.0 _ _ _ _ f.1.1.1.1 e.1 e.3 b.list_block-j.ensures.0 b.list_block-j.ensures.1 c.if-j.true in
     ((λ n q. (x n q).0), (λ n q. (x n q).1))
 
@@ -111,14 +111,14 @@ loop_less : tie.Need-loop-from-smaller invariant_loop decreases_loop
 loop_less c =
     let b = block c.before.before.before in
     let l = at_loop b.before in
-    let h = block_less l.loop-from.from (l.loop-from.from + b.skip.result) _ _ _ b.least-e.ensures (omega arith) b.loop-from-test.taken (wide (start l)).0 in
+    let h = block_less l.loop-from.from (l.loop-from.from + b.skip.result) _ _ _ b.least-e.ensures (omega arith) b.loop-from-test.true (wide (start l)).0 in
     omega (arith, h, (ended b).3)
 
 loop_again : tie.Need-loop-from-preserved invariant_loop decreases_loop
 loop_again c =
     let b = c.before.before.before in
     let e = ended (block b) in
-    let f = (start (at_loop (block b).before)).pre in
+    let f = (start (at_loop (block b).before)).requires in
     blocks_on _ _ _ _ _ _ _ (passed (block b).before) f.0 _ _ _ _ f.1.1.1.1 e.1 e.3 b.list_block-j.ensures.0 b.list_block-j.ensures.1 c.if-j.false
 
 same_length_2 : tie.Need-shape_of-out invariant_loop decreases_loop

@@ -68,7 +68,7 @@ loop_again c =
     skip_turn _ _ _ _ _ c.loop-at.invariant _ refl c.loop-at-test.true _ c.some_in.ensures c.if-some_in.false
 
 returns_2 : tie.Need-returns invariant_loop decreases_loop
-returns_2 c = skip_end _ _ _ _ _ c.loop-at.invariant c.loop-at-test.false (start c.before).pre.0.columns.0
+returns_2 c = skip_end _ _ _ _ _ c.loop-at.invariant c.loop-at-test.false (start c.before).requires.0.columns.0
 
 pub skip_spec : {M : Type 1} → statement M
 skip_spec =

@@ -37,7 +37,7 @@ part_test_start : tie.Need-slice_bounds-test-start invariant_loop decreases_loop
 part_test_start c = search rules
 
 part_test_end : tie.Need-slice_bounds-test-end invariant_loop decreases_loop
-part_test_end c = omega (arith, pass_room _ _ _ _ c.loop-at.invariant (start c.before).pre.0 c.loop-at-test.true)
+part_test_end c = omega (arith, pass_room _ _ _ _ c.loop-at.invariant (start c.before).requires.0 c.loop-at-test.true)
 
 test_requires : tie.Need-test-fits-requires invariant_loop decreases_loop
 test_requires c κs = search rules
@@ -51,7 +51,7 @@ loop_again c =
     some_turn _ _ _ _ _ (start l).requires.0 c.loop-at-test.true _ _ l.loop-at.invariant c.test-fits.ensures
 
 returns : tie.Need-returns invariant_loop decreases_loop
-returns c n e = pass_end _ _ _ _ c.loop-at.invariant n (start c.before).pre.0.columns.0 c.loop-at-test.false e
+returns c n e = pass_end _ _ _ _ c.loop-at.invariant n (start c.before).requires.0.columns.0 c.loop-at-test.false e
 
 pub some_in_spec : {M : Type 1} → statement M
 some_in_spec =
