@@ -3,7 +3,6 @@ use Rattle.clients.proofs.ClientSound.{insert_other, insert_names}
 use borrow.Author.Rules.{rules}
 use Rattle.clients.proofs.bad_insert.Statement.{statement}
 use Rattle.clients.proofs.bad_insert.Tie as tie
-use Rattle.columns.proofs.keys.names_all.Reads as names_all_reads
 
 returns : tie.Need-returns-then-kind-ne-INSERTS
 returns c = insert_other _ _ _ c.if-kind-ne-INSERTS.true

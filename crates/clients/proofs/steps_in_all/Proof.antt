@@ -4,8 +4,6 @@ use Rattle.clients.proofs.ClientSound.{look_few, last_read, last_write, power_sm
 use borrow.Author.Rules.{rules}
 use Rattle.clients.proofs.steps_in_all.Statement.{statement}
 use Rattle.clients.proofs.steps_in_all.Tie as tie
-use Rattle.columns.proofs.keys.look_count.Reads as look_count_reads
-use Rattle.columns.proofs.keys.power.Reads as power_reads
 
 look_count_requires : tie.Need-look_count-requires
 look_count_requires c κs = search rules

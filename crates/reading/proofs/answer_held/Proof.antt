@@ -8,27 +8,25 @@ use Rattle.reading.proofs.answer_held.Tie as tie
 entry_requires : tie.Need-entry-requires
 entry_requires c κs = search rules
 
-give_list_requires : tie.Need-give-list-requires
+give_list_requires : tie.Need-give_list-count-requires
 give_list_requires c κs =
-    let e = c.before.entry.ensures in
-    let p = c.before.before.before.before.before.requires in
+    let e = c.entry.ensures in
+    let p = c.requires in
     (entry_length _ _ _ p.client e, (short_own _ _ e p.short, (p.few, p.room)))
 
-set_idle_requires : tie.Need-set-idle-requires
+set_idle_requires : tie.Need-set_idle-requires
 set_idle_requires c κs = search rules
 
-same_length : tie.Need-same-length
+same_length : tie.Need-shape_of-clients
 same_length c = search rules
 
-same_length_2 : tie.Need-same-length-2
+same_length_2 : tie.Need-shape_of-tray
 same_length_2 c = search rules
 
 returns : tie.Need-returns
 returns c =
-    let i = c.before.before in
-    let g = i.before.before.before.before in
-    let o = given_own _ _ g.before.before.entry.ensures _ _ _ _ g.give_list.ensures in
-    (o.0, (o.1, i.set_idle.ensures))
+    let o = given_own _ _ c.entry.ensures _ _ _ _ c.give_list-count.ensures in
+    (o.0, (o.1, c.set_idle.ensures))
 
 pub answer_held_spec : {M : Type 1} → statement M
 answer_held_spec =

@@ -10,30 +10,27 @@ entry_requires : tie.Need-entry-requires
 entry_requires c κs = search rules
 
 file_requires : tie.Need-file-requires
-file_requires c κs = (search rules, entry_length _ _ _ c.before.before.before.before.before.before.requires.read.fit c.entry.ensures)
+file_requires c κs = (search rules, entry_length _ _ _ c.requires.read.fit c.entry.ensures)
 
-answer_held_requires : tie.Need-answer-held-requires
+answer_held_requires : tie.Need-answer_held-requires
 answer_held_requires c κs =
-    let f = c.before.before.before.before in
-    let p = f.before.before.before.before.before.before.before.requires in
+    let p = c.requires in
     record { client = p.read.fit; few = at_few p.read; short = p.read.busy.short; room = search rules }
 
-same_length : tie.Need-same-length
+same_length : tie.Need-shape_of-answers
 same_length c = search rules
 
-same_length_2 : tie.Need-same-length-2
+same_length_2 : tie.Need-shape_of-clients
 same_length_2 c = search rules
 
-same_length_3 : tie.Need-same-length-3
+same_length_3 : tie.Need-shape_of-tray
 same_length_3 c = search rules
 
 returns : tie.Need-returns
 returns c =
-    let a = c.before.before.before.before in
-    let o = a.answer_held.ensures in
-    let f = a.before.before.before.before.before in
-    let p = f.before.before.before.before.before.before.before.requires in
-    file_left p.read p.step _ _ _ _ _ _ _ f.before.entry.ensures f.file.ensures o.0 o.1.0 o.1.1
+    let o = c.answer_held.ensures in
+    let p = c.requires in
+    file_left p.read p.step _ _ _ _ _ _ _ c.entry.ensures c.file.ensures o.0 o.1.0 o.1.1
 
 pub file_step_spec : {M : Type 1} → statement M
 file_step_spec =

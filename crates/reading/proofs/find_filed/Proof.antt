@@ -6,26 +6,26 @@ use borrow.Author.Rules.{rules}
 use Rattle.reading.proofs.find_filed.Statement.{statement}
 use Rattle.reading.proofs.find_filed.Tie as tie
 
-saw_pending_requires : tie.Need-saw-pending-requires
+saw_pending_requires : tie.Need-saw_pending-requires
 saw_pending_requires c κs = search rules
 
-shared_slice_read_result : tie.Need-shared-slice-read-result
+shared_slice_read_result : tie.Need-bounds-answers-0
 shared_slice_read_result c = search rules
 
-cast_result : tie.Need-overflow-cast-result
+cast_result : tie.Need-overflow_cast-result
 cast_result c = search rules
 
-returns : tie.Need-returns
-returns c = found_pending _ _ _ _ _ _ c.before.before.saw_pending.ensures c.before.if1.true refl
+returns : tie.Need-returns-then-saw_pending
+returns c = found_pending _ _ _ _ _ _ c.saw_pending.ensures c.if-saw_pending.true refl
 
 entry_requires : tie.Need-entry-requires
 entry_requires c κs = search rules
 
 fetch_requires : tie.Need-fetch-requires
-fetch_requires c κs = let p = c.before.before.before.before.before.requires in (search rules, (entry_length _ _ _ p.client c.entry.ensures, search rules))
+fetch_requires c κs = let p = c.requires in (search rules, (entry_length _ _ _ p.client c.entry.ensures, search rules))
 
-returns_2 : tie.Need-returns-2
-returns_2 c = found_search _ _ _ _ _ _ _ c.before.before.before.saw_pending.ensures c.before.before.if1.false c.before.entry.ensures c.fetch.ensures
+returns_2 : tie.Need-returns
+returns_2 c = found_search _ _ _ _ _ _ _ c.saw_pending.ensures c.if-saw_pending.false c.entry.ensures c.fetch.ensures
 
 pub find_filed_spec : {M : Type 1} → statement M
 find_filed_spec =

@@ -6,88 +6,81 @@ use borrow.Author.Rules.{rules}
 use Rattle.reading.proofs.read_step.Statement.{statement}
 use Rattle.reading.proofs.read_step.Tie as tie
 
-look_count_requires : tie.Need-look-count-requires
-look_count_requires c κs = let r = c.before.before.before.before.before.requires.read in (at_few r, at_marks r)
+look_count_requires : tie.Need-look_count-count-requires
+look_count_requires c κs = let r = c.requires.read in (at_few r, at_marks r)
 
-look_step_requires : tie.Need-look-step-requires
+look_step_requires : tie.Need-look_step-requires
 look_step_requires c κs =
-    let l = c.before.before.before.before in
-    let p = l.before.before.before.before.before.before.requires in
-    let e = reader_looks p.read _ l.look_count.ensures in
+    let p = c.requires in
+    let e = reader_looks p.read _ c.look_count-count.ensures in
     let s = p.read.held.steps in
-    record { read = p.read; fit = p.nodes; step = omega (arith, c.before.before.if1.true) }
+    record { read = p.read; fit = p.nodes; step = omega (arith, c.if-h-count.true) }
 
-same_length : tie.Need-same-length
+same_length : tie.Need-shape_of-nodes-then-h-count
 same_length c = search rules
 
-same_length_2 : tie.Need-same-length-2
+same_length_2 : tie.Need-shape_of-clients-then-h-count
 same_length_2 c = search rules
 
-returns : tie.Need-returns
-returns c = c.before.before.before.before.look_step.ensures _ _ _
+returns : tie.Need-returns-then-h-count
+returns c = c.look_step.ensures _ _ _
 
-fetch_step_requires : tie.Need-fetch-step-requires
+fetch_step_requires : tie.Need-fetch_step-requires
 fetch_step_requires c κs =
-    let l = c.before.before.before.before.before.before.before in
-    let p = l.before.before.before.before.before.before.requires in
-    let e = reader_looks p.read _ l.look_count.ensures in
+    let p = c.requires in
+    let e = reader_looks p.read _ c.look_count-count.ensures in
     let s = p.read.held.steps in
-    record { read = p.read; fit = p.fit; short = p.short; room = search rules; step = omega (arith, c.before.before.before.if2.true) }
+    record { read = p.read; fit = p.fit; short = p.short; room = search rules; step = omega (arith, c.if-h-count-2.true) }
 
-same_length_3 : tie.Need-same-length-3
+same_length_3 : tie.Need-shape_of-answers-then-h-count-2
 same_length_3 c = search rules
 
-same_length_4 : tie.Need-same-length-4
+same_length_4 : tie.Need-shape_of-clients-then-h-count-2
 same_length_4 c = search rules
 
-same_length_5 : tie.Need-same-length-5
+same_length_5 : tie.Need-shape_of-tray-then-h-count-2
 same_length_5 c = search rules
 
-returns_2 : tie.Need-returns-2
-returns_2 c = c.before.before.before.before.fetch_step.ensures _ _
+returns_2 : tie.Need-returns-then-h-count-2
+returns_2 c = c.fetch_step.ensures _ _
 
-add_if3 : tie.Need-overflow-add-if3
+add_if3 : tie.Need-overflow_add-count
 add_if3 c = search rules
 
-table_step_requires : tie.Need-table-step-requires
+table_step_requires : tie.Need-table_step-requires
 table_step_requires c κs =
-    let l = c.before.before.before.before.before.before.before.before in
-    let p = l.before.before.before.before.before.before.requires in
-    let e = reader_looks p.read _ l.look_count.ensures in
+    let p = c.requires in
+    let e = reader_looks p.read _ c.look_count-count.ensures in
     let s = p.read.held.steps in
-    record { read = p.read; fit = p.listed; room = search rules; step = omega (arith, c.before.before.if3.true) }
+    record { read = p.read; fit = p.listed; room = search rules; step = omega (arith, c.if-h-count-3.true) }
 
-same_length_6 : tie.Need-same-length-6
+same_length_6 : tie.Need-shape_of-clients-then-h-count-3
 same_length_6 c = search rules
 
-same_length_7 : tie.Need-same-length-7
+same_length_7 : tie.Need-shape_of-tray-then-h-count-3
 same_length_7 c = search rules
 
-returns_3 : tie.Need-returns-3
-returns_3 c = c.before.before.before.before.table_step.ensures _ _
+returns_3 : tie.Need-returns-then-h-count-3
+returns_3 c = c.table_step.ensures _ _
 
-file_step_requires : tie.Need-file-step-requires
+file_step_requires : tie.Need-file_step-requires
 file_step_requires c κs =
-    let x = c.before.before.before in
-    let y = x.before.before in
-    let z = y.before.before in
-    let l = z.before.before in
-    let p = l.before.before.before.before.before.before.requires in
-    let e = reader_looks p.read _ l.look_count.ensures in
+    let p = c.requires in
+    let e = reader_looks p.read _ c.look_count-count.ensures in
     let s = p.read.held.steps in
-    record { read = p.read; fit = p.fit; room = search rules; step = omega (arith, few_steps p.read, x.if3.false, y.if2.false, z.if1.false) }
+    record { read = p.read; fit = p.fit; room = search rules; step = omega (arith, few_steps p.read, c.if-h-count-3.false, c.if-h-count-2.false, c.if-h-count.false) }
 
-same_length_8 : tie.Need-same-length-8
+same_length_8 : tie.Need-shape_of-answers
 same_length_8 c = search rules
 
-same_length_9 : tie.Need-same-length-9
+same_length_9 : tie.Need-shape_of-clients
 same_length_9 c = search rules
 
-same_length_10 : tie.Need-same-length-10
+same_length_10 : tie.Need-shape_of-tray
 same_length_10 c = search rules
 
-returns_4 : tie.Need-returns-4
-returns_4 c = c.before.before.before.before.before.before.file_step.ensures _ _
+returns_4 : tie.Need-returns
+returns_4 c = c.file_step.ensures _ _
 
 pub read_step_spec : {M : Type 1} → statement M
 read_step_spec =

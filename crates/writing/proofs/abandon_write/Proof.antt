@@ -11,64 +11,59 @@ use borrow.Author.Rules.{rules}
 use Rattle.writing.proofs.abandon_write.Statement.{statement}
 use Rattle.writing.proofs.abandon_write.Tie as tie
 
-power_requires : tie.Need-power-requires
+power_requires : tie.Need-power-count-requires
 power_requires c κs = search rules
 
-cast_count : tie.Need-overflow-cast-count
+cast_count : tie.Need-overflow_cast-count
 cast_count c = search rules
 
-abbrev start : tie.AfterPower → tie.Start
-start c = c.before.before.before
-
 -- the power is the number of its nodes
-count : (c : tie.AfterPower) → c.power.result ≡ count_at (start c).args.clients.now (start c).args.d
-count c = writer_announcements (start c).requires.0 _ c.power.ensures
+count : (c : tie.After-power-count) → c.power-count.result ≡ count_at c.args.clients.now c.args.d
+count c = writer_announcements c.requires.0 _ c.power-count.ensures
 
 -- so the test tells on which side of its table step it is
-early : (c : tie.Then1)
-    → let s = (start c.before.before).args.clients.now in
-    let d = (start c.before.before).args.d in
+early : (c : tie.Then-h-count)
+    → let s = c.args.clients.now in
+    let d = c.args.d in
     step_at s d ≤ count_at s d
-early c = let read = c.before.before in omega (arith, count read, (start read).requires.0.held.steps, c.if1.true)
+early c = let read = c.before.before in omega (arith, count read, read.requires.0.held.steps, c.if-h-count.true)
 
-late : (c : tie.Else1)
-    → let s = (start c.before.before).args.clients.now in
-    let d = (start c.before.before).args.d in
+late : (c : tie.Else-h-count)
+    → let s = c.args.clients.now in
+    let d = c.args.d in
     count_at s d < step_at s d
-late c = let read = c.before.before in omega (arith, count read, (start read).requires.0.held.steps, c.if1.false)
+late c = let read = c.before.before in omega (arith, count read, read.requires.0.held.steps, c.if-h-count.false)
 
-release_all_requires : tie.Need-release-all-requires
+release_all_requires : tie.Need-release_all-requires
 release_all_requires c κs =
     let tested = c.before.before in
-    let read = tested.before.before in
-    let p = (start read).requires in
+    let p = tested.requires in
     (p.0, (p.1, early tested))
 
-same_length : tie.Need-same-length
+same_length : tie.Need-shape_of-nodes-then-h-count
 same_length c = search rules
 
-same_length_2 : tie.Need-same-length-2
+same_length_2 : tie.Need-shape_of-clients-then-h-count
 same_length_2 c = search rules
 
-returns : tie.Need-returns
+returns : tie.Need-returns-then-h-count
 returns c =
     let called = c.before.before.before.before in
     λ t a. called.release_all.ensures t a ∙ sym (abandon_before _ _ _ _ (early called.before.before.before))
 
-raise_all_requires : tie.Need-raise-all-requires
+raise_all_requires : tie.Need-raise_all-requires
 raise_all_requires c κs =
     let tested = c.before.before in
-    let read = tested.before.before in
-    let p = (start read).requires in
+    let p = tested.requires in
     (p.0, (p.1, late tested))
 
-same_length_3 : tie.Need-same-length-3
+same_length_3 : tie.Need-shape_of-nodes
 same_length_3 c = search rules
 
-same_length_4 : tie.Need-same-length-4
+same_length_4 : tie.Need-shape_of-clients
 same_length_4 c = search rules
 
-returns_2 : tie.Need-returns-2
+returns_2 : tie.Need-returns
 returns_2 c =
     let called = c.before.before.before.before in
     λ t a. called.raise_all.ensures t a ∙ unfold client in sym (abandon_past _ _ _ _ (late called.before.before.before))

@@ -6,28 +6,26 @@ use borrow.Author.Rules.{rules}
 use Rattle.reading.proofs.would.fetch_would.Statement.{statement}
 use Rattle.reading.proofs.would.fetch_would.Tie as tie
 
-find_filed_requires : tie.Need-find-filed-requires
+find_filed_requires : tie.Need-find_filed-i-requires
 find_filed_requires c κs =
-    let p = c.before.before.requires in
+    let p = c.requires in
     record { fit = p.fit; client = p.read.fit; few = omega (arith, reader_few p.read, p.step, p.read.held.steps) }
 
-shared_slice_read_if1 : tie.Need-shared-slice-read-if1
+shared_slice_read_if1 : tie.Need-bounds-answers-0
 shared_slice_read_if1 c = search rules
 
-cast_if1 : tie.Need-overflow-cast-if1
+cast_if1 : tie.Need-overflow_cast-answers
 cast_if1 c = search rules
 
-returns : tie.Need-returns
+returns : tie.Need-returns-then-answers-i
 returns c =
-    let f = c.before.before in
-    let p = f.before.before.before.requires in
-    λ t n y. none_raises p.read p.step _ _ f.find_filed.ensures t n y c.if1.true
+    let p = c.requires in
+    λ t n y. none_raises p.read p.step _ _ c.find_filed-i.ensures t n y c.if-answers-i.true
 
-returns_2 : tie.Need-returns-2
+returns_2 : tie.Need-returns
 returns_2 c =
-    let f = c.before.before in
-    let p = f.before.before.before.requires in
-    λ t n y. filed_raises p.read p.step _ _ f.find_filed.ensures t n y c.if1.false
+    let p = c.requires in
+    λ t n y. filed_raises p.read p.step _ _ c.find_filed-i.ensures t n y c.if-answers-i.false
 
 pub fetch_would_spec : {M : Type 1} → statement M
 fetch_would_spec =

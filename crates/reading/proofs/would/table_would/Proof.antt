@@ -4,31 +4,26 @@ use borrow.Author.Rules.{rules}
 use Rattle.reading.proofs.would.table_would.Statement.{statement}
 use Rattle.reading.proofs.would.table_would.Tie as tie
 
-is_long_requires : tie.Need-is-long-requires
+is_long_requires : tie.Need-is_long-requires
 is_long_requires c κs = search rules
 
-returns : tie.Need-returns
+returns : tie.Need-returns-then-is_long
 returns c =
-    let l = c.before in
-    let p = l.before.before.before.requires in
-    λ n a y. long_raises p.read p.step _ _ l.is_long.ensures n a y c.if1.true
+    let p = c.requires in
+    λ n a y. long_raises p.read p.step _ _ c.is_long.ensures n a y c.if-is_long.true
 
-saw_pending_requires : tie.Need-saw-pending-requires
+saw_pending_requires : tie.Need-saw_pending-requires
 saw_pending_requires c κs = search rules
 
-returns_2 : tie.Need-returns-2
+returns_2 : tie.Need-returns-then-saw_pending
 returns_2 c =
-    let i = c.before.before in
-    let l = i.before in
-    let p = l.before.before.before.requires in
-    λ n a y. given_raises p.read p.step _ _ l.is_long.ensures n a y i.if1.false _ c.before.saw_pending.ensures c.if2.true
+    let p = c.requires in
+    λ n a y. given_raises p.read p.step _ _ c.is_long.ensures n a y c.if-is_long.false _ c.saw_pending.ensures c.if-saw_pending.true
 
-returns_3 : tie.Need-returns-3
+returns_3 : tie.Need-returns
 returns_3 c =
-    let i = c.before.before in
-    let l = i.before in
-    let p = l.before.before.before.requires in
-    λ n a y. held_raises p.read p.step _ _ l.is_long.ensures n a y i.if1.false _ c.before.saw_pending.ensures c.if2.false
+    let p = c.requires in
+    λ n a y. held_raises p.read p.step _ _ c.is_long.ensures n a y c.if-is_long.false _ c.saw_pending.ensures c.if-saw_pending.false
 
 pub table_would_spec : {M : Type 1} → statement M
 table_would_spec =

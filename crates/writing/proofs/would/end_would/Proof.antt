@@ -4,24 +4,22 @@ use borrow.Author.Rules.{rules}
 use Rattle.writing.proofs.would.end_would.Statement.{statement}
 use Rattle.writing.proofs.would.end_would.Tie as tie
 
-found_full_requires : tie.Need-found-full-requires
+found_full_requires : tie.Need-found_full-requires
 found_full_requires c κs = search rules
 
-returns : tie.Need-returns
-returns c = full_raises _ _ c.before.found_full.ensures c.if1.true
+returns : tie.Need-returns-then-found_full
+returns c = full_raises _ _ c.found_full.ensures c.if-found_full.true
 
-did_change_requires : tie.Need-did-change-requires
+did_change_requires : tie.Need-did_change-requires
 did_change_requires c κs = search rules
 
-returns_2 : tie.Need-returns-2
+returns_2 : tie.Need-returns-then-did_change
 returns_2 c =
-    let i = c.before.before in
-    changed_raises _ _ i.before.found_full.ensures i.if1.false _ c.before.did_change.ensures c.if2.true
+    changed_raises _ _ c.found_full.ensures c.if-found_full.false _ c.did_change.ensures c.if-did_change.true
 
-returns_3 : tie.Need-returns-3
+returns_3 : tie.Need-returns
 returns_3 c =
-    let i = c.before.before in
-    unchanged_raises _ _ i.before.found_full.ensures i.if1.false _ c.before.did_change.ensures c.if2.false
+    unchanged_raises _ _ c.found_full.ensures c.if-found_full.false _ c.did_change.ensures c.if-did_change.false
 
 pub end_would_spec : {M : Type 1} → statement M
 end_would_spec =
