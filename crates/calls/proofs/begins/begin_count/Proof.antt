@@ -6,20 +6,20 @@ use Rattle.calls.proofs.begins.begin_count.Tie as tie
 begin_requires : tie.Need-begin-requires
 begin_requires c κs = search rules
 
-same_length : tie.Need-same-length
+same_length : tie.Need-shape_of-table
 same_length c = search rules
 
-same_length_2 : tie.Need-same-length-2
+same_length_2 : tie.Need-shape_of-nodes
 same_length_2 c = search rules
 
-same_length_3 : tie.Need-same-length-3
+same_length_3 : tie.Need-shape_of-answers
 same_length_3 c = search rules
 
-same_length_4 : tie.Need-same-length-4
+same_length_4 : tie.Need-shape_of-clients
 same_length_4 c = search rules
 
 returns : tie.Need-returns
-returns c = let b = c.before.before.before.before.before.before.before.before in b.begin.ensures
+returns c = c.begin.ensures
 
 pub begin_count_spec : {M : Type 1} → statement M
 begin_count_spec =

@@ -8,83 +8,73 @@ use Rattle.calls.proofs.upkeep.evict.Statement.{statement}
 use Rattle.calls.proofs.upkeep.evict.Tie as tie
 use Rattle.answers.proofs.evict.Reads as evict_reads
 
-evict_code_requires : tie.Need-evict-code-requires
+evict_code_requires : tie.Need-evict_code-code-requires
 evict_code_requires c κs = search rules
 
-same_length : tie.Need-same-length
+same_length : tie.Need-shape_of-table-then-code-ne0
 same_length c = search rules
 
-same_length_2 : tie.Need-same-length-2
+same_length_2 : tie.Need-shape_of-nodes-then-code-ne0
 same_length_2 c = search rules
 
-same_length_3 : tie.Need-same-length-3
+same_length_3 : tie.Need-shape_of-answers-then-code-ne0
 same_length_3 c = search rules
 
-same_length_4 : tie.Need-same-length-4
+same_length_4 : tie.Need-shape_of-clients-then-code-ne0
 same_length_4 c = search rules
 
-returns : tie.Need-returns
-returns c = evict_refused _ _ _ _ c.before.evict_code.ensures c.if1.true
+returns : tie.Need-returns-then-code-ne0
+returns c = evict_refused _ _ _ _ c.evict_code-code.ensures c.if-code-ne0.true
 
-enum_told : tie.Need-enum-told
+enum_told : tie.Need-enum_told-1
 enum_told c = search rules
 
 evict_requires : tie.Need-evict-requires
 evict_requires c κs =
-    let e = c.before in
-    let i = e.before.before in
-    let t = evict_answer_passed _ _ (answer_code_is _ _ _ _ i.before.evict_code.ensures i.if1.false e.enum_told.given.1) in
+    let t = evict_answer_passed _ _ (answer_code_is _ _ _ _ c.evict_code-code.ensures c.if-code-ne0.false c.in-Answer.is) in
     let l = t.1 in
     (answers_fit t.0, omega arith)
 
-enum_told_2 : tie.Need-enum-told-2
+enum_told_2 : tie.Need-enum_told-in-Node
 enum_told_2 c = search rules
 
-evict_requires_2 : tie.Need-evict-requires-2
+evict_requires_2 : tie.Need-evict-requires-in-Node
 evict_requires_2 c κs =
-    let e = c.before in
-    let i = e.before.before in
-    let t = evict_node_passed _ _ (node_code_is _ _ _ _ i.before.evict_code.ensures i.if1.false e.enum_told2.given.1) in
+    let t = evict_node_passed _ _ (node_code_is _ _ _ _ c.evict_code-code.ensures c.if-code-ne0.false c.in-Node.is) in
     let l = t.1 in
     (nodes_fit t.0, omega arith)
 
-same_length_5 : tie.Need-same-length-5
+same_length_5 : tie.Need-shape_of-table-in-Answer
 same_length_5 c = search rules
 
-same_length_6 : tie.Need-same-length-6
+same_length_6 : tie.Need-shape_of-nodes-in-Answer
 same_length_6 c = search rules
 
-same_length_7 : tie.Need-same-length-7
+same_length_7 : tie.Need-shape_of-answers-in-Answer
 same_length_7 c = search rules
 
-same_length_8 : tie.Need-same-length-8
+same_length_8 : tie.Need-shape_of-clients-in-Answer
 same_length_8 c = search rules
 
-returns_2 : tie.Need-returns-2
+returns_2 : tie.Need-returns-in-Answer
 returns_2 c =
-    let b = c.before.before in
-    let e = b.before.before in
-    let i = e.before.before in
-    answer_goes _ _ _ _ i.before.evict_code.ensures i.if1.false e.enum_told.given.1 _ b.evict.ensures
+    answer_goes _ _ _ _ c.evict_code-code.ensures c.if-code-ne0.false c.in-Answer.is _ c.evict.ensures
 
-same_length_9 : tie.Need-same-length-9
+same_length_9 : tie.Need-shape_of-table-in-Node
 same_length_9 c = search rules
 
-same_length_10 : tie.Need-same-length-10
+same_length_10 : tie.Need-shape_of-nodes-in-Node
 same_length_10 c = search rules
 
-same_length_11 : tie.Need-same-length-11
+same_length_11 : tie.Need-shape_of-answers-in-Node
 same_length_11 c = search rules
 
-same_length_12 : tie.Need-same-length-12
+same_length_12 : tie.Need-shape_of-clients-in-Node
 same_length_12 c = search rules
 
-returns_3 : tie.Need-returns-3
+returns_3 : tie.Need-returns-in-Node
 returns_3 c =
-    let b = c.before.before in
-    let e = b.before.before in
-    let i = e.before.before in
-    node_goes _ _ _ _ i.before.evict_code.ensures i.if1.false e.enum_told2.given.1 _ b.evict2.ensures
+    node_goes _ _ _ _ c.evict_code-code.ensures c.if-code-ne0.false c.in-Node.is _ c.evict-in-Node.ensures
 
 pub evict_spec : {M : Type 1} → statement M
 evict_spec =

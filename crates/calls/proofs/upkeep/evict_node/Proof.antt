@@ -7,21 +7,21 @@ use Rattle.calls.proofs.upkeep.evict_node.Tie as tie
 evict_requires : tie.Need-evict-requires
 evict_requires c κs = search rules
 
-same_length : tie.Need-same-length
+same_length : tie.Need-shape_of-table
 same_length c = search rules
 
-same_length_2 : tie.Need-same-length-2
+same_length_2 : tie.Need-shape_of-nodes
 same_length_2 c = search rules
 
-same_length_3 : tie.Need-same-length-3
+same_length_3 : tie.Need-shape_of-answers
 same_length_3 c = search rules
 
-same_length_4 : tie.Need-same-length-4
+same_length_4 : tie.Need-shape_of-clients
 same_length_4 c = search rules
 
 returns : tie.Need-returns
 unfolding evict_result
-returns c = let b = c.before.before.before.before in b.before.before.before.before.evict.ensures
+returns c = c.evict.ensures
 
 pub evict_node_spec : {M : Type 1} → statement M
 evict_node_spec =

@@ -9,49 +9,46 @@ use Rattle.calls.proofs.upkeep.renew.Statement.{statement}
 use Rattle.calls.proofs.upkeep.renew.Tie as tie
 use Rattle.answers.proofs.empty.Reads as empty_reads
 
-renew_code_requires : tie.Need-renew-code-requires
+renew_code_requires : tie.Need-renew_code-code-requires
 renew_code_requires c κs = search rules
 
-same_length : tie.Need-same-length
+same_length : tie.Need-shape_of-table-then-code-ne0
 same_length c = search rules
 
-same_length_2 : tie.Need-same-length-2
+same_length_2 : tie.Need-shape_of-nodes-then-code-ne0
 same_length_2 c = search rules
 
-same_length_3 : tie.Need-same-length-3
+same_length_3 : tie.Need-shape_of-answers-then-code-ne0
 same_length_3 c = search rules
 
-same_length_4 : tie.Need-same-length-4
+same_length_4 : tie.Need-shape_of-clients-then-code-ne0
 same_length_4 c = search rules
 
-returns : tie.Need-returns
+returns : tie.Need-returns-then-code-ne0
 unfolding renew_result
-returns c = refused _ _ _ c.before.renew_code.ensures _ c.if1.true
+returns c = refused _ _ _ c.renew_code-code.ensures _ c.if-code-ne0.true
 
 empty_requires : tie.Need-empty-requires
-empty_requires c κs = let i = c.before in nodes_fit (renew_passed _ (sym i.before.renew_code.ensures ∙ i.if1.false)).0
+empty_requires c κs = nodes_fit (renew_passed _ (sym c.renew_code-code.ensures ∙ c.if-code-ne0.false)).0
 
 empty_requires_2 : tie.Need-empty-requires-2
-empty_requires_2 c κs = let i = c.before.before.before.before.before in answers_fit (renew_passed _ (sym i.before.renew_code.ensures ∙ i.if1.false)).0
+empty_requires_2 c κs = answers_fit (renew_passed _ (sym c.renew_code-code.ensures ∙ c.if-code-ne0.false)).0
 
-same_length_5 : tie.Need-same-length-5
+same_length_5 : tie.Need-shape_of-table
 same_length_5 c = search rules
 
-same_length_6 : tie.Need-same-length-6
+same_length_6 : tie.Need-shape_of-nodes
 same_length_6 c = search rules
 
-same_length_7 : tie.Need-same-length-7
+same_length_7 : tie.Need-shape_of-answers
 same_length_7 c = search rules
 
-same_length_8 : tie.Need-same-length-8
+same_length_8 : tie.Need-shape_of-clients
 same_length_8 c = search rules
 
-returns_2 : tie.Need-returns-2
+returns_2 : tie.Need-returns
 returns_2 c =
-    let a = c.before.before in
-    let n = a.before.before.before.before in
-    let i = n.before.before in
-    renews _ _ _ _ i.before.renew_code.ensures i.if1.false n.empty.ensures a.empty2.ensures
+    renews _ _ _ _ c.renew_code-code.ensures c.if-code-ne0.false c.empty.ensures c.empty-2.ensures
 
 pub renew_spec : {M : Type 1} → statement M
 renew_spec =
