@@ -8,87 +8,64 @@ use borrow.Author.Rules.{rules}
 use Rattle.tallied.proofs.abandon.Statement.{statement}
 use Rattle.tallied.proofs.abandon.Tie as tie
 
-abandon_full_requires : tie.Need-abandon-full-requires
+abandon_full_requires : tie.Need-abandon_full-requires
 abandon_full_requires c κs = search rules
 
 full_requires : tie.Need-full-requires
 full_requires c κs = search rules
 
-same_length : tie.Need-same-length
+same_length : tie.Need-shape_of-table-then-abandon_full
 same_length c = search rules
 
-same_length_2 : tie.Need-same-length-2
+same_length_2 : tie.Need-shape_of-nodes-then-abandon_full
 same_length_2 c = search rules
 
-same_length_3 : tie.Need-same-length-3
+same_length_3 : tie.Need-shape_of-answers-then-abandon_full
 same_length_3 c = search rules
 
-same_length_4 : tie.Need-same-length-4
+same_length_4 : tie.Need-shape_of-clients-then-abandon_full
 same_length_4 c = search rules
 
--- the call's own arguments, from behind the test
-abbrev start : tie.AfterAbandonFull → tie.Start
-start f =
-    let s = f.before.before.before.before.before in
-    s.before.before.before.before
-
-returns : tie.Need-returns
+returns : tie.Need-returns-then-abandon_full
 unfolding tray_of
 returns c =
-    let f = c.before.before in
-    turned_down _ _ (abandon (start f).args.client) _ f.abandon_full.ensures c.before.if1.true c.full.ensures
+    turned_down _ _ (abandon c.args.client) _ c.abandon_full.ensures c.if-abandon_full.true c.full.ensures
 
-abandoned_count_requires : tie.Need-abandoned-count-requires
+abandoned_count_requires : tie.Need-abandoned_count-left-requires
 abandoned_count_requires c κs = search rules
 
-abandon_requires : tie.Need-abandon-requires
+abandon_requires : tie.Need-abandon-out-requires
 abandon_requires c κs = search rules
 
-count_of_requires : tie.Need-count-of-requires
+count_of_requires : tie.Need-count_of-count-requires
 count_of_requires c κs = search rules
 
--- back from the count to the call, and from the call to the test
-abbrev made : tie.AfterCountOf → tie.AfterAbandon
-made k =
-    let s = k.before.before.before.before.before in
-    s.before.before.before.before
-
-abbrev known : tie.AfterAbandon → tie.AfterAbandonedCount
-known o = o.before.before.before.before.before
-
-abbrev tested : tie.AfterAbandon → tie.Else1
-tested o = (known o).before.before
-
 -- what the outcome raises is what the call would raise
-counted : (k : tie.AfterCountOf)
-    → let s = start (tested (made k)).before in
-    k.count_of.result ≡ would_raise (mem s.args.table.now s.args.nodes.now s.args.answers.now s.args.clients.now) (abandon s.args.client)
+counted : (k : tie.After-count_of-count)
+    → k.count_of-count.result ≡ would_raise (mem k.args.table.now k.args.nodes.now k.args.answers.now k.args.clients.now) (abandon k.args.client)
 counted k =
-    let o = made k in
-    abandon_raises _ _ o.abandon.ensures (known o).abandoned_count.ensures k.count_of.ensures
+    abandon_raises _ _ k.abandon-out.ensures k.abandoned_count-left.ensures k.count_of-count.ensures
 
 raise_requires : tie.Need-raise-requires
 raise_requires c κs =
-    let i = tested (made c) in
-    may_raise _ _ _ _ i.before.abandon_full.ensures i.if1.left _ (counted c)
+    may_raise _ _ _ _ c.abandon_full.ensures c.if-abandon_full.false _ (counted c)
 
-same_length_5 : tie.Need-same-length-5
+same_length_5 : tie.Need-shape_of-table
 same_length_5 c = search rules
 
-same_length_6 : tie.Need-same-length-6
+same_length_6 : tie.Need-shape_of-nodes
 same_length_6 c = search rules
 
-same_length_7 : tie.Need-same-length-7
+same_length_7 : tie.Need-shape_of-answers
 same_length_7 c = search rules
 
-same_length_8 : tie.Need-same-length-8
+same_length_8 : tie.Need-shape_of-clients
 same_length_8 c = search rules
 
-returns_2 : tie.Need-returns-2
+returns_2 : tie.Need-returns
 returns_2 c =
     let k = c.before in
-    let i = tested (made k) in
-    goes_on _ _ _ _ i.before.abandon_full.ensures i.if1.left _ (counted k) (abandon_made _ _ (made k).abandon.ensures) c.raise.ensures
+    goes_on _ _ _ _ c.abandon_full.ensures c.if-abandon_full.false _ (counted k) (abandon_made _ _ c.abandon-out.ensures) c.raise.ensures
 
 pub abandon_spec : {M : Type 1} → statement M
 abandon_spec =

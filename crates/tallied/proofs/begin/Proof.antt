@@ -9,82 +9,63 @@ use borrow.Author.Rules.{rules}
 use Rattle.tallied.proofs.begin.Statement.{statement}
 use Rattle.tallied.proofs.begin.Tie as tie
 
-begin_full_requires : tie.Need-begin-full-requires
+begin_full_requires : tie.Need-begin_full-requires
 begin_full_requires c κs = search rules
 
 full_requires : tie.Need-full-requires
 full_requires c κs = search rules
 
-same_length : tie.Need-same-length
+same_length : tie.Need-shape_of-table-then-begin_full
 same_length c = search rules
 
-same_length_2 : tie.Need-same-length-2
+same_length_2 : tie.Need-shape_of-nodes-then-begin_full
 same_length_2 c = search rules
 
-same_length_3 : tie.Need-same-length-3
+same_length_3 : tie.Need-shape_of-answers-then-begin_full
 same_length_3 c = search rules
 
-same_length_4 : tie.Need-same-length-4
+same_length_4 : tie.Need-shape_of-clients-then-begin_full
 same_length_4 c = search rules
 
--- the call's own arguments, from behind the test
-abbrev start : tie.AfterBeginFull → tie.Start
-start f =
-    let s = f.before.before.before.before.before in
-    s.before.before.before.before.before
-
-returns : tie.Need-returns
+returns : tie.Need-returns-then-begin_full
 unfolding tray_of
 returns c =
-    let f = c.before.before in
-    turned_down _ _ (let s = start f in begin s.args.client (request_of s.args.kind s.args.counts s.args.range s.args.asked.now)) _ f.begin_full.ensures c.before.if1.true c.full.ensures
+    turned_down _ _ (begin c.args.client (request_of c.args.kind c.args.counts c.args.range c.args.asked.now)) _ c.begin_full.ensures c.if-begin_full.true c.full.ensures
 
-begin_requires : tie.Need-begin-requires
+begin_requires : tie.Need-begin-out-requires
 begin_requires c κs = search rules
 
-begun_count_requires : tie.Need-begun-count-requires
+begun_count_requires : tie.Need-begun_count-requires
 begun_count_requires c κs = search rules
 
-count_of_requires : tie.Need-count-of-requires
+count_of_requires : tie.Need-count_of-count-requires
 count_of_requires c κs = search rules
 
--- back from the count to the call, and from the call to the test
-abbrev made : tie.AfterCountOf → tie.AfterBegin
-made k =
-    let s = k.before.before.before.before.before in
-    s.before.before.before.before.before
-
-abbrev tested : tie.AfterBegin → tie.Else1
-tested o = o.before.before.before.before.before
-
 -- what the outcome raises is what the call would raise
-counted : (k : tie.AfterCountOf)
-    → let s = start (tested (made k)).before in
-    k.count_of.result ≡ would_raise (mem s.args.table.now s.args.nodes.now s.args.answers.now s.args.clients.now) (begin s.args.client (request_of s.args.kind s.args.counts s.args.range s.args.asked.now))
-counted k = begin_raises _ _ _ (made k).begin.ensures (k.before.begun_count.ensures _ _ _) k.count_of.ensures
+counted : (k : tie.After-count_of-count)
+    → k.count_of-count.result ≡ would_raise (mem k.args.table.now k.args.nodes.now k.args.answers.now k.args.clients.now) (begin k.args.client (request_of k.args.kind k.args.counts k.args.range k.args.asked.now))
+counted k = begin_raises _ _ _ k.begin-out.ensures (k.begun_count.ensures _ _ _) k.count_of-count.ensures
 
 raise_requires : tie.Need-raise-requires
 raise_requires c κs =
-    let i = tested (made c) in
-    may_raise _ _ _ _ i.before.begin_full.ensures i.if1.left _ (counted c)
+    may_raise _ _ _ _ c.begin_full.ensures c.if-begin_full.false _ (counted c)
 
-same_length_5 : tie.Need-same-length-5
+same_length_5 : tie.Need-shape_of-table
 same_length_5 c = search rules
 
-same_length_6 : tie.Need-same-length-6
+same_length_6 : tie.Need-shape_of-nodes
 same_length_6 c = search rules
 
-same_length_7 : tie.Need-same-length-7
+same_length_7 : tie.Need-shape_of-answers
 same_length_7 c = search rules
 
-same_length_8 : tie.Need-same-length-8
+same_length_8 : tie.Need-shape_of-clients
 same_length_8 c = search rules
 
-returns_2 : tie.Need-returns-2
+returns_2 : tie.Need-returns
 returns_2 c =
     let k = c.before in
-    let i = tested (made k) in
-    goes_on _ _ _ _ i.before.begin_full.ensures i.if1.left _ (counted k) (begin_made _ _ _ (made k).begin.ensures) c.raise.ensures
+    goes_on _ _ _ _ c.begin_full.ensures c.if-begin_full.false _ (counted k) (begin_made _ _ _ c.begin-out.ensures) c.raise.ensures
 
 pub begin_spec : {M : Type 1} → statement M
 begin_spec =

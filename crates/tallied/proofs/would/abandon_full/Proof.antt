@@ -7,20 +7,20 @@ use Rattle.tally.proofs.TallyLaws.{none_full}
 use Rattle.tallied.proofs.would.abandon_full.Statement.{statement}
 use Rattle.tallied.proofs.would.abandon_full.Tie as tie
 
-some_full_requires : tie.Need-some-full-requires
+some_full_requires : tie.Need-some_full-requires
 some_full_requires c κs = search rules
 
-returns : tie.Need-returns
-returns c = sym (none_full _ (sym c.before.some_full.ensures ∙ not-true _ c.if1.true) _)
+returns : tie.Need-returns-then-not-some_full
+returns c = sym (none_full _ (sym c.some_full.ensures ∙ c.if-not-some_full.true) _)
 
-abandon_would_requires : tie.Need-abandon-would-requires
+abandon_would_requires : tie.Need-abandon_would-count-requires
 abandon_would_requires c κs = search rules
 
-is_full_requires : tie.Need-is-full-requires
+is_full_requires : tie.Need-is_full-requires
 is_full_requires c κs = search rules
 
-returns_2 : tie.Need-returns-2
-returns_2 c = c.is_full.ensures ∙ ap (is_full _) c.before.abandon_would.ensures
+returns_2 : tie.Need-returns
+returns_2 c = c.is_full.ensures ∙ ap (is_full _) c.abandon_would-count.ensures
 
 pub abandon_full_spec : {M : Type 1} → statement M
 abandon_full_spec =

@@ -6,32 +6,32 @@ use borrow.Author.Rules.{rules}
 use Rattle.tallied.proofs.would.abandoned_count.Statement.{statement}
 use Rattle.tallied.proofs.would.abandoned_count.Tie as tie
 
-returns : tie.Need-returns
-returns c = λ h l. absurd (omega (arith, c.if1.true))
+returns : tie.Need-returns-then-client-ge-CLIENTS
+returns c = λ h l. absurd (omega (arith, c.if-client-ge-CLIENTS.true))
 
-returns_2 : tie.Need-returns-2
-returns_2 c = λ h l. absurd (omega (arith, c.if2.true))
+returns_2 : tie.Need-returns-then-clients-lt-CLIENTS_LEAST
+returns_2 c = λ h l. absurd (omega (arith, c.if-clients-lt-CLIENTS_LEAST.true))
 
-mul_at : tie.Need-overflow-mul-at
+mul_at : tie.Need-overflow_mul-at
 mul_at c = search rules
 
-add_at : tie.Need-overflow-add-at
+add_at : tie.Need-overflow_add-at
 add_at c = search rules
 
-add_at_2 : tie.Need-overflow-add-at-2
+add_at_2 : tie.Need-overflow_add-at-2
 add_at_2 c = search rules
 
-mul_if3 : tie.Need-overflow-mul-if3
+mul_if3 : tie.Need-offset_bounds-clients-at
 mul_if3 c = search rules
 
-shared_slice_read_if3 : tie.Need-shared-slice-read-if3
+shared_slice_read_if3 : tie.Need-bounds-clients-at
 shared_slice_read_if3 c = search rules
 
-returns_3 : tie.Need-returns-3
-returns_3 c = λ h l. reader_left _ _ _ (kind_at _ _) c.if3.true
+returns_3 : tie.Need-returns-then-clients-at-eq-READS
+returns_3 c = λ h l. reader_left _ _ _ (kind_at _ _) c.if-clients-at-eq-READS.true
 
-returns_4 : tie.Need-returns-4
-returns_4 c = λ h l. writer_left _ _ _ (kind_at _ _) c.if3.false
+returns_4 : tie.Need-returns
+returns_4 c = λ h l. writer_left _ _ _ (kind_at _ _) c.if-clients-at-eq-READS.false
 
 pub abandoned_count_spec : {M : Type 1} → statement M
 abandoned_count_spec =

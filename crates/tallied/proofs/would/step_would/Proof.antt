@@ -11,43 +11,37 @@ use borrow.Author.Rules.{rules}
 use Rattle.tallied.proofs.would.step_would.Statement.{statement}
 use Rattle.tallied.proofs.would.step_would.Tie as tie
 
-step_check_requires : tie.Need-step-check-requires
+step_check_requires : tie.Need-step_check-checked-requires
 step_check_requires c κs = search rules
 
-returns : tie.Need-returns
+returns : tie.Need-returns-then-checked-ne0
 unfolding count_of
-returns c = let k = c.before.before in step_raises _ _ _ (step_refused _ _ _ _ k.step_check.ensures.code c.if1.true) refl
+returns c = step_raises _ _ _ (step_refused _ _ _ _ c.step_check-checked.ensures.code c.if-checked-ne0.true) refl
 
-step_would_requires : tie.Need-step-would-requires
+step_would_requires : tie.Need-step_would-requires
 step_would_requires c κs =
-    let i = c.before.before.before in
-    let f = i.before.before.step_check.ensures in
-    let z = sym f.code ∙ i.if1.false in
-    let on = reads_on _ _ _ _ _ (f.held z) c.if2.true _ z in
+    let f = c.step_check-checked.ensures in
+    let z = sym f.code ∙ c.if-checked-ne0.false in
+    let on = reads_on _ _ _ _ _ (f.held z) c.if-held-eq-READS.true _ z in
     record { read = on.read; listed = on.listed; fit = on.fit }
 
-returns_2 : tie.Need-returns-2
+returns_2 : tie.Need-returns-then-held-eq-READS
 returns_2 c =
-    let r = c.before in
-    let i = r.before.before.before in
-    let f = i.before.before.step_check.ensures in
-    let z = sym f.code ∙ i.if1.false in
-    step_raises _ _ _ (sym (read_due _ _ _ _ _ (f.held z) r.if2.true _ z)) (c.step_would.ensures _ _)
+    let f = c.step_check-checked.ensures in
+    let z = sym f.code ∙ c.if-checked-ne0.false in
+    step_raises _ _ _ (sym (read_due _ _ _ _ _ (f.held z) c.if-held-eq-READS.true _ z)) (c.step_would.ensures _ _)
 
-step_would_requires_2 : tie.Need-step-would-requires-2
+step_would_requires_2 : tie.Need-step_would-requires-2
 step_would_requires_2 c κs =
-    let i = c.before.before.before in
-    let f = i.before.before.step_check.ensures in
-    let z = sym f.code ∙ i.if1.false in
-    (writes_on _ _ _ _ _ _ (f.held z) c.if2.false _ z, nodes_fit (step_passed _ _ _ z).1.0)
+    let f = c.step_check-checked.ensures in
+    let z = sym f.code ∙ c.if-checked-ne0.false in
+    (writes_on _ _ _ _ _ _ (f.held z) c.if-held-eq-READS.false _ z, nodes_fit (step_passed _ _ _ z).1.0)
 
-returns_3 : tie.Need-returns-3
+returns_3 : tie.Need-returns
 returns_3 c =
-    let r = c.before in
-    let i = r.before.before.before in
-    let f = i.before.before.step_check.ensures in
-    let z = sym f.code ∙ i.if1.false in
-    step_raises _ _ _ (write_due _ _ _ _ _ _ (f.held z) r.if2.false _ z) (c.step_would2.ensures _ _ _)
+    let f = c.step_check-checked.ensures in
+    let z = sym f.code ∙ c.if-checked-ne0.false in
+    step_raises _ _ _ (write_due _ _ _ _ _ _ (f.held z) c.if-held-eq-READS.false _ z) (c.step_would-2.ensures _ _ _)
 
 pub step_would_spec : {M : Type 1} → statement M
 step_would_spec =
