@@ -1,6 +1,1 @@
-mod Lending
 mod ReplyLaws
-mod TalliedAbandon
-mod TalliedBegin
-mod TalliedStep
-mod TalliedWithin

@@ -4,26 +4,26 @@ use borrow.Author.Rules.{rules}
 use Rattle.exports.proofs.mondzafeky_evict_answer.Statement.{statement}
 use Rattle.exports.proofs.mondzafeky_evict_answer.Tie as tie
 
-evict_answer_requires : tie.Need-evict-answer-requires
+evict_answer_requires : tie.Need-evict_answer-out-requires
 evict_answer_requires c κs = search rules
 
-reply_of_requires : tie.Need-reply-of-requires
+reply_of_requires : tie.Need-reply_of-requires
 reply_of_requires c κs = search rules
 
-same_length : tie.Need-same-length
+same_length : tie.Need-shape_of-table
 same_length c = search rules
 
-same_length_2 : tie.Need-same-length-2
+same_length_2 : tie.Need-shape_of-nodes
 same_length_2 c = search rules
 
-same_length_3 : tie.Need-same-length-3
+same_length_3 : tie.Need-shape_of-answers
 same_length_3 c = search rules
 
-same_length_4 : tie.Need-same-length-4
+same_length_4 : tie.Need-shape_of-clients
 same_length_4 c = search rules
 
 returns : tie.Need-returns
-returns c = sends _ _ _ _ c.reply_of.ensures c.before.before.before.before.before.before.before.before.before.evict_answer.ensures
+returns c = sends _ _ _ _ c.reply_of.ensures c.evict_answer-out.ensures
 
 pub mondzafeky_evict_answer_spec : {M : Type 1} → statement M
 mondzafeky_evict_answer_spec =

@@ -4,28 +4,27 @@ use borrow.Author.Rules.{rules}
 use Rattle.exports.proofs.lent.abandon_replied.Statement.{statement}
 use Rattle.exports.proofs.lent.abandon_replied.Tie as tie
 
-abandon_requires : tie.Need-abandon-requires
+abandon_requires : tie.Need-abandon-c-requires
 abandon_requires c κs = search rules
 
-replied_of_requires : tie.Need-replied-of-requires
+replied_of_requires : tie.Need-replied_of-requires
 replied_of_requires c κs = search rules
 
-same_length : tie.Need-same-length
+same_length : tie.Need-shape_of-table
 same_length c = search rules
 
-same_length_2 : tie.Need-same-length-2
+same_length_2 : tie.Need-shape_of-nodes
 same_length_2 c = search rules
 
-same_length_3 : tie.Need-same-length-3
+same_length_3 : tie.Need-shape_of-answers
 same_length_3 c = search rules
 
-same_length_4 : tie.Need-same-length-4
+same_length_4 : tie.Need-shape_of-clients
 same_length_4 c = search rules
 
 returns : tie.Need-returns
 returns c =
-    let s = c.before.before.before.before.before in
-    tally_sends _ _ _ _ _ _ _ c.replied_of.ensures s.before.before.before.before.abandon.ensures
+    tally_sends _ _ _ _ _ _ _ c.replied_of.ensures c.abandon-c.ensures
 
 pub abandon_replied_spec : {M : Type 1} → statement M
 abandon_replied_spec =

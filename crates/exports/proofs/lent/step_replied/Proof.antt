@@ -4,31 +4,30 @@ use borrow.Author.Rules.{rules}
 use Rattle.exports.proofs.lent.step_replied.Statement.{statement}
 use Rattle.exports.proofs.lent.step_replied.Tie as tie
 
-step_requires : tie.Need-step-requires
+step_requires : tie.Need-step-c-requires
 step_requires c κs = search rules
 
-replied_of_requires : tie.Need-replied-of-requires
+replied_of_requires : tie.Need-replied_of-requires
 replied_of_requires c κs = search rules
 
-same_length : tie.Need-same-length
+same_length : tie.Need-shape_of-table
 same_length c = search rules
 
-same_length_2 : tie.Need-same-length-2
+same_length_2 : tie.Need-shape_of-nodes
 same_length_2 c = search rules
 
-same_length_3 : tie.Need-same-length-3
+same_length_3 : tie.Need-shape_of-answers
 same_length_3 c = search rules
 
-same_length_4 : tie.Need-same-length-4
+same_length_4 : tie.Need-shape_of-clients
 same_length_4 c = search rules
 
-same_length_5 : tie.Need-same-length-5
+same_length_5 : tie.Need-shape_of-tray
 same_length_5 c = search rules
 
 returns : tie.Need-returns
 returns c =
-    let s = c.before.before.before.before.before in
-    tally_sends _ _ _ _ _ _ _ c.replied_of.ensures s.before.before.before.before.before.before.step.ensures
+    tally_sends _ _ _ _ _ _ _ c.replied_of.ensures c.step-c.ensures
 
 pub step_replied_spec : {M : Type 1} → statement M
 step_replied_spec =
