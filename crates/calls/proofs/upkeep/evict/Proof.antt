@@ -6,7 +6,6 @@ use Rattle.calls.proofs.CallLaws.{evict_refused, answer_code_is, node_code_is, a
 use borrow.Author.Rules.{rules}
 use Rattle.calls.proofs.upkeep.evict.Statement.{statement}
 use Rattle.calls.proofs.upkeep.evict.Tie as tie
-use Rattle.answers.proofs.evict.Reads as evict_reads
 
 evict_code_requires : tie.Need-evict_code-code-requires
 evict_code_requires c κs = search rules

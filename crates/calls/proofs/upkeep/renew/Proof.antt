@@ -7,7 +7,6 @@ use Rattle.calls.proofs.CallLaws.{refused, renews}
 use borrow.Author.Rules.{rules}
 use Rattle.calls.proofs.upkeep.renew.Statement.{statement}
 use Rattle.calls.proofs.upkeep.renew.Tie as tie
-use Rattle.answers.proofs.empty.Reads as empty_reads
 
 renew_code_requires : tie.Need-renew_code-code-requires
 renew_code_requires c κs = search rules

@@ -1,6 +1,5 @@
 -- `tallied::would::step_full` meets its contract: where no count stands at its largest, the one that the call would raise does not. Assumes nothing.
 use mathlib.Core.Path.{sym, ap, ◌∙◌}
-use borrow.Author.Tests.{not-true}
 use Rattle.rules.specs.Tally.{is_full}
 use borrow.Author.Rules.{rules}
 use Rattle.tally.proofs.TallyLaws.{none_full}
