@@ -6,7 +6,7 @@
 mod parts;
 mod play;
 mod print;
-mod query;
+mod queries;
 mod row;
 
 // The most rows that a part has.

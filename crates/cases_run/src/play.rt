@@ -1,8 +1,8 @@
-// Plays one row on the five memories and says what came, in the form of what the row expects. Leans on row, query and the calls.
+// Plays one row on the five memories and says what came, in the form of what the row expects. Leans on row, queries and the calls.
 // Few functions are lent all memories: each is long to prove.
 ghost use Rattle.std.specs.Prelude.{◌≤◌};
 
-use crate::{query, row};
+use crate::{queries, row};
 use calls::Call;
 use hall::Hall;
 use rules::Outcome;
@@ -67,10 +67,10 @@ fn label_at(nodes: &[u32], node: u32) -> u32 {
     }
     let p = Hall::HEADER as u32 + node * Hall::NODE_WIDTH as u32;
     let tags = number_at(nodes, p);
-    let a = query::joined(0, tags % 256, number_at(nodes, p + 1));
-    let b = query::joined(a, tags / 256 % 256, number_at(nodes, p + 2));
-    let c = query::joined(b, tags / 65536 % 256, number_at(nodes, p + 3));
-    query::joined(c, tags / 16777216, number_at(nodes, p + 4))
+    let a = queries::joined(0, tags % 256, number_at(nodes, p + 1));
+    let b = queries::joined(a, tags / 256 % 256, number_at(nodes, p + 2));
+    let c = queries::joined(b, tags / 65536 % 256, number_at(nodes, p + 3));
+    queries::joined(c, tags / 16777216, number_at(nodes, p + 4))
 }
 
 // What came of a row: what its calls gave, or the label or number that it looks at.
@@ -155,7 +155,7 @@ fn words_of(row: u64, i: u32) -> [u32; 6] {
     if row::act(row) == b'f' {
         return [1, i / 6, 0, 0, 0, 0];
     }
-    query::words(row::query(row))
+    queries::words(row::query(row))
 }
 
 // What a call gave: the step, how it ended, number or count.
@@ -219,7 +219,7 @@ fn run(
     let n = lent(tray.len(), row::act(row) == b'S');
     let call = call_of(tray, row, step_of(row, i));
     let words = words_of(row, i);
-    let m = query::numbers(row::query(row));
+    let m = queries::numbers(row::query(row));
     calls::run(
         table,
         nodes,

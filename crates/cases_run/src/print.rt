@@ -1,5 +1,5 @@
-// What the program writes: of each part one line, its text, then what came, in the text's form. Leans on parts, row and query.
-use crate::{parts, query, row};
+// What the program writes: of each part one line, its text, then what came, in the text's form. Leans on parts, row and queries.
+use crate::{parts, queries, row};
 
 pub fn text(s: &[u8]) {
     io::write_all(1, s);
@@ -22,12 +22,12 @@ fn column(before: &[u8], digit: u32) {
 
 // A label, as (*,?,5).
 fn columns(q: u32) {
-    column(b"(", query::digit(q, 0));
+    column(b"(", queries::digit(q, 0));
     if 2 <= q / 4096 {
-        column(b",", query::digit(q, 1));
+        column(b",", queries::digit(q, 1));
     }
     if 3 <= q / 4096 {
-        column(b",", query::digit(q, 2));
+        column(b",", queries::digit(q, 2));
     }
     text(b")");
 }

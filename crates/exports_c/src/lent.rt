@@ -1,0 +1,155 @@
+// The calls that are lent a tally, for programs in C and Rust. Each hands its arguments on to the function of the same name in `exports`, whose clauses
+// it repeats word for word. specs/Reply.antt of exports says what is sent back.
+ghost use Rattle.std.specs.Prelude.{◌≡◌, true, false, []};
+ghost use Rattle.query.specs.declared.Range.TheVariants.{None, Between};
+ghost use Rattle.rules.specs.Work.{read_of, insert_of, delete_of};
+ghost use Rattle.rules.specs.Memory.{mem};
+ghost use Rattle.exports.specs.Reply.{sent_tallied, begin_tallied, step_tallied, abandon_tallied};
+
+use exports::Reply;
+use rules::Tally;
+
+// Begins a read.
+#[unsafe(no_mangle)]
+pub extern "C" fn mondzafeky_begin_read_tallied(
+    table: &mut [u32],
+    nodes: &mut [u32],
+    answers: &mut [u32],
+    clients: &mut [u32],
+    tally: &mut Tally,
+    client: u32,
+    query: &[u32],
+) -> Reply
+    ensures { sent_tallied result (mem table.new nodes.new answers.new clients.new) [] tally.new ≡ begin_tallied (mem table.old nodes.old answers.old clients.old) tally.old client (read_of false None query.now) }
+{
+    exports::lent::mondzafeky_begin_read_tallied(
+        table, nodes, answers, clients, tally, client, query,
+    )
+}
+
+// Begins a read that wants only how many records there are.
+#[unsafe(no_mangle)]
+pub extern "C" fn mondzafeky_begin_count_tallied(
+    table: &mut [u32],
+    nodes: &mut [u32],
+    answers: &mut [u32],
+    clients: &mut [u32],
+    tally: &mut Tally,
+    client: u32,
+    query: &[u32],
+) -> Reply
+    ensures { sent_tallied result (mem table.new nodes.new answers.new clients.new) [] tally.new ≡ begin_tallied (mem table.old nodes.old answers.old clients.old) tally.old client (read_of true None query.now) }
+{
+    exports::lent::mondzafeky_begin_count_tallied(
+        table, nodes, answers, clients, tally, client, query,
+    )
+}
+
+// Begins a read of the records whose value in one column is the lowest to the highest, as `mondzafeky_begin_read_within`.
+#[unsafe(no_mangle)]
+pub extern "C" fn mondzafeky_begin_read_within_tallied(
+    table: &mut [u32],
+    nodes: &mut [u32],
+    answers: &mut [u32],
+    clients: &mut [u32],
+    tally: &mut Tally,
+    client: u32,
+    query: &[u32],
+    column: u32,
+    lowest: u32,
+    highest: u32,
+) -> Reply
+    ensures { sent_tallied result (mem table.new nodes.new answers.new clients.new) [] tally.new ≡ begin_tallied (mem table.old nodes.old answers.old clients.old) tally.old client (read_of false (Between column lowest highest) query.now) }
+{
+    exports::lent::mondzafeky_begin_read_within_tallied(
+        table, nodes, answers, clients, tally, client, query, column, lowest, highest,
+    )
+}
+
+// Begins a read that wants only how many these are.
+#[unsafe(no_mangle)]
+pub extern "C" fn mondzafeky_begin_count_within_tallied(
+    table: &mut [u32],
+    nodes: &mut [u32],
+    answers: &mut [u32],
+    clients: &mut [u32],
+    tally: &mut Tally,
+    client: u32,
+    query: &[u32],
+    column: u32,
+    lowest: u32,
+    highest: u32,
+) -> Reply
+    ensures { sent_tallied result (mem table.new nodes.new answers.new clients.new) [] tally.new ≡ begin_tallied (mem table.old nodes.old answers.old clients.old) tally.old client (read_of true (Between column lowest highest) query.now) }
+{
+    exports::lent::mondzafeky_begin_count_within_tallied(
+        table, nodes, answers, clients, tally, client, query, column, lowest, highest,
+    )
+}
+
+// Begins an insert of a record.
+#[unsafe(no_mangle)]
+pub extern "C" fn mondzafeky_begin_insert_tallied(
+    table: &mut [u32],
+    nodes: &mut [u32],
+    answers: &mut [u32],
+    clients: &mut [u32],
+    tally: &mut Tally,
+    client: u32,
+    query: &[u32],
+) -> Reply
+    ensures { sent_tallied result (mem table.new nodes.new answers.new clients.new) [] tally.new ≡ begin_tallied (mem table.old nodes.old answers.old clients.old) tally.old client (insert_of query.now) }
+{
+    exports::lent::mondzafeky_begin_insert_tallied(
+        table, nodes, answers, clients, tally, client, query,
+    )
+}
+
+// Begins a delete of every record in the query's subspace.
+#[unsafe(no_mangle)]
+pub extern "C" fn mondzafeky_begin_delete_tallied(
+    table: &mut [u32],
+    nodes: &mut [u32],
+    answers: &mut [u32],
+    clients: &mut [u32],
+    tally: &mut Tally,
+    client: u32,
+    query: &[u32],
+) -> Reply
+    ensures { sent_tallied result (mem table.new nodes.new answers.new clients.new) [] tally.new ≡ begin_tallied (mem table.old nodes.old answers.old clients.old) tally.old client (delete_of query.now) }
+{
+    exports::lent::mondzafeky_begin_delete_tallied(
+        table, nodes, answers, clients, tally, client, query,
+    )
+}
+
+// One step of what is under way at the desk.
+#[unsafe(no_mangle)]
+pub extern "C" fn mondzafeky_step_tallied(
+    table: &mut [u32],
+    nodes: &mut [u32],
+    answers: &mut [u32],
+    clients: &mut [u32],
+    tray: &mut [u32],
+    tally: &mut Tally,
+    client: u32,
+) -> Reply
+    ensures { sent_tallied result (mem table.new nodes.new answers.new clients.new) tray.new tally.new ≡ step_tallied (mem table.old nodes.old answers.old clients.old) tally.old client tray.old }
+{
+    exports::lent::mondzafeky_step_tallied(table, nodes, answers, clients, tray, tally, client)
+}
+
+// Abandons what is under way at the desk; a write past its table step is brought to its end.
+#[unsafe(no_mangle)]
+pub extern "C" fn mondzafeky_abandon_tallied(
+    table: &mut [u32],
+    nodes: &mut [u32],
+    answers: &mut [u32],
+    clients: &mut [u32],
+    tally: &mut Tally,
+    client: u32,
+) -> Reply
+    ensures { sent_tallied result (mem table.new nodes.new answers.new clients.new) [] tally.new ≡ abandon_tallied (mem table.old nodes.old answers.old clients.old) tally.old client }
+{
+    exports::lent::mondzafeky_abandon_tallied(table, nodes, answers, clients, tally, client)
+}
