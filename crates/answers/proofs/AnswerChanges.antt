@@ -1,7 +1,7 @@
 -- Laws of what a change of the filed answers leaves in their memory, in the terms of the code that makes it. Leans on the rules'
 -- definitions and on laws. Assumes nothing.
 use mathlib.Core.Path.{◌≡◌, refl, sym, ap, ◌∙◌}
-use mathlib.Core.Bool.{true, false}
+use mathlib.Core.Bool.{Bool, true, false}
 use mathlib.Core.List.{List, [], ◌∷◌, ◌++◌, append_assoc, append-nil}
 use Prim.Native.Nat.{ℕ, ◌+◌, ◌*◌, ◌-◌, ◌≤◌, ◌<◌}
 use native.Mathlib.Nat.{mul-le-mul_right}
@@ -14,6 +14,7 @@ use Rattle.lists.specs.Lists.{written, without}
 use Rattle.laws.specs.Splice.{removed}
 use Rattle.laws.proofs.WrittenLaws.{written_nil}
 use Rattle.laws.proofs.EntryLaws.{with_append, with_remove, with_replace, with_none}
+use Rattle.query.specs.Encoding.{counts_in}
 use Rattle.rules.specs.Answers.{Entry, length_in, is_count, list_in, key_place, filed, is_long}
 use Rattle.lists.specs.Lists.{header}
 use Rattle.query.specs.Shape.{shape_of, max_columns}
@@ -21,7 +22,7 @@ use Rattle.rules.specs.Layout.{max_answers, max_list, answer_count_offset, lengt
 use Rattle.rules.specs.Memory.{current, answers_in, with_answers}
 use Rattle.rules.proofs.ClientLaws.{list_short}
 use Rattle.answers.specs.AnswerContracts.{Fit, Gave}
-use Rattle.answers.proofs.AnswerScan.{count_is, part_is}
+use Rattle.answers.proofs.AnswerScan.{count_is, counts_first, part_is}
 use Rattle.answers.proofs.AnswerEntries.{room}
 
 zeros_written : (s : List ℕ) (n : ℕ) → take 8 s ++ (replicate n 0 ++ drop (8 + n) s) ≡ written s 8 (replicate n 0)
@@ -82,6 +83,11 @@ module _ (s : List ℕ) where
 pub list_fits : (e : Entry) (k : ℕ) → is_long e ≡ false → is_count e ≡ false → k ≤ max_columns → get_or e length_offset 0 * k ≤ list_room
 unfolding length_in
 list_fits e k h c g = let a : get_or e length_offset 0 * k ≤ max_list * k = mul-le-mul_right k (list_short e c h) in omega arith
+
+-- .. where the test of its first number has said that it is no count
+pub plain_fits : (e : Entry) (k : ℕ) (b : Bool) → ((vs : List ℕ) → b ≡ counts_in (get_or e 0 0 ∷ vs)) → b ≡ false
+    → is_long e ≡ false → k ≤ max_columns → get_or e length_offset 0 * k ≤ list_room
+plain_fits e k b h f l m = list_fits e k l (sym (counts_first e b h) ∙ f) m
 
 pub gave : (k : ℕ) (e tray after : List ℕ) → is_count e ≡ false → after ≡ written tray 0 (take (list_offset (shape_of k) + get_or e length_offset 0 * k - list_offset (shape_of k)) (drop (list_offset (shape_of k)) e)) → Gave k e tray (get_or e length_offset 0) after
 unfolding length_in list_in
