@@ -10,6 +10,14 @@ ghost use Rattle.rules.specs.Memory.{current, mem, cleared};
 ghost use Rattle.rules.specs.Refusals.{is_short};
 ghost use Rattle.hall.specs.HallContracts.{limits_of};
 
+pub use kind::{Kind, UnknownKind};
+pub use memories::{Memories, MemoriesMut};
+pub use refusal::Refusal;
+
+mod kind; // kind.rt: the kinds of work
+mod memories; // memories.rt: the four lent memories together
+pub mod refusal; // refusal.rt: why a call is turned down
+
 // The name that the sizes and the functions of every hall stand under. A hall itself lies in the lent memories, its number of columns too.
 #[derive(Clone, Copy)]
 pub struct Hall;
