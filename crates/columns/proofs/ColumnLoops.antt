@@ -1,15 +1,13 @@
 -- Laws on columns and queries, over plain lists. Leans on FillLoop and on the definitions of crates/query. Assumes nothing.
-use Rattle.std.proofs.Common.{◌≡◌, ℕ, zero, suc, ◌+◌, ◌-◌, ◌*◌, ◌<◌, ◌≤◌, Bool, true, false, not, eqb, List, [], ◌∷◌, length, get_or, take, drop, set, replicate, refl, ap, ◌∙◌, add-one, arith, length-drop, drop_of_length-le, length-take, drop-cons, get_or-take, take_at, eq-eqb, ne_eqb}
+use Rattle.std.proofs.Common.{◌≡◌, ℕ, suc, ◌+◌, ◌-◌, ◌*◌, ◌<◌, ◌≤◌, false, List, [], ◌∷◌, length, get_or, take, drop, set, replicate, refl, ap, ◌∙◌, add-one, arith, length-drop, drop_of_length-le, length-take, drop-cons, get_or-take, take_at, ne_eqb}
 use native.Mathlib.Numerals.{add-two}
 use lib.Dec.{eqb-suc-suc}
-use borrow.Author.Tests.{lt-leb, not-true, not-false}
 use Rattle.query.specs.declared.Column.{Column}
 use Rattle.query.specs.declared.Column.TheVariants.{Is, Wildcard}
 use Rattle.query.specs.Query.{Query, named}
-use Rattle.query.specs.Encoding.{column_of, query_of, well_marked, is_query, names_all}
-use Rattle.query.specs.Shape.{shape_of}
+use Rattle.query.specs.Encoding.{column_of, query_of, names_all}
 use Rattle.query.proofs.NodeLists.{named_most}
-use Rattle.columns.specs.ColumnContracts.{column_marked, four}
+use Rattle.columns.specs.ColumnContracts.{four}
 use Rattle.columns.proofs.FillLoop.{Filled, next_rest, fill_none, fill_more, fill_all}
 
 -- ---- The column at a place of the first k
@@ -33,49 +31,11 @@ unfolding names_all named
 names_wildcard q = ne_eqb (named q) (suc (length q)) (λ e. omega (arith, named_most q))
 
 -- ---- A query as it arrives
-pub marked_wildcard : (mark v : ℕ) → mark ≡ 0 → eqb v 0 ≡ column_marked mark v
-unfolding column_marked
-marked_wildcard mark v e = rw e
-
-pub marked_value : (mark v : ℕ) → (mark ≡ 0 → ⊥) → eqb mark 1 ≡ column_marked mark v
-unfolding column_marked
-marked_value zero v n = absurd (n refl)
-marked_value (suc zero) v n = refl
-marked_value (suc (suc m)) v n = rw (ne_eqb (suc (suc m)) 1 (λ e. omega arith), lt-leb (suc (suc m)) 1 (omega arith))
-
-pub marked_odd : (a : List ℕ) (i : ℕ) → i + 1 ≡ length a → well_marked (drop i a) ≡ false
-unfolding well_marked
-marked_odd a i e =
-    let h : i < length a = omega arith in
-    let l : length a ≤ suc i = omega arith in
-    rw (drop-cons a i 0 h, drop_of_length-le a l)
-
 module _ (a : List ℕ) (i : ℕ) (h : i < length a) (o : i + 1 ≡ length a → ⊥) where
   pub two_more : drop i a ≡ get_or a i 0 ∷ get_or a (i + 1) 0 ∷ drop (i + 2) a
   two_more =
       let w : suc i < length a = omega arith in
       rw (add-one, add-two, drop-cons a i 0 h, drop-cons a (suc i) 0 w)
-
-  module _ (r : Bool) (e : r ≡ column_marked (get_or a i 0) (get_or a (i + 1) 0)) where
-    pub marked_no : not r ≡ true → well_marked (drop i a) ≡ false
-    unfolding well_marked column_marked
-    marked_no n = rw (two_more, ← e, not-true r n)
-
-    pub marked_on : not r ≡ false → well_marked (drop i a) ≡ well_marked (drop (i + 2) a)
-    unfolding well_marked column_marked
-    marked_on n = rw (two_more, ← e, not-false r n)
-
-pub marked_end : (a : List ℕ) (i : ℕ) → length a ≤ i → well_marked (drop i a) ≡ true
-unfolding well_marked
-marked_end a i h = rw (drop_of_length-le a h)
-
-pub query_short : (k : ℕ) (a : List ℕ) → (length a ≡ 2 * k → ⊥) → false ≡ is_query (shape_of k) a
-unfolding is_query
-query_short k a n = rw (ne_eqb (length a) (2 * k) n)
-
-pub query_marked : (k : ℕ) (a : List ℕ) (r : Bool) → length a ≡ 2 * k → r ≡ well_marked a → r ≡ is_query (shape_of k) a
-unfolding is_query
-query_marked k a r e w = rw (eq-eqb (length a) (2 * k) e) w
 
 pub record Arriving (a : List ℕ) (cols : List Column) (i from : ℕ) : Type 0 where
   pub place : from ≡ 2 * i

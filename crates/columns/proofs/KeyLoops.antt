@@ -3,7 +3,6 @@ use Rattle.std.proofs.Common.{◌≡◌, ℕ, zero, suc, ◌+◌, ◌-◌, ◌*�
 use mathlib.Core.Bool.{or-true}
 use native.Mathlib.Nat.{pow-succ', sub-zero, div-div-eq-div-mul}
 use lib.ListN.{length-map}
-use borrow.Author.Tests.{not-true, not-false}
 use Rattle.lists.specs.Lists.{padded, same}
 use Rattle.laws.proofs.ListLaws.{length_padded}
 use Rattle.laws.proofs.TestLaws.{same_test}
@@ -121,22 +120,9 @@ keying_all cols k i key t h =
     fill_all 7 0 _ (i + 1) _ t.fill a ∙ rw s
 
 -- ---- No value without a mark
-pub keeps_marked : (m v : ℕ) → m % 2 ≡ 1 → true ≡ keeps m v
-unfolding keeps
-keeps_marked m v e = rw e
-
-pub keeps_unmarked : (m v : ℕ) → (m % 2 ≡ 1 → ⊥) → eqb v 0 ≡ keeps m v
-unfolding keeps
-keeps_unmarked m v n = rw (ne_eqb (m % 2) 1 n)
-
-module _ (values : List ℕ) (left i : ℕ) (h : i < length values) (r : Bool) (e : r ≡ keeps left (get_or values i 0)) where
-  pub under_no : not r ≡ true → zero_under left (drop i values) ≡ false
-  unfolding zero_under
-  under_no n = rw (drop-cons values i 0 h, ← e, not-true r n)
-
-  pub under_on : not r ≡ false → zero_under left (drop i values) ≡ zero_under (left / 2) (drop (i + 1) values)
-  unfolding zero_under
-  under_on n = rw (add-one, drop-cons values i 0 h, ← e, not-false r n)
+pub under_more : (values : List ℕ) (left i : ℕ) → i < length values → zero_under left (drop i values) ≡ keeps left (get_or values i 0) && zero_under (left / 2) (drop (i + 1) values)
+unfolding zero_under
+under_more values left i h = rw (add-one, drop-cons values i 0 h)
 
 pub under_end : (values : List ℕ) (left i : ℕ) → length values ≤ i → zero_under left (drop i values) ≡ true
 unfolding zero_under
@@ -204,15 +190,9 @@ unfolding zero_under
 under_padded m n [] = zeros_pass m n
 under_padded m n (v ∷ vs) = rw (under_padded (m / 2) n vs)
 
-key_padded : (k m : ℕ) (vs : List ℕ) → k ≤ 4 → length vs ≤ 6 → is_key (shape_of k) (m ∷ padded 6 vs) ≡ (ltb m (2 ^ k) && zero_under m vs)
+pub key_padded : (k m : ℕ) (vs : List ℕ) → k ≤ 4 → length vs ≤ 6 → is_key (shape_of k) (m ∷ padded 6 vs) ≡ (ltb m (2 ^ k) && zero_under m vs)
 unfolding padded
 key_padded k m vs b h = key_whole k (m ∷ padded 6 vs) b (let z = length_padded 6 vs h in omega arith) ∙ rw (under_padded m (6 - length vs) vs)
-
-pub key_high : (k p m : ℕ) (vs : List ℕ) → p ≡ 2 ^ k → k ≤ 4 → length vs ≤ 6 → p ≤ m → false ≡ is_key (shape_of k) (m ∷ padded 6 vs)
-key_high k p m vs e b h l = rw (key_padded k m vs b h, ← e, le-ltb m p l)
-
-pub key_low : (k p m : ℕ) (vs : List ℕ) (r : Bool) → p ≡ 2 ^ k → k ≤ 4 → length vs ≤ 6 → m < p → r ≡ zero_under m vs → r ≡ is_key (shape_of k) (m ∷ padded 6 vs)
-key_low k p m vs r e b h l z = rw (key_padded k m vs b h, ← e, lt-ltb m p l) z
 
 -- ---- What is wanted, and the range
 unranged_first : (g : Range) (m : ℕ) (vs : List ℕ) → get_or (unranged g (m ∷ vs)) 0 0 ≡ m

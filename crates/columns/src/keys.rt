@@ -105,19 +105,12 @@ pub fn all_marks(k: usize) -> u32
 // Two to the number of 1 bits, for the numbers to 15.
 const LOOKS: [u8; 16] = [1, 2, 2, 4, 2, 4, 4, 8, 2, 4, 4, 8, 4, 8, 8, 16];
 
-fn wide(x: u8) -> usize
-    ensures { result ≡ x }
-{
-    x as usize
-}
-
 // How many looks a read makes, by its marks.
 pub fn look_count(k: usize, marks: u32) -> usize
     requires { (k ≤ max_columns) × (marks < 2 ^ k) }
     ensures { (vs : List ℕ) → result ≡ read_count (columns_in k marks vs) }
 {
-    let i = marks as usize;
-    wide(LOOKS[i])
+    usize::from(LOOKS[marks as usize])
 }
 
 // Whether a query names every column, by its marks.
@@ -161,42 +154,36 @@ pub fn record_key(k: usize, values: [u32; Hall::COLUMN_SLOTS]) -> [u32; Hall::KE
 }
 
 // Whether a value has a mark, or is 0.
+#[tactic(auto, unfolding(crate::specs::KeyContracts::keeps))]
 fn keeps(marks: u32, v: u32) -> bool
     ensures { result ≡ keeps marks v }
 {
-    if marks % 2 == 1 {
-        return true;
-    }
-    v == 0
+    marks % 2 == 1 || v == 0
 }
 
 // Whether each value under an unmarked column is 0.
+#[tactic(auto, using(crate::proofs::KeyLoops::under_more, crate::proofs::KeyLoops::under_end))]
 fn zero_under(marks: u32, values: &[u32]) -> bool
     ensures { result ≡ zero_under marks values.now }
 {
     let mut left = marks;
-    let mut i = 0;
-    while i < values.len() {
-        let v = values[i];
+    for &v in values {
         if !keeps(left, v) {
             return false;
         }
-        left = left / 2;
-        i += 1;
+        left /= 2;
     }
     true
 }
 
 // Whether marks and the numbers behind them, zeros from where they end, are the key of a query of k columns: marks for k columns at most, and no
 // value without a mark.
+#[tactic(auto, using(crate::proofs::KeyLoops::key_padded))]
 pub fn is_key(k: usize, marks: u32, values: &[u32]) -> bool
     requires { (k ≤ max_columns) × (length values.now ≤ key_width - 1) }
     ensures { result ≡ is_key (shape_of k) (marks ∷ padded (key_width - 1) values.now) }
 {
-    if power(k) <= marks {
-        return false;
-    }
-    zero_under(marks, values)
+    marks < power(k) && zero_under(marks, values)
 }
 
 // ---- What is wanted, and the range

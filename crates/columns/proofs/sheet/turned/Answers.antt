@@ -1,10 +1,9 @@
 -- `columns::sheet::turned` meets its contract: the sheet's rule holds at each of its 256 entries, by one computed test.
 -- Assumes nothing.
-use Rattle.std.proofs.Common.{◌≡◌, ℕ, ◌+◌, ◌*◌, ◌/◌, ◌%◌, ◌<◌, ◌∙◌, arith, rules}
+use Rattle.std.proofs.Common.{◌≡◌, ℕ, ◌+◌, ◌*◌, ◌/◌, ◌%◌, ◌<◌, ◌∙◌, arith}
 use Rattle.query.specs.Sheet.{sheet_entry, turned, looks}
 use Rattle.columns.proofs.TableRule.{ruled}
-use Rattle.columns.proofs.sheet.turned.Statement.{statement}
-use Rattle.columns.proofs.sheet.turned.Tie as tie
+use Rattle.columns.proofs.sheet.turned.Goals as goal
 
 -- the rule by an entry's place
 by_place : ℕ → ℕ
@@ -17,26 +16,11 @@ row s l hs hl =
     let b : (s * 16 + l) % 16 ≡ l = omega arith in
     rw (a, b)
 
-mul_i : tie.Need-overflow_mul-i
-mul_i c = search rules
-
-add_i : tie.Need-overflow_add-i
-add_i c = search rules
-
-array_read_wide : tie.Need-bounds-i
-array_read_wide c = search rules
-
-wide_requires : tie.Need-wide-requires
-wide_requires c κs = search rules
-
 -- `passed` is the test of all 256 entries, computed
-returns : tie.Need-returns
+pub returns : goal.returns
 unfolding by_place sheet_entry turned looks
 returns c =
-    let a = c.before.args in
+    let a = c.args in
     let h : a.stars * 16 + a.look < 256 = omega arith in
     let passed : Unit {0} = tt in
-    c.wide.ensures ∙ rw (ruled by_place) (row a.stars a.look (search rules) (search rules))
-
-pub turned_spec : {M : Type 1} → statement M
-turned_spec = tie.close (tie.spec mul_i add_i array_read_wide wide_requires returns)
+    c.from.ensures ∙ rw (ruled by_place) (row a.stars a.look (omega arith) (omega arith))
