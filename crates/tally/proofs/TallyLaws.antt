@@ -10,11 +10,11 @@ use Rattle.rules.specs.declared.Count.{Count}
 use Rattle.rules.specs.declared.Count.TheVariants.{ReadBegun, FromFile, FromTable, EndedLong, ReadAbandoned}
 use Rattle.rules.specs.declared.Count.TheVariants.{WriteBegun, EndedChanged, EndedUnchanged, WriteAbandoned}
 use Rattle.tally.specs.TallyContracts.{with_count, some_full}
-use Rattle.rules.specs.Tally.{count_in, rank, one, raised, is_full}
+use Rattle.rules.specs.Tally.{count_in, rank, raises, one, raised, is_full}
 
 module _ (t : Tally) where
   pub raised_is : (c : Count) → with_count t c (count_in t c + 1) ≡ raised t (Some c)
-  unfolding count_in raised one rank
+  unfolding count_in raised one raises rank
   raised_is ReadBegun = simp add-zero
   raised_is FromFile = simp add-zero
   raised_is FromTable = simp add-zero
