@@ -1,6 +1,6 @@
 -- What arrives at a begin: what it is turned down with for itself, and its key. Leans on the rules' Work and on the laws of columns. Assumes nothing.
-use mathlib.Core.Path.{◌≡◌, refl, sym, ap, ◌∙◌}
-use mathlib.Core.Bool.{Bool, true, false, cond, not, ◌&&◌}
+use mathlib.Core.Path.{◌≡◌, refl}
+use mathlib.Core.Bool.{Bool, true, false, cond, not}
 use mathlib.Core.List.{List, [], ◌∷◌}
 use Prim.Native.Nat.{ℕ, zero, suc, ◌+◌, ◌*◌, ◌≤◌, ◌<◌}
 use native.Mathlib.Omega.{arith}
@@ -10,7 +10,6 @@ use borrow.Author.Tests.{eqb-true, ltb-true}
 use Rattle.laws.proofs.ListLaws.{and_left}
 use Rattle.query.specs.declared.Column.TheVariants.{Is, Wildcard}
 use Rattle.query.specs.declared.Range.{Range}
-use Rattle.query.specs.declared.Range.TheVariants.{None, Between}
 use Rattle.query.specs.Range.{is_named, is_range}
 use Rattle.query.specs.Query.{naming}
 use Rattle.query.specs.Encoding.{column_of, query_of, is_query, names_all, key_words, wanted_key}

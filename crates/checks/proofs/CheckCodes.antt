@@ -1,15 +1,14 @@
 -- What the parts of the refusals' numbers say of the whole ones. Leans on the rules' Refusals and on the laws of nodes and clients. Assumes nothing.
-use mathlib.Core.Path.{◌≡◌, refl, sym, ap, ◌∙◌}
-use mathlib.Core.Bool.{Bool, true, false, cond, not, ◌&&◌}
-use mathlib.Core.List.{List, []}
-use Prim.Native.Nat.{ℕ, ◌≤◌, ◌<◌}
+use mathlib.Core.Path.{◌≡◌, refl, ◌∙◌}
+use mathlib.Core.Bool.{Bool, true, false, cond, not}
+use mathlib.Core.List.{List}
+use Prim.Native.Nat.{ℕ, ◌<◌}
 use lib.Dec.{eqb}
 use borrow.Author.Tests.{lt-leb, ne_eqb}
-use Rattle.rules.specs.Layout.{max_clients, refused_taken, refused_idle, refused_worn}
-use Rattle.rules.specs.Nodes.{is_worn}
+use Rattle.rules.specs.Layout.{max_clients, refused_taken, refused_idle}
 use Rattle.rules.specs.Client.{is_idle, is_bad}
-use Rattle.rules.specs.Work.{Request, is_write}
-use Rattle.rules.specs.Memory.{Mem, mem, current, store_in}
+use Rattle.rules.specs.Work.{Request}
+use Rattle.rules.specs.Memory.{Mem, mem}
 use Rattle.rules.specs.Refusals.{shape, client, is_unsound, no_client, at_client}
 use Rattle.checks.specs.CheckContracts.{client_code, fresh_code, desk_code}
 
