@@ -1,10 +1,12 @@
 -- Laws on marks, values and keys, over plain lists. Leans on FillLoop and ColumnLoops. Assumes nothing.
-use Rattle.std.proofs.Common.{◌≡◌, ℕ, zero, suc, ◌+◌, ◌-◌, ◌*◌, ◌/◌, ◌%◌, ◌^◌, ◌<◌, ◌≤◌, Bool, true, false, not, ◌&&◌, ◌||◌, eqb, ltb, List, [], ◌∷◌, ◌++◌, map, length, get_or, take, drop, set, replicate, sym, refl, ap, ◌∙◌, div-one, add-one, arith, length-drop, drop_of_length-le, length-take, get_or-drop, drop-cons, drop-drop, ltb-true, le-ltb, lt-ltb, eq-eqb, ne_eqb, eqb-true}
+use Rattle.std.proofs.Common.{◌≡◌, ℕ, zero, suc, ◌+◌, ◌-◌, ◌*◌, ◌/◌, ◌%◌, ◌^◌, ◌<◌, ◌≤◌, Bool, true, false, not, ◌&&◌, ◌||◌, eqb, leb, ltb, List, [], ◌∷◌, ◌++◌, map, length, get_or, take, drop, set, replicate, sym, refl, ap, ◌∙◌, div-one, add-one, arith, length-drop, drop_of_length-le, length-take, get_or-drop, drop-cons, drop-drop, ltb-true, le-ltb, lt-ltb, eq-eqb, ne_eqb, eqb-true}
 use mathlib.Core.Bool.{or-true}
 use native.Mathlib.Nat.{pow-succ', sub-zero, div-div-eq-div-mul}
 use lib.ListN.{length-map}
+use Rattle.std.proofs.lemmas.Bool.Decides.{nat_tests}
+use borrow.Author.Tests.{not-true, not-false}
 use Rattle.lists.specs.Lists.{padded, same}
-use Rattle.laws.proofs.ListLaws.{length_padded}
+use Rattle.laws.proofs.ListLaws.{length_padded, and_left}
 use Rattle.laws.proofs.TestLaws.{same_test}
 use Rattle.query.specs.declared.Column.{Column}
 use Rattle.query.specs.declared.Column.TheVariants.{Is, Wildcard}
@@ -194,6 +196,10 @@ pub key_padded : (k m : ℕ) (vs : List ℕ) → k ≤ 4 → length vs ≤ 6 →
 unfolding padded
 key_padded k m vs b h = key_whole k (m ∷ padded 6 vs) b (let z = length_padded 6 vs h in omega arith) ∙ rw (under_padded m (6 - length vs) vs)
 
+-- a key's marks are those of its columns
+pub key_fits : (k m : ℕ) (vs : List ℕ) → k ≤ 4 → length vs ≤ 6 → true ≡ is_key (shape_of k) (m ∷ padded 6 vs) → m < 2 ^ k
+key_fits k m vs b h e = ltb-true m (2 ^ k) (and_left _ _ (sym (key_padded k m vs b h) ∙ sym e))
+
 -- ---- What is wanted, and the range
 unranged_first : (g : Range) (m : ℕ) (vs : List ℕ) → get_or (unranged g (m ∷ vs)) 0 0 ≡ m
 unfolding unranged
@@ -242,23 +248,9 @@ module _ (cols : List Column) (k : ℕ) (key : List ℕ) (e : key ≡ key_words 
   list_wanted counts g c n = rw (c, n, e)
 
 -- ---- A range that a begin would turn down, test by test
-pub no_range : (sh : Shape) (q : Query) (g : Range) → g ≡ None → false ≡ not (is_range sh q g) || is_reversed g
+pub range_tests : (sh : Shape) (q : Query) (c l h : ℕ) → not (is_range sh q (Between c l h)) || is_reversed (Between c l h) ≡ (leb sh.columns c || (is_named (get_or q c Wildcard) || ltb h l))
 unfolding is_range is_reversed
-no_range sh q g e = rw e
-
-module _ (sh : Shape) (q : Query) (g : Range) (c l h : ℕ) (e : g ≡ Between c l h) where
-  pub range_past : sh.columns ≤ c → true ≡ not (is_range sh q g) || is_reversed g
-  unfolding is_range is_reversed
-  range_past k = rw (e, le-ltb c sh.columns k)
-
-  module _ (k : c < sh.columns) (r : Bool) (n : r ≡ is_named (get_or q c Wildcard)) where
-    pub range_named : r ≡ true → true ≡ not (is_range sh q g) || is_reversed g
-    unfolding is_range is_reversed
-    range_named t = rw (e, lt-ltb c sh.columns k, ← n, t)
-
-    pub range_ends : r ≡ false → ltb h l ≡ not (is_range sh q g) || is_reversed g
-    unfolding is_range is_reversed
-    range_ends t = rw (e, lt-ltb c sh.columns k, ← n, t)
+range_tests sh q c l h = grind (arith, nat_tests)
 
 -- the numbers of a key that are its query's
 pub query_few : (g : Range) (n : ℕ) → n ≡ query_width g → n ≤ 6

@@ -85,9 +85,8 @@ pub fn key_words(cols: [Column; Hall::COLUMN_SLOTS], k: usize) -> [u32; Hall::KE
     key
 }
 
-// Two to the k: as many as the nodes of a write, and one above the highest marks. A shift, since a constant array is made on the stack wherever
-// it is read.
-pub fn power(k: usize) -> u32
+// Two to the k: one above the highest marks of k columns. A shift, since a constant array is made on the stack wherever it is read.
+pub(crate) fn power(k: usize) -> u32
     requires { k ≤ max_columns }
     ensures { result ≡ 2 ^ k }
 {
@@ -95,7 +94,7 @@ pub fn power(k: usize) -> u32
 }
 
 // The marks of a query that names every column: k bits, all 1.
-pub fn all_marks(k: usize) -> u32
+pub(crate) fn all_marks(k: usize) -> u32
     requires { k ≤ max_columns }
     ensures { result ≡ 2 ^ k - 1 }
 {
@@ -106,19 +105,11 @@ pub fn all_marks(k: usize) -> u32
 const LOOKS: [u8; 16] = [1, 2, 2, 4, 2, 4, 4, 8, 2, 4, 4, 8, 4, 8, 8, 16];
 
 // How many looks a read makes, by its marks.
-pub fn look_count(k: usize, marks: u32) -> usize
+pub(crate) fn look_count(k: usize, marks: u32) -> usize
     requires { (k ≤ max_columns) × (marks < 2 ^ k) }
     ensures { (vs : List ℕ) → result ≡ read_count (columns_in k marks vs) }
 {
     usize::from(LOOKS[marks as usize])
-}
-
-// Whether a query names every column, by its marks.
-pub fn names_all(k: usize, marks: u32) -> bool
-    requires { (k ≤ max_columns) × (marks < 2 ^ k) }
-    ensures { (vs : List ℕ) → result ≡ names_all (columns_in k marks vs) }
-{
-    marks == all_marks(k)
 }
 
 // A value where its mark is odd, else 0: a choice without a branch.
@@ -129,18 +120,13 @@ fn value_under(mark: u32, v: u32) -> u32
 }
 
 // The values that have a mark, and 0 in place of the others.
-pub fn values_under(marks: u32, values: [u32; Hall::COLUMN_SLOTS]) -> [u32; Hall::COLUMN_SLOTS]
+pub(crate) fn values_under(
+    marks: u32,
+    values: [u32; Hall::COLUMN_SLOTS],
+) -> [u32; Hall::COLUMN_SLOTS]
     ensures { result ≡ map column_value (columns_in max_columns marks values) }
 {
-    let second = marks / 2;
-    let third = second / 2;
-    let fourth = third / 2;
-    [
-        value_under(marks, values[0]),
-        value_under(second, values[1]),
-        value_under(third, values[2]),
-        value_under(fourth, values[3]),
-    ]
+    std::array::from_fn(|c| value_under(marks >> c, values[c]))
 }
 
 // The key of an insert's record, which names every column.
@@ -148,9 +134,10 @@ pub fn record_key(k: usize, values: [u32; Hall::COLUMN_SLOTS]) -> [u32; Hall::KE
     requires { k ≤ max_columns }
     ensures { result ≡ key_words (naming (take k values)) }
 {
-    let marks = all_marks(k);
-    let kept = values_under(marks, values);
-    [marks, kept[0], kept[1], kept[2], kept[3], 0, 0]
+    let mut key = [0; Hall::KEY_WIDTH];
+    key[0] = all_marks(k);
+    key[1..1 + k].copy_from_slice(&values[..k]);
+    key
 }
 
 // Whether a value has a mark, or is 0.
@@ -179,7 +166,7 @@ fn zero_under(marks: u32, values: &[u32]) -> bool
 // Whether marks and the numbers behind them, zeros from where they end, are the key of a query of k columns: marks for k columns at most, and no
 // value without a mark.
 #[tactic(auto, using(crate::proofs::KeyLoops::key_padded))]
-pub fn is_key(k: usize, marks: u32, values: &[u32]) -> bool
+pub(crate) fn is_key(k: usize, marks: u32, values: &[u32]) -> bool
     requires { (k ≤ max_columns) × (length values.now ≤ key_width - 1) }
     ensures { result ≡ is_key (shape_of k) (marks ∷ padded (key_width - 1) values.now) }
 {
@@ -198,15 +185,13 @@ pub fn bare_marks(first: u32) -> u32
 pub fn range_of(first: u32, lowest: u32, highest: u32) -> Range
     ensures { result ≡ range_of (first / range_unit) lowest highest }
 {
-    let above = first / Hall::RANGE_UNIT;
-    if above == 0 {
-        return Range::None;
-    }
-    let column = above - 1;
-    Range::Between {
-        column,
-        lowest,
-        highest,
+    match (first / Hall::RANGE_UNIT).checked_sub(1) {
+        Some(column) => Range::Between {
+            column,
+            lowest,
+            highest,
+        },
+        None => Range::None,
     }
 }
 
@@ -214,56 +199,26 @@ pub fn range_of(first: u32, lowest: u32, highest: u32) -> Range
 pub fn is_ranged(range: Range) -> bool
     ensures { result ≡ is_ranged range }
 {
-    let Range::Between {
-        column: _,
-        lowest: _,
-        highest: _,
-    } = range
-    else {
-        return false;
-    };
-    true
+    matches!(range, Range::Between { .. })
 }
 
 // How many of the numbers behind a key's first are its query's: a range has the last two.
+#[tactic(auto, unfolding(crate::specs::KeyContracts::query_width))]
 pub fn query_width(range: Range) -> usize
     ensures { result ≡ query_width range }
 {
-    if is_ranged(range) {
-        return Hall::COLUMN_SLOTS;
+    match range {
+        Range::Between { .. } => Hall::COLUMN_SLOTS,
+        Range::None => Hall::KEY_WIDTH - 1,
     }
-    Hall::KEY_WIDTH - 1
 }
 
 // Whether the column at a place names a value, by the marks.
-fn is_named(marks: u32, column: u32) -> bool
+pub(crate) fn is_named(marks: u32, column: u32) -> bool
     requires { column < max_columns }
     ensures { (k : ℕ) (vs : List ℕ) → column < k → result ≡ is_named (slice_index_or (columns_in k marks vs) column Wildcard) }
 {
     (marks >> column) % 2 == 1
-}
-
-// Whether a begin would turn a range down, beside a query of k columns that has these marks: its column is past the last, or named too, or its
-// ends are reversed.
-pub fn bad_range(k: usize, marks: u32, range: Range) -> bool
-    requires { k ≤ max_columns }
-    ensures { (vs : List ℕ) → result ≡ (not (is_range (shape_of k) (columns_in k marks vs) range) || is_reversed range) }
-{
-    let Range::Between {
-        column,
-        lowest,
-        highest,
-    } = range
-    else {
-        return false;
-    };
-    if k <= column as usize {
-        return true;
-    }
-    if is_named(marks, column) {
-        return true;
-    }
-    highest < lowest
 }
 
 // A key with its range: its column plus 1 above what stands in the first number, and its ends.

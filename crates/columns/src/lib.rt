@@ -16,6 +16,7 @@ use query::Column;
 pub mod bounds; // bounds.rt: the record test with a range
 pub mod keys; // keys.rt: marks, values and keys
 pub mod labels; // labels.rt: the labels of nodes
+pub mod marked; // marked.rt: a query as marks and values
 pub mod masks; // masks.rt: the record test
 mod sheet; // sheet.rt: the fixed sheet
 
