@@ -1,4 +1,5 @@
 pub mod TableRule
+pub mod ChunkLaws
 pub mod FillLoop
 pub mod ColumnLoops
 pub mod PairLaws

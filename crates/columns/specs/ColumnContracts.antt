@@ -1,5 +1,5 @@
--- What the functions over `[Column; 4]` give, where crates/query/specs has no name for it. Definitions only. Assumes nothing.
-use Rattle.std.specs.Prelude.{ℕ, ◌-◌, Bool, List, ◌&&◌, ◌||◌, [], ◌∷◌, ◌++◌, length, take, replicate, ◌==◌, nat_le}
+-- What the functions over columns give, where crates/query/specs has no name for it. Definitions only. Assumes nothing.
+use Rattle.std.specs.Prelude.{ℕ, ◌-◌, Bool, ◌&&◌, ◌||◌, [], ◌∷◌, ◌++◌, length, take, replicate, ◌==◌, nat_le, List}
 use Rattle.lists.specs.Lists.{padded}
 use Rattle.query.specs.declared.Column.TheVariants.{Is, Wildcard}
 use Rattle.query.specs.Query.{Query, Record}
@@ -9,7 +9,7 @@ use Rattle.query.specs.Shape.{max_columns}
 unfoldable pub column_marked : ℕ → ℕ → Bool
 column_marked mark v = nat_le mark 1 && (mark == 1 || v == 0)
 
--- a query as an array of four columns: wildcards behind those in use
+-- a query as four columns: wildcards behind its own
 unfoldable pub four : Query → Query
 four q = q ++ replicate (4 - length q) Wildcard
 

@@ -5,85 +5,12 @@ ghost use Rattle.query.specs.Query.{naming, read_count};
 ghost use Rattle.query.specs.Encoding.{key_width};
 ghost use Rattle.query.specs.Shape.{shape_of, max_columns};
 ghost use Rattle.query.specs.declared.Column.TheVariants.{Wildcard};
-ghost use Rattle.query.specs.Encoding.{marks, column_of, columns_in, column_value, key_words, names_all, is_key, range_unit, range_of, range_key, wanted_key, bare_key};
+ghost use Rattle.query.specs.Encoding.{column_of, columns_in, column_value, key_words, names_all, is_key, range_unit, range_of, bare_key};
 ghost use Rattle.query.specs.Range.{is_ranged, is_named, is_range, is_reversed};
-ghost use Rattle.columns.specs.ColumnContracts.{four};
-ghost use Rattle.columns.specs.KeyContracts.{mark_of, keeps, zero_under, query_width, IsNear};
+ghost use Rattle.columns.specs.KeyContracts.{keeps, zero_under, query_width};
 
 use hall::Hall;
-use query::{Column, Range};
-
-// 1 for a column that names a value, 0 for a wildcard.
-fn mark_of(col: Column) -> u32
-    ensures { result ≡ mark_of col }
-{
-    let Column::Is(_) = col else {
-        return 0;
-    };
-    1
-}
-
-// The value that a column names; 0 for a wildcard.
-pub fn value_of(col: Column) -> u32
-    ensures { result ≡ column_value col }
-{
-    let Column::Is(v) = col else {
-        return 0;
-    };
-    v
-}
-
-// One bit for each column, 1 where it names a value; the first column has the lowest bit.
-fn marks_of(cols: [Column; Hall::COLUMN_SLOTS], k: usize) -> u32
-    requires { k ≤ max_columns }
-    ensures { result ≡ marks (take k cols) }
-{
-    let mut marks = 0;
-    let mut i = k;
-    while 0 < i {
-        i -= 1;
-        let col = cols[i];
-        let mark = mark_of(col);
-        marks = mark + 2 * marks;
-    }
-    marks
-}
-
-// The k columns of marks and values.
-pub fn columns_in(k: usize, marks: u32, values: &[u32]) -> [Column; Hall::COLUMN_SLOTS]
-    requires { (k ≤ max_columns) × (k ≤ length values.now) }
-    ensures { result ≡ four (columns_in k marks values.now) }
-{
-    let wildcard = Column::Wildcard;
-    let mut cols = [wildcard; Hall::COLUMN_SLOTS];
-    let mut left = marks;
-    let mut i = 0;
-    while i < k {
-        let v = values[i];
-        let col = super::column_of(left % 2, v);
-        cols[i] = col;
-        left = left / 2;
-        i += 1;
-    }
-    cols
-}
-
-// A query as the key of an answer: its marks, its values, zeros behind.
-pub fn key_words(cols: [Column; Hall::COLUMN_SLOTS], k: usize) -> [u32; Hall::KEY_WIDTH]
-    requires { k ≤ max_columns }
-    ensures { result ≡ key_words (take k cols) }
-{
-    let mut key = [0u32; Hall::KEY_WIDTH];
-    key[0] = marks_of(cols, k);
-    let mut i = 0;
-    while i < k {
-        let col = cols[i];
-        let v = value_of(col);
-        i += 1;
-        key[i] = v;
-    }
-    key
-}
+use query::Range;
 
 // Two to the k: one above the highest marks of k columns. A shift, since a constant array is made on the stack wherever it is read.
 pub(crate) fn power(k: usize) -> u32
@@ -219,41 +146,4 @@ pub(crate) fn is_named(marks: u32, column: u32) -> bool
     ensures { (k : ℕ) (vs : List ℕ) → column < k → result ≡ is_named (slice_index_or (columns_in k marks vs) column Wildcard) }
 {
     (marks >> column) % 2 == 1
-}
-
-// A key with its range: its column plus 1 above what stands in the first number, and its ends.
-fn ranged_key(key: [u32; Hall::KEY_WIDTH], range: Range) -> [u32; Hall::KEY_WIDTH]
-    requires { (slice_index key 0 < range_unit) × IsNear range }
-    ensures { result ≡ range_key range key }
-{
-    let Range::Between {
-        column,
-        lowest,
-        highest,
-    } = range
-    else {
-        return key;
-    };
-    let mut ranged = key;
-    ranged[0] = key[0] + Hall::RANGE_UNIT * (column + 1);
-    ranged[Hall::LOWEST_OFFSET] = lowest;
-    ranged[Hall::HIGHEST_OFFSET] = highest;
-    ranged
-}
-
-// The key of a read: its query's, with what it wants and its range.
-pub fn ask_key(
-    cols: [Column; Hall::COLUMN_SLOTS],
-    k: usize,
-    counts: bool,
-    range: Range,
-) -> [u32; Hall::KEY_WIDTH]
-    requires { (k ≤ max_columns) × IsNear range }
-    ensures { result ≡ wanted_key counts range (key_words (take k cols)) }
-{
-    let mut key = key_words(cols, k);
-    if counts {
-        key[0] = key[0] + Hall::COUNT_BIT;
-    }
-    ranged_key(key, range)
 }

@@ -1,13 +1,13 @@
-// Queries in code: an array of four columns, of which the first k are in use and the rest are wildcards.
+// Queries as they arrive, in code and in memory, their labels, and the tests of records.
 // Leans on query for the column and for the rules.
 #![tactic(auto)]
 
 ghost use Rattle.std.specs.Prelude.{◌≡◌, ◌*◌, ◌≤◌, cond, length, IfOk};
 ghost use Rattle.query.specs.Shape.{shape_of, max_columns};
 ghost use Rattle.query.specs.Encoding.{is_query, column_of, query_of, well_marked, names_all};
+ghost use Rattle.columns.specs.ColumnContracts.{column_marked, taken_of, four};
 ghost use Rattle.rules.specs.Layout.{refused_columns};
 ghost use Rattle.hall.specs.Refusal.{code_of};
-ghost use Rattle.columns.specs.ColumnContracts.{column_marked, four, taken_of};
 
 use hall::Hall;
 use hall::refusal::Refusal;
@@ -17,7 +17,9 @@ pub mod bounds; // bounds.rt: the record test with a range
 pub mod keys; // keys.rt: marks, values and keys
 pub mod labels; // labels.rt: the labels of nodes
 pub mod marked; // marked.rt: a query as marks and values
-pub mod masks; // masks.rt: the record test
+pub mod masks; // masks.rt: the record test without a range
+pub mod queries; // queries.rt: queries, and their keys
+pub mod record_test; // record_test.rt: what the passes ask of a record test
 mod sheet; // sheet.rt: the fixed sheet
 
 // Whether a mark and its value are those of a column: no mark above 1, no value under a wildcard.
@@ -53,26 +55,6 @@ fn column_of(mark: u32, v: u32) -> Column
     } else {
         Column::Is(v)
     }
-}
-
-// The columns of what arrives, at most four, wildcards behind.
-pub fn columns_of(asked: &[u32]) -> [Column; Hall::COLUMN_SLOTS]
-    requires { length asked.now ≤ 2 * max_columns }
-    ensures { result ≡ four (query_of asked.now) }
-{
-    let wildcard = Column::Wildcard;
-    let mut cols = [wildcard; Hall::COLUMN_SLOTS];
-    let mut i = 0;
-    let mut from = 0;
-    while from + 1 < asked.len() {
-        let mark = asked[from];
-        let v = asked[from + 1];
-        let col = column_of(mark, v);
-        cols[i] = col;
-        i += 1;
-        from += 2;
-    }
-    cols
 }
 
 // An insert takes the values of the columns as they arrive, zeros behind, and refuses a wildcard. What arrives may have more columns than any hall:
