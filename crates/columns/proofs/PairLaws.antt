@@ -1,4 +1,5 @@
--- Columns as they arrive, cut into pairs of a mark and a value: `query_of` and `well_marked` by the pairs. Assumes nothing.
+-- Columns as they arrive, cut into pairs of a mark and a value: `query_of` and `well_marked` by the pairs. Leans on FillLoop and on the
+-- definitions of crates/query. Assumes nothing.
 use Rattle.std.proofs.Common.{◌≡◌, ℕ, suc, ◌+◌, ◌/◌, ◌%◌, ◌<◌, ◌≤◌, Bool, false, ◌&&◌, List, [], ◌∷◌, map, length, get_or, drop, refl, sym, ap, ◌∙◌, add-one, arith, drop-cons}
 use mathlib.Core.Bool.{and-false}
 use lib.ListN.{length-map}
