@@ -1,29 +1,28 @@
 -- Laws of what a change of the filed answers leaves in their memory, in the terms of the code that makes it. Leans on the rules'
 -- definitions and on laws. Assumes nothing.
-use mathlib.Core.Path.{◌≡◌, refl, sym, ap, ◌∙◌}
-use mathlib.Core.Bool.{Bool, true, false}
-use mathlib.Core.List.{List, [], ◌∷◌, ◌++◌, append_assoc, append-nil}
+use mathlib.Core.Path.{◌≡◌, refl, sym}
+use mathlib.Core.Bool.{true, false}
+use mathlib.Core.List.{List, [], ◌∷◌, ◌++◌}
 use Prim.Native.Nat.{ℕ, ◌+◌, ◌*◌, ◌-◌, ◌≤◌, ◌<◌}
 use native.Mathlib.Nat.{mul-le-mul_right, zero-add}
 use native.Mathlib.Omega.{arith}
-use lib.ListN.{length, get_or, take, drop, set, replicate, length-replicate, length-take, length-drop, drop_of_length-le}
-use lib.Seq.{drop-drop, take_all}
-use borrow.Author.Tests.{lt-ltb, le-ltb}
+use lib.ListN.{length, get_or, take, drop, set, replicate, length-replicate, length-take, length-drop}
+use lib.Seq.{take_all, length-take-le}
 use borrow.Rule.Slice.PartMut.{put_mid}
 use Rattle.lists.specs.Lists.{written, without}
 use Rattle.laws.specs.Splice.{removed}
 use Rattle.laws.proofs.WrittenLaws.{written_nil, get_or_before, mid_written}
 use Rattle.laws.proofs.SpliceLaws.{written_removed}
-use Rattle.laws.proofs.EntryLaws.{with_append, with_remove, with_replace, with_none}
+use Rattle.laws.proofs.EntryLaws.{with_append, with_remove, with_none}
 use Rattle.query.specs.Encoding.{counts_in}
-use Rattle.rules.specs.Answers.{Entry, length_in, is_count, list_in, key_place, filed, is_long}
+use Rattle.rules.specs.Answers.{Entry, length_in, is_count, list_in, is_long}
 use Rattle.lists.specs.Lists.{header}
-use Rattle.query.specs.Shape.{shape_of, max_columns}
-use Rattle.rules.specs.Layout.{max_answers, max_list, answer_count_offset, length_offset, list_offset, list_room, entry_width}
+use Rattle.query.specs.Shape.{max_columns}
+use Rattle.rules.specs.Layout.{max_list, answer_count_offset, length_offset, list_room, entry_width, tray_least}
 use Rattle.rules.specs.Memory.{current, answers_in, with_answers}
 use Rattle.rules.proofs.ClientLaws.{list_short}
 use Rattle.answers.specs.AnswerContracts.{Fit, Gave}
-use Rattle.answers.proofs.AnswerScan.{count_is, counts_first}
+use Rattle.answers.proofs.AnswerScan.{counts_first}
 use Rattle.answers.proofs.AnswerEntries.{room}
 
 module _ (s : List ℕ) (fit : Fit s) where
@@ -65,6 +64,15 @@ list_fits e k h c g = let a : get_or e length_offset 0 * k ≤ max_list * k = mu
 -- .. where the test of its first number has said that it is no count
 pub plain_fits : (e : Entry) (k : ℕ) → ((vs : List ℕ) → false ≡ counts_in (get_or e 0 0 ∷ vs)) → is_long e ≡ false → k ≤ max_columns → get_or e length_offset 0 * k ≤ list_room
 plain_fits e k h l m = list_fits e k l (sym (counts_first e false h)) m
+
+-- the parts that are copied, from the entry to the tray
+pub tray_part : (e : Entry) (k : ℕ) (tray : List ℕ) → ((vs : List ℕ) → false ≡ counts_in (get_or e 0 0 ∷ vs)) → is_long e ≡ false → k ≤ max_columns → tray_least ≤ length tray
+    → get_or e length_offset 0 * k ≡ length (take (get_or e length_offset 0 * k) tray)
+tray_part e k tray h l m w = sym (length-take-le (get_or e length_offset 0 * k) tray (omega (arith, plain_fits e k h l m)))
+
+pub list_part : (e : Entry) (k : ℕ) → ((vs : List ℕ) → false ≡ counts_in (get_or e 0 0 ∷ vs)) → is_long e ≡ false → k ≤ max_columns → length e ≡ entry_width
+    → get_or e length_offset 0 * k ≡ length (take (get_or e length_offset 0 * k) (take (length e - 24) (drop 24 e)))
+list_part e k h l m w = simp (length-take, length-drop) (omega (arith, plain_fits e k h l m))
 
 pub gave : (k : ℕ) (e tray part : List ℕ) → ((vs : List ℕ) → false ≡ counts_in (get_or e 0 0 ∷ vs)) → is_long e ≡ false → k ≤ max_columns → length e ≡ entry_width
     → part ≡ take (get_or e length_offset 0 * k) (take (length e - 24) (drop 24 e)) → Gave k e tray (get_or e length_offset 0) (part ++ drop (get_or e length_offset 0 * k) tray)

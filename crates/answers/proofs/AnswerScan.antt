@@ -1,15 +1,15 @@
 -- Laws of one filed answer, of where it stands in the memory, and of a search of them all, in the terms of the code that makes it.
 -- Leans on the rules' definitions, on their laws of the memories and on laws. Assumes nothing.
 use mathlib.Core.Path.{◌≡◌, refl, sym, ap, ◌∙◌}
-use mathlib.Core.Bool.{Bool, true, false, cond, and-true}
+use mathlib.Core.Bool.{Bool, true, false, cond, not, and-true}
 use mathlib.Core.List.{List, [], ◌∷◌}
 use Prim.Native.Nat.{ℕ, suc, ◌+◌, ◌*◌, ◌-◌, ◌≤◌, ◌<◌}
 use native.Mathlib.Omega.{arith}
 use lib.Dec.{ltb, leb}
 use lib.ListN.{length, get_or, take, drop, length-take, length-drop}
 use lib.Seq.{get_or-take, get_or-drop}
-use borrow.Author.Tests.{le-leb, lt-leb, lt-ltb, le-ltb, ltb-true, ltb-false}
-use Rattle.std.specs.Prelude.{Option, Some, None}
+use borrow.Author.Tests.{lt-ltb, le-ltb, ltb-true, ltb-false}
+use Rattle.std.specs.Prelude.{Some, None}
 use Rattle.std.specs.List.{list_all, list_any, zip, position_or_len}
 use Rattle.std.proofs.lemmas.Option.{cond_some, none-some}
 use Rattle.lists.specs.Lists.{same, flat, place, all_below, entries_in}
@@ -45,13 +45,15 @@ pub short_not : (e : Entry) → length_in e ≤ max_list → is_long e ≡ false
 unfolding length_in
 short_not e h = long_not e h
 
-pub long_count : (e : Entry) → is_count e ≡ true → is_long e ≡ ltb max_records (get_or e length_offset 0)
-unfolding is_long most_in length_in
-long_count e c = rw c
+-- .. as the code tests it: c is what the test of its first number says
+module _ (e : Entry) (c : Bool) (h : (vs : List ℕ) → c ≡ counts_in (get_or e 0 0 ∷ vs)) where
+  pub long_list : c ≡ false → max_list < get_or e length_offset 0 → not c ≡ is_long e
+  unfolding is_long most_in length_in
+  long_list f l = rw (← counts_first e c h, f, lt-ltb max_list (get_or e length_offset 0) l)
 
-pub long_list : (e : Entry) → is_count e ≡ false → max_list < get_or e length_offset 0 → is_long e ≡ true
-unfolding is_long most_in length_in
-long_list e c h = rw c (lt-ltb max_list (get_or e length_offset 0) h)
+  pub long_count : c ≡ true → ltb max_records (get_or e length_offset 0) ≡ is_long e
+  unfolding is_long most_in length_in
+  long_count f = rw (← counts_first e c h, f)
 
 -- ---- the revisions
 -- the first n of them, as the code lends them

@@ -41,6 +41,7 @@ fn entries(answers: &[u32]) -> ChunksExact<'_, u32>
 }
 
 // Entry i.
+#[tactic(auto, using(crate::proofs::AnswerScan::entry_is))]
 fn entry(answers: &[u32], i: usize) -> &[u32]
     requires { Fit answers.now × (i < get_or answers.now answer_count_offset 0) }
     ensures { result.now ≡ get_or (answers_in current answers.now) i [] }
@@ -49,6 +50,7 @@ fn entry(answers: &[u32], i: usize) -> &[u32]
 }
 
 // Whether the entry e answers x's query, with what x wants and its range: the key has all three.
+#[tactic(auto, using(laws::proofs::WalkLaws::same_is), unfolding(rules::specs::Answers::has_key_of, rules::specs::Answers::key_in))]
 fn has_key(e: &[u32], x: &[u32]) -> bool
     requires { (key_width ≤ length e.now) × (key_width ≤ length x.now) }
     ensures { result ≡ has_key_of x.now e.now }
@@ -67,6 +69,7 @@ fn is_recent(e: &[u32], x: &[u32], n: usize) -> bool
 }
 
 // Whether e may be answered with to the client whose own entry x is. Few entries have the key, so it is compared first.
+#[tactic(auto, unfolding(rules::specs::Answers::serves))]
 fn may_serve(e: &[u32], x: &[u32], n: usize) -> bool
     requires { (length e.now ≡ entry_width) × ((length x.now ≡ entry_width) × (n ≤ look_room)) }
     ensures { result ≡ serves n x.now e.now }
@@ -85,6 +88,7 @@ pub fn fetch(answers: &[u32], entry: &[u32], n: usize) -> Option<usize>
 
 // Whether the entry e says more than it may: a count more than a table holds, a list more than are listed. Nearly all say at most 32, which both
 // may: only above that the key is looked at.
+#[tactic(auto, using(crate::proofs::AnswerScan::long_not, crate::proofs::AnswerScan::long_count, crate::proofs::AnswerScan::long_list))]
 fn is_long(e: &[u32]) -> bool
     requires { length e.now ≡ entry_width }
     ensures { result ≡ is_long e.now }
@@ -102,6 +106,7 @@ pub fn some_long(answers: &[u32]) -> bool
 }
 
 // Puts entry in behind the last.
+#[tactic(auto, using(crate::proofs::AnswerChanges::count_written, crate::proofs::AnswerChanges::appended))]
 fn append(answers: &mut [u32], entry: &[u32])
     requires { Fit answers.old × ((length entry.now ≡ entry_width) × (get_or answers.old answer_count_offset 0 < max_answers)) }
     ensures { answers.new ≡ with_answers current answers.old (answers_in current answers.old ++ (entry.now ∷ [])) }
@@ -135,6 +140,7 @@ pub fn file(answers: &mut [u32], entry: &[u32])
 }
 
 // Takes all entries out. Only what they used is cleared.
+#[tactic(auto, using(crate::proofs::AnswerChanges::emptied))]
 pub fn empty(answers: &mut [u32])
     requires { Fit answers.old }
     ensures { answers.new ≡ with_answers current answers.old [] }
@@ -146,7 +152,7 @@ pub fn empty(answers: &mut [u32])
 
 // Copies an entry's list, k numbers for each record, to the tray's start, and gives the number of its records. Of a count nothing is copied.
 // The entry is a filed answer or a client's own.
-#[tactic(auto, using(crate::proofs::AnswerChanges::plain_fits))]
+#[tactic(auto, using(crate::proofs::AnswerChanges::plain_fits, crate::proofs::AnswerChanges::tray_part, crate::proofs::AnswerChanges::list_part))]
 pub fn give_list(entry: &[u32], k: usize, tray: &mut [u32]) -> u32
     requires { (length entry.now ≡ entry_width) × ((is_long entry.now ≡ false) × ((k ≤ max_columns) × (tray_least ≤ length tray.old))) }
     ensures { Gave k entry.now tray.old result tray.new }

@@ -1,5 +1,5 @@
 -- `answers::fetch` meets its contract: the first of the filed answers that serves. Assumes nothing.
-use Rattle.std.proofs.Common.{rules, tests, ◌∙◌, arith}
+use Rattle.std.proofs.Common.{rules, tests, ◌∙◌}
 use Rattle.std.proofs.lemmas.Iterator.Search.{position_from_yields_List}
 use Rattle.rules.specs.Answers.{serves}
 use Rattle.answers.proofs.AnswerScan.{fetched_is}
