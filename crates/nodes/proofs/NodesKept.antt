@@ -11,7 +11,7 @@ use Rattle.rules.specs.Nodes.{Words, Store, store, evict_node, added, ensured, a
 use Rattle.query.specs.Encoding.{label_width}
 use Rattle.rules.specs.Layout.{max_nodes, node_count_offset}
 use Rattle.rules.specs.Memory.{current, store_in, with_store}
-use Rattle.nodes.specs.NodeContracts.{Fit, tried, looked, retired_at}
+use Rattle.nodes.specs.NodeContracts.{Fit, telling, tried, looked, retired_at}
 use Rattle.rules.proofs.NodeSizes.{AllSized, sized_none, sized_evict, sized_added, sized_ensured, sized_announced, sized_retired}
 use Rattle.nodes.proofs.NodeStores.{Keeps, count_nodes, sized_in, keeps_store}
 use Rattle.nodes.proofs.NodeSpots.{sized_retired_at}
@@ -36,22 +36,17 @@ module _ (s : List ℕ) (f : Fit s) where
   keeps_empty = keeps_store s (store 1 []) f (sized_none 1)
 
   -- ---- those that may find none
-  keeps_tried : (o : Option Store) → AllSized o → Keeps s (tried s o).mem
-  unfolding tried
-  keeps_tried none z = keeps_self
-  keeps_tried (some t) z = keeps_store s t f z
+  module _ {A : Type 0} (g : Store → A) where
+    keeps_told : (o : Option Store) → AllSized o → Keeps s (telling g s o).mem
+    unfolding telling
+    keeps_told none z = keeps_self
+    keeps_told (some t) z = keeps_store s t f z
 
   pub keeps_announced : (p : Words) → length p ≡ label_width → Keeps s (tried s (announced p (store_in current s))).mem
-  keeps_announced p h = keeps_tried (announced p (store_in current s)) (sized_announced p (store_in current s) h (sized_in s f))
+  keeps_announced p h = keeps_told _ (announced p (store_in current s)) (sized_announced p (store_in current s) h (sized_in s f))
 
   pub keeps_retired : (lift : Bool) (ps : List Words) → Keeps s (tried s (retired current lift ps (store_in current s))).mem
-  keeps_retired lift ps = keeps_tried (retired current lift ps (store_in current s)) (sized_retired current lift ps (store_in current s) (sized_in s f))
-
-  looked_mem : (p : Words) (o : Option Store) → (looked p s o).mem ≡ (tried s o).mem
-  unfolding looked tried
-  looked_mem p none = refl
-  looked_mem p (some t) = refl
+  keeps_retired lift ps = keeps_told _ (retired current lift ps (store_in current s)) (sized_retired current lift ps (store_in current s) (sized_in s f))
 
   pub keeps_looked : (p : Words) → length p ≡ label_width → Keeps s (looked p s (ensured p (store_in current s))).mem
-  keeps_looked p h =
-      rw (looked_mem p (ensured p (store_in current s))) (keeps_tried (ensured p (store_in current s)) (sized_ensured p (store_in current s) h (sized_in s f)))
+  keeps_looked p h = keeps_told _ (ensured p (store_in current s)) (sized_ensured p (store_in current s) h (sized_in s f))
