@@ -52,10 +52,6 @@ module _ (s : List ℕ) where
   unfolding store_in
   node_word i j h k = entry_word 1 8 s i j h k
 
-  pub node_at_law : (i : ℕ) → i < get_or s node_count_offset 0 → get_or (store_in current s).nodes i [] ≡ take 8 (drop (header + i * node_width) s)
-  unfolding store_in
-  node_at_law i h = entry_at 1 8 s i h
-
   pub sized_in : Fit s → Sized (store_in current s)
   sized_in f = rules.sized_in current s f.long f.few
 

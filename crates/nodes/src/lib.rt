@@ -15,13 +15,13 @@ ghost use Rattle.nodes.specs.NodeContracts.{Fit, attempt, tried, looked, placed,
 use hall::{Hall, Refusal};
 
 // What a look saw of a node: its revision and its pending writes.
-#[derive(Clone, Copy, PartialEq, Eq)]
+#[derive(Clone, Copy, Debug, PartialEq, Eq)]
 pub struct Sight {
     pub revision: u32,
     pub pending: u32,
 }
 
-// Where node i begins; the end of i nodes.
+// Where node i begins, and where i nodes end.
 fn start_of(i: usize) -> usize
     requires { i ≤ max_nodes }
     ensures { result ≡ header + i * node_width }

@@ -9,7 +9,7 @@ returns-in_err-i c = announce_stuck _ _ _ _ c.ensure.ensures.left _ c.in_err-i.w
 pub returns-then-nodes-at-ge-PENDING : goal.returns-then-nodes-at-ge-PENDING
 returns-then-nodes-at-ge-PENDING c =
     let there = stands _ _ _ _ c.ensure.ensures.left _ c.in_ok-i.was c.requires.0 c.requires.1 in
-    announce_full _ _ _ _ _ there c.start_of-at.ensures c.requires.0 c.if-nodes-at-ge-PENDING.true
+    announce_full _ _ _ _ _ there c.start_of-at.ensures c.requires.0 (search rules)
 
 pub returns : goal.returns
 returns c =
