@@ -1,18 +1,20 @@
 -- Laws of the floor and the nodes as the nodes memory holds them: what is read, and what another floor and other nodes leave there, in the terms
 -- of the numbers that are stored. Leans on the rules' definitions, on their laws of the memories and on the laws of entries. Assumes nothing.
 use mathlib.Core.Path.{◌≡◌, refl, sym, ap, ◌∙◌}
-use mathlib.Core.List.{List, [], ◌∷◌, ◌++◌, append_assoc, append-nil}
+use mathlib.Core.List.{List, [], ◌∷◌, ◌++◌}
 use Prim.Native.Nat.{ℕ, zero, suc, ◌+◌, ◌*◌, ◌-◌, ◌≤◌, ◌<◌, max}
 use native.Mathlib.Omega.{arith}
-use lib.ListN.{length, get_or, take, drop, set, replicate, length-take, length-replicate, drop_of_length-le}
-use lib.Seq.{get_or-set_other, set-get_or, set-set, set_comm, drop-drop, ext_get_or}
+use lib.ListN.{length, get_or, take, drop, set, replicate, length-drop, length-replicate}
+use lib.Seq.{get_or-set_other, set-get_or, set-set, set_comm, length-take-le, ext_get_or}
 use borrow.Rule.Slice.PartMut.{put_mid}
+use Rattle.std.proofs.lemmas.List.{set-append_right}
 use Rattle.lists.specs.Lists.{written, flat, with_entries}
 use Rattle.laws.specs.Splice.{removed}
-use Rattle.laws.proofs.WrittenLaws.{set_before, get_or_before}
+use Rattle.laws.proofs.WrittenLaws.{set_before, get_or_before, mid_written}
 use Rattle.laws.proofs.EntryLaws.{entry_at, entry_word, with_append, with_remove, with_word, with_self, with_none, with_with, length_with}
 use Rattle.rules.specs.Nodes.{Words, Node, Store, store, revision, with_pending, with_revision, evict_node, new_node, added}
 use Rattle.rules.specs.Memory.{current, store_in, with_store}
+use Rattle.rules.proofs.NodeLaws.{new_wide}
 use Rattle.rules.proofs.NodeSizes.{Sized}
 use Rattle.rules.proofs.MemoryLaws as rules
 use Rattle.nodes.specs.NodeContracts.{Fit, node_at, with_node_at}
@@ -49,10 +51,6 @@ module _ (s : List ℕ) where
   pub node_word : (i j : ℕ) → i < get_or s node_count_offset 0 → j < 8 → get_or (get_or (store_in current s).nodes i []) j 0 ≡ get_or s (header + i * node_width + j) 0
   unfolding store_in
   node_word i j h k = entry_word 1 8 s i j h k
-
-  pub node_at_law : (i : ℕ) → i < get_or s node_count_offset 0 → get_or (store_in current s).nodes i [] ≡ take 8 (drop (header + i * node_width) s)
-  unfolding store_in
-  node_at_law i h = entry_at 1 8 s i h
 
   pub sized_in : Fit s → Sized (store_in current s)
   sized_in f = rules.sized_in current s f.long f.few
@@ -119,30 +117,36 @@ module _ (s : List ℕ) (f : Fit s) where
   store_revision i x h = store_word i revision_offset x h (omega arith)
 
   -- node i taken out
-  pub store_evict : (u : List ℕ) (i x : ℕ) → u ≡ removed s (header + i * node_width) 8 (8 + get_or s node_count_offset 0 * 8) → x ≡ max (get_or s floor_offset 0) (get_or s (header + i * node_width + revision_offset) 0) → i < get_or s node_count_offset 0
+  pub store_evict : (u : List ℕ) (i at e x : ℕ) → at ≡ header + i * node_width → e ≡ header + get_or s node_count_offset 0 * node_width → u ≡ removed s at node_width e
+      → x ≡ max (get_or s floor_offset 0) (get_or s (at + revision_offset) 0) → i < get_or s node_count_offset 0
       → set (set u 1 (get_or s node_count_offset 0 - 1)) 0 x ≡ with_store current s (evict_node i (store_in current s))
   unfolding with_store store_in evict_node revision
-  store_evict u i x a b h = rw (a, b, with_remove 1 8 s (omega arith) i h, entry_word 1 8 s i 6 h (omega arith))
+  store_evict u i at e x b c a d h =
+      rw (a, d, b, c, with_remove 1 8 s (omega arith) i h, entry_word 1 8 s i 6 h (omega arith))
 
   -- the label's node put in last
-  pub store_added : (u : List ℕ) (p : Words) → u ≡ written s (8 + get_or s node_count_offset 0 * 8) (get_or p 0 0 ∷ get_or p 1 0 ∷ get_or p 2 0 ∷ get_or p 3 0 ∷ get_or p 4 0 ∷ 0 ∷ get_or s floor_offset 0 ∷ 0 ∷ [])
-      → length p ≡ label_width → get_or s node_count_offset 0 < max_nodes → set u 1 (get_or s node_count_offset 0 + 1) ≡ with_store current s (added p (store_in current s))
-  unfolding with_store store_in added new_node
-  store_added u p a l h =
-      let r : List ℕ = get_or p 0 0 ∷ get_or p 1 0 ∷ get_or p 2 0 ∷ get_or p 3 0 ∷ get_or p 4 0 ∷ 0 ∷ get_or s floor_offset 0 ∷ 0 ∷ [] in
-      let e : p ++ (0 ∷ get_or s floor_offset 0 ∷ 0 ∷ []) ≡ r = ap (λ (x : Words). x ++ (0 ∷ get_or s floor_offset 0 ∷ 0 ∷ [])) (five p l) in
-      let w : List ℕ = written s (8 + get_or s node_count_offset 0 * 8) r in
-      let k : get_or w 0 0 ≡ get_or s floor_offset 0 = get_or_before s (8 + get_or s node_count_offset 0 * 8) r (omega arith) 0 0 (omega arith) in
-      rw (a, e, with_append 1 8 s (omega arith) r)
+  pub store_added : (p : Words) (at : ℕ) (v : List ℕ) → length p ≡ label_width → at ≡ header + get_or s node_count_offset 0 * node_width → v ≡ new_node p (get_or s floor_offset 0)
+      → get_or s node_count_offset 0 < max_nodes → set (put_mid at (at + node_width - at) s v) 1 (get_or s node_count_offset 0 + 1) ≡ with_store current s (added p (store_in current s))
+  unfolding with_store store_in added
+  store_added p at v l b a h =
+      let r : List ℕ = new_node p (get_or s floor_offset 0) in
+      let m : length v ≡ at + node_width - at = ap length a ∙ new_wide p (get_or s floor_offset 0) l ∙ omega arith in
+      let w : List ℕ = written s (header + get_or s node_count_offset 0 * node_width) r in
+      let k : get_or w 0 0 ≡ get_or s floor_offset 0 = get_or_before s (header + get_or s node_count_offset 0 * node_width) r (omega arith) 0 0 (omega arith) in
+      rw (mid_written s at (at + node_width - at) v m, a, b, with_append 1 8 s (omega arith) r)
       (sym (ap (set (set w 1 (get_or s node_count_offset 0 + 1)) 0) (sym k) ∙ keep_floor w 1 (get_or s node_count_offset 0 + 1) (λ z. omega arith)))
 
   -- no node left
-  pub store_none : (t : List ℕ) → t ≡ replicate (get_or s node_count_offset 0 * 8) 0 ++ drop (get_or s node_count_offset 0 * 8) (take (8 + get_or s node_count_offset 0 * 8 - 8) (drop 8 s))
-      → set (set (put_mid 8 (8 + get_or s node_count_offset 0 * 8 - 8) s t) 1 0) 0 1 ≡ with_store current s (store 1 [])
-  unfolding with_store written
-  store_none t a =
-      let n : ℕ = get_or s node_count_offset 0 * 8 in
-      let m : 8 + n - 8 ≡ n = omega arith in
-      let l : length (take n (drop 8 s)) ≤ n = rw length-take (omega arith) in
-      let e : drop n (take n (drop 8 s)) ≡ [] = drop_of_length-le (take n (drop 8 s)) l in
-      rw (a, m, e, with_none 1 8 s, append-nil, drop-drop, length-replicate, append_assoc)
+  pub store_none : (e : ℕ) (v : List ℕ) → e ≡ header + get_or s node_count_offset 0 * node_width → v ≡ replicate (length (take (e - header) (drop header s))) 0
+      → set (set (put_mid header (e - header) s v) 1 0) 0 1 ≡ with_store current s (store 1 [])
+  unfolding with_store
+  store_none e v b a =
+      let n : ℕ = get_or s node_count_offset 0 * node_width in
+      let m : e - header ≡ n = omega arith in
+      let l : length (take n (drop header s)) ≡ n = length-take-le n (drop header s) (rw length-drop (omega arith)) in
+      rw (a, m, l, mid_written s header n (replicate n 0) (length-replicate n 0), with_none 1 8 s)
+
+-- a label's node as it is made
+pub node_made : (p q : Words) (f : ℕ) → length p ≡ label_width → q ≡ p → set (put_mid 0 5 (replicate 8 0) q) 6 f ≡ new_node p f
+unfolding new_node
+node_made p q f h e = rw e (set-append_right p (0 ∷ 0 ∷ 0 ∷ []) 5 6 f h (omega arith))

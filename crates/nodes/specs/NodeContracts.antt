@@ -1,12 +1,11 @@
 -- What the functions over the nodes memory require of it and leave in it. Leans on the rules' Nodes and Memory. Definitions only. Assumes nothing.
-use Rattle.std.specs.Prelude.{Bool, true, false, cond, List, [], ℕ, ◌+◌, ◌-◌, ◌≤◌, length, get_or, set}
+use Rattle.std.specs.Prelude.{Bool, cond, List, [], ℕ, ◌+◌, ◌-◌, ◌≤◌, length, get_or, set, Result, Ok, Err}
 use Rattle.std.proofs.Math.Option.{Option, none, some}
 use Rattle.rules.specs.Nodes.{Words, Node, Store, store, pending, revision, with_pending, with_revision, node_place, node_of, may_retire}
 use Rattle.rules.specs.Memory.{current, with_store}
+use Rattle.hall.specs.declared.refusal.Refusal.{Refusal}
+use Rattle.hall.specs.declared.refusal.Refusal.TheVariants.{Unsound}
 use Rattle.nodes.specs.declared.Sight.{Sight}
-use Rattle.nodes.specs.declared.Sight.TheVariants.{Seen, Stuck}
-use Rattle.nodes.specs.declared.Spot.{Spot}
-use Rattle.nodes.specs.declared.Spot.TheVariants.{At, Nowhere}
 use Rattle.rules.specs.Layout.{max_nodes, nodes_least, node_count_offset}
 
 -- a memory long enough, with at most as many nodes as there may be: its first 8,200 numbers hold all of them
@@ -14,45 +13,35 @@ pub record Fit (s : List ℕ) : Type 0 where
   pub long : nodes_least current ≤ length s
   pub few : get_or s node_count_offset 0 ≤ max_nodes
 
--- ---- an operation that may find no way: whether it did, and the memory it leaves; where it did not, the memory as it was
-pub record Tried : Type 0 where
-  pub ok : Bool
+-- ---- an operation that may find no way: its result, and the memory it leaves
+pub record Tried (A : Type 0) : Type 0 where
+  pub result : Result A Refusal
   pub mem : List ℕ
 
-abbrev pub attempt : Bool → List ℕ → Tried
-attempt b m = record { ok = b; mem = m }
+abbrev pub attempt : {A : Type 0} → Result A Refusal → List ℕ → Tried A
+attempt r m = record { result = r; mem = m }
 
-unfoldable pub tried : List ℕ → Option Store → Tried
-tried s none = attempt false s
-tried s (some t) = attempt true (with_store current s t)
+-- the store that it leaves, with what f tells of it; where it found none it is turned down with 3, and the memory is as it was
+unfoldable pub telling : {A : Type 0} → (Store → A) → List ℕ → Option Store → Tried A
+telling f s none = attempt (Err Unsound) s
+telling f s (some t) = attempt (Ok (f t)) (with_store current s t)
 
--- ---- a look: what it saw of the label's node
-pub record Looked : Type 0 where
-  pub sight : Sight
-  pub mem : List ℕ
+-- nothing; what was seen of the label's node; where that stands
+abbrev pub tried : List ℕ → Option Store → Tried (Unit {0})
+tried s o = telling (λ t. tt) s o
 
-abbrev pub saw : Sight → List ℕ → Looked
-saw l m = record { sight = l; mem = m }
+abbrev pub seen : Words → Store → Sight
+seen p t = record { revision = revision (node_of p t); pending = pending (node_of p t) }
 
-unfoldable pub looked : Words → List ℕ → Option Store → Looked
-looked p s none = saw Stuck s
-looked p s (some t) = saw (Seen (revision (node_of p t)) (pending (node_of p t))) (with_store current s t)
+abbrev pub looked : Words → List ℕ → Option Store → Tried Sight
+looked p s o = telling (seen p) s o
 
--- ---- the label's node made present: where it stands
-pub record Placed : Type 0 where
-  pub spot : Spot
-  pub mem : List ℕ
+abbrev pub placed : Words → List ℕ → Option Store → Tried ℕ
+placed p s o = telling (λ t. node_place p t.nodes) s o
 
-abbrev pub put : Spot → List ℕ → Placed
-put p m = record { spot = p; mem = m }
-
-unfoldable pub placed : Words → List ℕ → Option Store → Placed
-placed p s none = put Nowhere s
-placed p s (some t) = put (At (node_place p t.nodes)) (with_store current s t)
-
--- ---- the label's node where a mark can be taken off it, with a lift or without
-unfoldable pub retirable_spot : Bool → Words → Store → Spot
-retirable_spot lift p s = cond (may_retire current lift p s) (At (node_place p s.nodes)) Nowhere
+-- ---- where the label's node stands, if a mark can be taken off it, with a lift or without
+unfoldable pub retirable_place : Bool → Words → Store → Result ℕ Refusal
+retirable_place lift p s = cond (may_retire current lift p s) (Ok (node_place p s.nodes)) (Err Unsound)
 
 -- ---- one mark taken off node i: the rules' `lifted`, then `released`, with the place in place of the label
 abbrev pub node_at : ℕ → Store → Node

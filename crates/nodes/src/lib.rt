@@ -2,94 +2,87 @@
 // one scan. What they leave stands in the rules' Nodes.antt, read and written back by the rules' Memory.antt.
 #![tactic(auto)]
 
-ghost use Rattle.std.specs.Prelude.{◌≡◌, true, [], ◌+◌, ◌≤◌, ◌<◌, max, length, get_or, take, drop};
-ghost use Rattle.lists.specs.Lists.{same};
-ghost use Rattle.rules.specs.Nodes.{store, node_place, oldest_free, evict_node, added, make_room, ensured, announced};
+ghost use Rattle.std.specs.Prelude.{◌≡◌, true, [], ◌+◌, ◌*◌, ◌≤◌, ◌<◌, length, get_or, position, IfOk};
+ghost use Rattle.lists.specs.Lists.{header};
+ghost use Rattle.rules.specs.Nodes.{store, has_label, evict_node, added, make_room, ensured, announced};
 ghost use Rattle.rules.specs.Nodes.{is_free, pending, revision, is_worn};
 ghost use Rattle.query.specs.Encoding.{label_width};
 ghost use Rattle.query.specs.Shape.{Shape};
-ghost use Rattle.rules.specs.Layout.{max_nodes, max_revision, first_floor, node_count_offset};
+ghost use Rattle.rules.specs.Layout.{max_nodes, max_revision, first_floor, node_count_offset, node_width};
 ghost use Rattle.rules.specs.Memory.{current, store_in, with_store};
-ghost use Rattle.nodes.specs.NodeContracts.{Fit, attempt, tried, saw, looked, put, placed, retirable_spot, retired_at};
+ghost use Rattle.nodes.specs.NodeContracts.{Fit, attempt, tried, looked, placed, retirable_place, retired_at};
 
-use hall::Hall;
+use hall::{Hall, Refusal};
 
-// The most nodes that are kept.
-const NODES: usize = Hall::NODES as usize;
-
-// What a look saw: the node's revision and its pending writes; or that it is missing and there is no room for it.
-#[derive(Clone, Copy)]
-pub enum Sight {
-    Seen { revision: u32, pending: u32 },
-    Stuck,
+// What a look saw of a node: its revision and its pending writes.
+#[derive(Clone, Copy, Debug, PartialEq, Eq)]
+pub struct Sight {
+    pub revision: u32,
+    pub pending: u32,
 }
 
-// Where a node stands, or that there is none.
-#[derive(Clone, Copy)]
-pub enum Spot {
-    At(usize),
-    Nowhere,
-}
-
-// Whether the label's five numbers stand at `at`. Tags and first value are compared at once: many nodes agree in one of them and few in both,
-// so a branch on each would be badly predicted.
-fn has_label(nodes: &[u32], at: usize, label: &[u32]) -> bool
-    requires { (at + label_width ≤ length nodes.now) × (length label.now ≡ label_width) }
-    ensures { result ≡ same (take label_width (drop at nodes.now)) label.now }
+// Where node i begins, and where i nodes end.
+fn start_of(i: usize) -> usize
+    requires { i ≤ max_nodes }
+    ensures { result ≡ header + i * node_width }
 {
-    let first = (nodes[at] ^ label[0]) | (nodes[at + 1] ^ label[1]);
+    Hall::HEADER + i * Hall::NODE_WIDTH
+}
+
+// The nodes.
+fn nodes_in(nodes: &[u32]) -> &[[u32; Hall::NODE_WIDTH]]
+    requires { Fit nodes.now }
+    ensures nodes { result.now ≡ (store_in current nodes.now).nodes }
+    ensures count { length result.now ≡ get_or nodes.now node_count_offset 0 }
+{
+    let end = start_of(nodes[Hall::NODE_COUNT_OFFSET] as usize);
+    nodes[Hall::HEADER..end]
+        .as_chunks::<{ Hall::NODE_WIDTH }>()
+        .0
+}
+
+// Whether the node has the label. Tags and first value are compared at once: many nodes agree in one of them and few in both, so a branch on each
+// would be badly predicted.
+fn has_label(node: &[u32; Hall::NODE_WIDTH], label: &[u32]) -> bool
+    requires { length label.now ≡ label_width }
+    ensures { result ≡ has_label label.now node.now }
+{
+    let first = (node[0] ^ label[0]) | (node[1] ^ label[1]);
     if first != 0 {
         return false;
     }
-    let rest = (nodes[at + 2] ^ label[2]) | (nodes[at + 3] ^ label[3]) | (nodes[at + 4] ^ label[4]);
+    let rest = (node[2] ^ label[2]) | (node[3] ^ label[3]) | (node[4] ^ label[4]);
     rest == 0
 }
 
-// The place of the label's node, or the number of nodes where there is none.
-fn find(nodes: &[u32], label: &[u32]) -> usize
+// The place of the label's node, where it is there.
+fn find(nodes: &[u32], label: &[u32]) -> Option<usize>
     requires { Fit nodes.now × (length label.now ≡ label_width) }
-    ensures { result ≡ node_place label.now (store_in current nodes.now).nodes }
+    ensures { result ≡ position (has_label label.now) (store_in current nodes.now).nodes }
 {
-    let n = nodes[Hall::NODE_COUNT_OFFSET] as usize;
-    let mut i = 0;
-    while i < n {
-        if has_label(nodes, Hall::HEADER + i * Hall::NODE_WIDTH, label) {
-            return i;
-        }
-        i += 1;
-    }
-    i
+    nodes_in(nodes)
+        .iter()
+        .position(|node| has_label(node, label))
 }
 
 // Whether node i has no pending write.
+#[tactic(auto, unfolding(rules::specs::Nodes::is_free, rules::specs::Nodes::pending))]
 pub fn is_free(nodes: &[u32], i: usize) -> bool
     requires { Fit nodes.now × (i < get_or nodes.now node_count_offset 0) }
     ensures { result ≡ is_free (get_or (store_in current nodes.now).nodes i []) }
 {
-    nodes[Hall::HEADER + i * Hall::NODE_WIDTH + Hall::PENDING_OFFSET] == 0
+    nodes_in(nodes)[i][Hall::PENDING_OFFSET] == 0
 }
 
-// The place of the oldest node with no pending write, or the number of nodes where there is none.
-fn find_free(nodes: &[u32]) -> usize
+// The place of the oldest node with no pending write, where there is one.
+#[tactic(auto, unfolding(rules::specs::Nodes::is_free, rules::specs::Nodes::pending))]
+fn find_free(nodes: &[u32]) -> Option<usize>
     requires { Fit nodes.now }
-    ensures { result ≡ oldest_free (store_in current nodes.now).nodes }
+    ensures { result ≡ position is_free (store_in current nodes.now).nodes }
 {
-    let n = nodes[Hall::NODE_COUNT_OFFSET] as usize;
-    let mut i = 0;
-    while i < n {
-        if is_free(nodes, i) {
-            return i;
-        }
-        i += 1;
-    }
-    i
-}
-
-// The larger of a and b.
-fn larger(a: u32, b: u32) -> u32
-    ensures { result ≡ max a b }
-{
-    if a < b { b } else { a }
+    nodes_in(nodes)
+        .iter()
+        .position(|node| node[Hall::PENDING_OFFSET] == 0)
 }
 
 // Takes node i out; the floor becomes its revision if that is larger.
@@ -98,15 +91,10 @@ pub fn evict(nodes: &mut [u32], i: usize)
     ensures { nodes.new ≡ with_store current nodes.old (evict_node i (store_in current nodes.old)) }
 {
     let n = nodes[Hall::NODE_COUNT_OFFSET];
-    let at = Hall::HEADER + i * Hall::NODE_WIDTH;
     let floor = nodes[Hall::FLOOR_OFFSET];
-    let higher = larger(floor, nodes[at + Hall::REVISION_OFFSET]);
-    words::remove(
-        nodes,
-        at,
-        Hall::NODE_WIDTH,
-        Hall::HEADER + n as usize * Hall::NODE_WIDTH,
-    );
+    let at = start_of(i);
+    let higher = floor.max(nodes[at + Hall::REVISION_OFFSET]);
+    words::remove(nodes, at, Hall::NODE_WIDTH, start_of(n as usize));
     nodes[Hall::NODE_COUNT_OFFSET] = n - 1;
     nodes[Hall::FLOOR_OFFSET] = higher;
 }
@@ -116,106 +104,85 @@ fn add(nodes: &mut [u32], label: &[u32])
     requires { Fit nodes.old × ((get_or nodes.old node_count_offset 0 < max_nodes) × (length label.now ≡ label_width)) }
     ensures { nodes.new ≡ with_store current nodes.old (added label.now (store_in current nodes.old)) }
 {
+    let mut node = [0; Hall::NODE_WIDTH];
+    node[..Hall::LABEL_WIDTH].copy_from_slice(label);
+    node[Hall::REVISION_OFFSET] = nodes[Hall::FLOOR_OFFSET];
     let n = nodes[Hall::NODE_COUNT_OFFSET];
-    let floor = nodes[Hall::FLOOR_OFFSET];
-    let node = [
-        label[0], label[1], label[2], label[3], label[4], 0, floor, 0,
-    ];
-    words::write(nodes, Hall::HEADER + n as usize * Hall::NODE_WIDTH, &node);
+    let at = start_of(n as usize);
+    nodes[at..at + Hall::NODE_WIDTH].copy_from_slice(&node);
     nodes[Hall::NODE_COUNT_OFFSET] = n + 1;
 }
 
-// Makes room for one node more: where 1,024 are there, the oldest with no pending write leaves. False: there is none.
-fn make_room(nodes: &mut [u32]) -> bool
+// Makes room for one node more: where 1,024 are there, the oldest with no pending write leaves.
+fn make_room(nodes: &mut [u32]) -> Result<(), Refusal>
     requires { Fit nodes.old }
-    ensures { attempt result nodes.new ≡ tried nodes.old (make_room (store_in current nodes.old)) }
+    ensures left { attempt result nodes.new ≡ tried nodes.old (make_room (store_in current nodes.old)) }
+    ensures room { IfOk result (λ _. Fit nodes.new × (get_or nodes.new node_count_offset 0 < max_nodes)) }
 {
-    let n = nodes[Hall::NODE_COUNT_OFFSET] as usize;
-    if n < NODES {
-        return true;
+    if nodes[Hall::NODE_COUNT_OFFSET] < Hall::NODES {
+        return Ok(());
     }
-    let i = find_free(nodes);
-    if n <= i {
-        return false;
-    }
+    let i = find_free(nodes).ok_or(Refusal::Unsound)?;
     evict(nodes, i);
-    true
+    Ok(())
 }
 
-// Makes the label's node present.
-fn ensure(nodes: &mut [u32], label: &[u32]) -> Spot
+// Makes the label's node present; its place.
+fn ensure(nodes: &mut [u32], label: &[u32]) -> Result<usize, Refusal>
     requires { Fit nodes.old × (length label.now ≡ label_width) }
-    ensures { put result nodes.new ≡ placed label.now nodes.old (ensured label.now (store_in current nodes.old)) }
+    ensures left { attempt result nodes.new ≡ placed label.now nodes.old (ensured label.now (store_in current nodes.old)) }
+    ensures there { IfOk result (λ i. Fit nodes.new × (i < get_or nodes.new node_count_offset 0)) }
 {
-    let i = find(nodes, label);
-    if i < nodes[Hall::NODE_COUNT_OFFSET] as usize {
-        return Spot::At(i);
+    if let Some(i) = find(nodes, label) {
+        return Ok(i);
     }
-    if !make_room(nodes) {
-        return Spot::Nowhere;
-    }
-    let n = nodes[Hall::NODE_COUNT_OFFSET] as usize;
+    make_room(nodes)?;
+    let i = nodes[Hall::NODE_COUNT_OFFSET] as usize;
     add(nodes, label);
-    Spot::At(n)
+    Ok(i)
 }
 
 // Looks at the label's node, which is added where it is missing.
-pub fn look(nodes: &mut [u32], label: &[u32]) -> Sight
+pub fn look(nodes: &mut [u32], label: &[u32]) -> Result<Sight, Refusal>
     requires { Fit nodes.old × (length label.now ≡ label_width) }
-    ensures { saw result nodes.new ≡ looked label.now nodes.old (ensured label.now (store_in current nodes.old)) }
+    ensures { attempt result nodes.new ≡ looked label.now nodes.old (ensured label.now (store_in current nodes.old)) }
 {
-    let spot = ensure(nodes, label);
-    let Spot::At(i) = spot else {
-        return Sight::Stuck;
-    };
-    let at = Hall::HEADER + i * Hall::NODE_WIDTH;
-    let pending = nodes[at + Hall::PENDING_OFFSET];
-    let revision = nodes[at + Hall::REVISION_OFFSET];
-    Sight::Seen {
-        revision: revision,
-        pending: pending,
-    }
+    let i = ensure(nodes, label)?;
+    let node = &nodes_in(nodes)[i];
+    Ok(Sight {
+        revision: node[Hall::REVISION_OFFSET],
+        pending: node[Hall::PENDING_OFFSET],
+    })
 }
 
-// One pending write more at the label's node, which is added where it is missing. False: no room, or 12 pending already.
-pub fn announce(nodes: &mut [u32], label: &[u32]) -> bool
+// One pending write more at the label's node, which is added where it is missing; not where there is no room, or 12 are pending already.
+pub fn announce(nodes: &mut [u32], label: &[u32]) -> Result<(), Refusal>
     requires { Fit nodes.old × (length label.now ≡ label_width) }
     ensures { attempt result nodes.new ≡ tried nodes.old (announced label.now (store_in current nodes.old)) }
 {
-    let spot = ensure(nodes, label);
-    let Spot::At(i) = spot else {
-        return false;
-    };
-    let at = Hall::HEADER + i * Hall::NODE_WIDTH + Hall::PENDING_OFFSET;
-    let pending = nodes[at];
-    if Hall::PENDING <= pending {
-        return false;
+    let i = ensure(nodes, label)?;
+    let at = start_of(i) + Hall::PENDING_OFFSET;
+    if Hall::PENDING <= nodes[at] {
+        return Err(Refusal::Unsound);
     }
-    let more = pending + 1;
-    nodes[at] = more;
-    true
+    nodes[at] += 1;
+    Ok(())
 }
 
 // The place of the label's node, where it is there, has a pending write, and its revision can be lifted if it is to be.
-pub fn find_retirable(nodes: &[u32], label: &[u32], lift: bool) -> Spot
+pub fn find_retirable(nodes: &[u32], label: &[u32], lift: bool) -> Result<usize, Refusal>
     requires { Fit nodes.now × (length label.now ≡ label_width) }
-    ensures { result ≡ retirable_spot lift label.now (store_in current nodes.now) }
+    ensures { result ≡ retirable_place lift label.now (store_in current nodes.now) }
 {
-    let i = find(nodes, label);
-    if nodes[Hall::NODE_COUNT_OFFSET] as usize <= i {
-        return Spot::Nowhere;
+    let i = find(nodes, label).ok_or(Refusal::Unsound)?;
+    let node = &nodes_in(nodes)[i];
+    if node[Hall::PENDING_OFFSET] == 0 {
+        return Err(Refusal::Unsound);
     }
-    if is_free(nodes, i) {
-        return Spot::Nowhere;
+    if lift && Hall::LARGEST_REVISION <= node[Hall::REVISION_OFFSET] {
+        return Err(Refusal::Unsound);
     }
-    if !lift {
-        return Spot::At(i);
-    }
-    let at = Hall::HEADER + i * Hall::NODE_WIDTH;
-    if Hall::LARGEST_REVISION <= nodes[at + Hall::REVISION_OFFSET] {
-        return Spot::Nowhere;
-    }
-    Spot::At(i)
+    Ok(i)
 }
 
 // One pending write fewer at node i; with a lift its revision goes up by one too.
@@ -224,14 +191,10 @@ pub fn retire(nodes: &mut [u32], i: usize, lift: bool)
     requires i_bound { lift ≡ true → revision (get_or (store_in current nodes.old).nodes i []) < max_revision current }
     ensures { nodes.new ≡ with_store current nodes.old (retired_at lift i (store_in current nodes.old)) }
 {
-    let at = Hall::HEADER + i * Hall::NODE_WIDTH;
-    let pending = nodes[at + Hall::PENDING_OFFSET];
-    let revision = nodes[at + Hall::REVISION_OFFSET];
-    let fewer = pending - 1;
-    nodes[at + Hall::PENDING_OFFSET] = fewer;
+    let at = start_of(i);
+    nodes[at + Hall::PENDING_OFFSET] -= 1;
     if lift {
-        let next = revision + 1;
-        nodes[at + Hall::REVISION_OFFSET] = next;
+        nodes[at + Hall::REVISION_OFFSET] += 1;
     }
 }
 
@@ -243,15 +206,9 @@ pub fn is_worn(nodes: &[u32]) -> bool
     if Hall::WORN_ABOVE < nodes[Hall::FLOOR_OFFSET] {
         return true;
     }
-    let n = nodes[Hall::NODE_COUNT_OFFSET] as usize;
-    let mut i = 0;
-    while i < n {
-        if Hall::WORN_ABOVE < nodes[Hall::HEADER + i * Hall::NODE_WIDTH + Hall::REVISION_OFFSET] {
-            return true;
-        }
-        i += 1;
-    }
-    false
+    nodes_in(nodes)
+        .iter()
+        .any(|node| Hall::WORN_ABOVE < node[Hall::REVISION_OFFSET])
 }
 
 // Takes every node out; the floor is 1.
@@ -259,9 +216,8 @@ pub fn empty(nodes: &mut [u32])
     requires { Fit nodes.old }
     ensures { nodes.new ≡ with_store current nodes.old (store first_floor []) }
 {
-    let n = nodes[Hall::NODE_COUNT_OFFSET] as usize * Hall::NODE_WIDTH;
-    let e = Hall::HEADER + n;
-    words::clear(&mut nodes[Hall::HEADER..e], n);
+    let end = start_of(nodes[Hall::NODE_COUNT_OFFSET] as usize);
+    nodes[Hall::HEADER..end].fill(0);
     nodes[Hall::NODE_COUNT_OFFSET] = 0;
     nodes[Hall::FLOOR_OFFSET] = Hall::FIRST_FLOOR;
 }
