@@ -28,7 +28,7 @@ pub fn count_of(c: Option<Count>, out: Outcome) -> Option<Count>
     }
 }
 
-// A count of a tally: the one place that names all nine.
+// A count of a tally, at its place: to be read there, or raised.
 #[tactic(auto, unfolding(rules::specs::Tally::count_in))]
 fn count_in(t: &mut Tally, c: Count) -> &mut u32
     ensures* lent { sem 𝓛 (LendsCount t.entry c result) }
