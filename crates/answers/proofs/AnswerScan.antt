@@ -12,7 +12,7 @@ use borrow.Author.Tests.{lt-ltb, le-ltb, ltb-true, ltb-false}
 use Rattle.std.specs.Prelude.{Some, None}
 use Rattle.std.specs.List.{list_all, list_any, zip, position_or_len}
 use Rattle.std.proofs.lemmas.Option.{cond_some, none-some}
-use Rattle.lists.specs.Lists.{same, flat, place, all_below, entries_in}
+use Rattle.lists.specs.Lists.{flat, place, all_below, entries_in}
 use Rattle.laws.proofs.TestLaws.{by_test}
 use Rattle.laws.proofs.SearchLaws.{place_before}
 use Rattle.laws.proofs.RowLaws.{rows_flat}
@@ -27,10 +27,6 @@ use Rattle.rules.specs.Memory.{current, answers_in}
 use Rattle.rules.proofs.MemoryLaws.{length_answers}
 
 -- ---- one entry
-pub key_same : (e x : Entry) (b : Bool) → b ≡ same (take key_width e) (take key_width x) → b ≡ has_key_of x e
-unfolding has_key_of key_in
-key_same e x b h = h
-
 -- what it is, by its first number
 pub counts_first : (e : Entry) (b : Bool) → ((vs : List ℕ) → b ≡ counts_in (get_or e 0 0 ∷ vs)) → b ≡ is_count e
 unfolding counts_in is_count key_in

@@ -1,7 +1,6 @@
 // The filed answers, lists and counts, over their lent memory: search, file, evict, empty, and the copy of a list into the tray. The places in
 // an entry are constants of Hall (docs/LAYOUT.md). The rules stand in the crate rules.
-// The memory is a slice with the fact `Fit` in each contract: a struct around the lent slice would ask each method to say that it stays the same
-// slice, which is no shorter.
+// `Fit` stands in each contract: a struct around the lent slice would have each method say that the slice stays the same one, which is no plainer.
 #![tactic(auto)]
 
 ghost use Rattle.std.specs.Prelude.{◌≡◌, false, [], ◌∷◌, ◌++◌, ◌+◌, ◌*◌, ◌≤◌, ◌<◌, length, get_or};
