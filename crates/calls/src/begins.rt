@@ -14,6 +14,7 @@ use hall::{MemoriesMut, Refusal};
 use query::Range;
 use rules::Outcome;
 
+#[tactic(auto, using(crate::proofs::CallLaws::turned_down, crate::proofs::CallLaws::goes_on, clients::proofs::ClientChanges::begun_with_law), unfolding(rules::specs::Calls::begin_result, rules::specs::Steps::now_at))]
 fn try_begin(
     memories: &mut MemoriesMut<'_>,
     request: Request,

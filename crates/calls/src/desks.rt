@@ -13,6 +13,7 @@ use rules::Outcome;
 // A reader's kind.
 const READS: u32 = Hall::READS;
 
+#[tactic(auto, using(crate::proofs::CallLaws::step_turned_down))]
 fn try_step(
     memories: &mut MemoriesMut<'_>,
     tray: &mut [u32],
@@ -25,7 +26,15 @@ fn try_step(
     let d = client as usize;
     let table = &mut *memories.table;
     let out = if held.kind == READS {
-        reading::read_step(table, memories.nodes, memories.answers, memories.clients, tray, d, held)
+        reading::read_step(
+            table,
+            memories.nodes,
+            memories.answers,
+            memories.clients,
+            tray,
+            d,
+            held,
+        )
     } else {
         writing::write_step(table, memories.nodes, memories.clients, d, held)
     };
@@ -40,6 +49,7 @@ pub fn step(memories: &mut MemoriesMut<'_>, tray: &mut [u32], client: u32) -> Ou
     outcome_of(try_step(memories, tray, client))
 }
 
+#[tactic(auto, using(crate::proofs::CallLaws::turned_down, crate::proofs::CallLaws::goes_on), unfolding(rules::specs::Calls::abandon_result))]
 fn try_abandon(memories: &mut MemoriesMut<'_>, client: u32) -> Result<Outcome, Refusal>
     ensures leaves { result_of (outcome_of result) (lent_mut memories.new) ≡ abandon_result (lent_mut memories.old) client }
     ensures same { SamePlaces memories.old memories.new }

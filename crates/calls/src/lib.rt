@@ -59,12 +59,8 @@ pub enum Call {
 }
 
 // Makes the call. The query is read by a begin only, the tray is altered by a step only.
-pub fn run(
-    memories: &mut MemoriesMut<'_>,
-    tray: &mut [u32],
-    call: Call,
-    query: &[u32],
-) -> Outcome
+#[tactic(auto, unfolding(crate::specs::CallValues::ran, crate::specs::CallValues::with_tray, crate::specs::CallValues::call_of, crate::specs::CallValues::tray_after, rules::specs::History::call_result, rules::specs::History::untrayed))]
+pub fn run(memories: &mut MemoriesMut<'_>, tray: &mut [u32], call: Call, query: &[u32]) -> Outcome
     ensures leaves { result_with result (lent_mut memories.new) tray.new ≡ ran (lent_mut memories.old) tray.old call query.now }
     ensures same { SamePlaces memories.old memories.new }
 {

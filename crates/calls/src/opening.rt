@@ -12,6 +12,7 @@ use hall::{Hall, Memories, MemoriesMut, Refusal};
 use rules::Outcome;
 
 // Why an opening is turned down: 1 or 2.
+#[tactic(auto, unfolding(rules::specs::Refusals::open_code))]
 fn open_check(memories: Memories<'_>, k: u32) -> Result<(), Refusal>
     ensures { code_of result ≡ open_code (lent memories.entry) k }
 {
@@ -24,6 +25,7 @@ fn open_check(memories: Memories<'_>, k: u32) -> Result<(), Refusal>
     Ok(())
 }
 
+#[tactic(auto, using(crate::proofs::CallLaws::turned_down, crate::proofs::CallLaws::goes_on, rules::proofs::PassedChecks::open_passed), unfolding(rules::specs::Calls::open_result, rules::specs::Memory::opened, rules::specs::Memory::told))]
 fn try_open(memories: &mut MemoriesMut<'_>, k: u32) -> Result<Outcome, Refusal>
     ensures leaves { result_of (outcome_of result) (lent_mut memories.new) ≡ open_result (lent_mut memories.old) k }
     ensures same { SamePlaces memories.old memories.new }

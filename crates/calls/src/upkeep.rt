@@ -13,6 +13,7 @@ use rules::Outcome;
 
 // Takes out what stands at a place: a filed answer; or a node that has no pending write, and the floor does not fall below its revision. The
 // rest close up.
+#[tactic(auto, using(crate::proofs::CallLaws::turned_down, crate::proofs::CallLaws::goes_on), unfolding(checks::specs::CheckContracts::evict_code, crate::specs::CallContracts::evict_result, rules::specs::Calls::evict_answer_result, rules::specs::Calls::evict_node_result, rules::specs::Steps::store_back))]
 fn try_evict(memories: &mut MemoriesMut<'_>, kept: Kept, place: u32) -> Result<Outcome, Refusal>
     ensures leaves { result_of (outcome_of result) (lent_mut memories.new) ≡ evict_result (lent_mut memories.old) kept place }
     ensures same { SamePlaces memories.old memories.new }
@@ -25,6 +26,7 @@ fn try_evict(memories: &mut MemoriesMut<'_>, kept: Kept, place: u32) -> Result<O
     Ok(Outcome::Accepted)
 }
 
+#[tactic(auto, unfolding(crate::specs::CallContracts::evict_result))]
 pub fn evict_answer(memories: &mut MemoriesMut<'_>, place: u32) -> Outcome
     ensures leaves { result_of result (lent_mut memories.new) ≡ evict_answer_result (lent_mut memories.old) place }
     ensures same { SamePlaces memories.old memories.new }
@@ -32,6 +34,7 @@ pub fn evict_answer(memories: &mut MemoriesMut<'_>, place: u32) -> Outcome
     outcome_of(try_evict(memories, Kept::Answer, place))
 }
 
+#[tactic(auto, unfolding(crate::specs::CallContracts::evict_result))]
 pub fn evict_node(memories: &mut MemoriesMut<'_>, place: u32) -> Outcome
     ensures leaves { result_of result (lent_mut memories.new) ≡ evict_node_result (lent_mut memories.old) place }
     ensures same { SamePlaces memories.old memories.new }
@@ -39,6 +42,7 @@ pub fn evict_node(memories: &mut MemoriesMut<'_>, place: u32) -> Outcome
     outcome_of(try_evict(memories, Kept::Node, place))
 }
 
+#[tactic(auto, using(crate::proofs::CallLaws::turned_down, crate::proofs::CallLaws::goes_on), unfolding(rules::specs::Calls::renew_result, rules::specs::Memory::renewed))]
 fn try_renew(memories: &mut MemoriesMut<'_>) -> Result<Outcome, Refusal>
     ensures leaves { result_of (outcome_of result) (lent_mut memories.new) ≡ renew_result (lent_mut memories.old) }
     ensures same { SamePlaces memories.old memories.new }

@@ -59,6 +59,6 @@ abbrev pub node_code : List ℕ → ℕ → ℕ
 node_code s i =
     refuse (leb (get_or s node_count_offset 0) i) refused_no_entry (refuse (not (is_free (get_or (store_in current s).nodes i []))) refused_pending 0)
 
-abbrev pub evict_code : Mem → Kept → ℕ → ℕ
+unfoldable pub evict_code : Mem → Kept → ℕ → ℕ
 evict_code m Answer i = evict_answer_code m i
 evict_code m Node i = evict_node_code m i

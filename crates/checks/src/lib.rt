@@ -318,7 +318,7 @@ fn node_check(nodes: &[u32], place: u32) -> Result<(), Refusal>
     Ok(())
 }
 
-#[tactic(auto, using(nodes::proofs::NodeScans::is_free_pending), unfolding(rules::specs::Refusals::evict_answer_code, rules::specs::Refusals::evict_node_code))]
+#[tactic(auto, using(nodes::proofs::NodeScans::is_free_pending), unfolding(crate::specs::CheckContracts::evict_code, rules::specs::Refusals::evict_answer_code, rules::specs::Refusals::evict_node_code))]
 pub fn evict_check(memories: Memories<'_>, kept: Kept, place: u32) -> Result<(), Refusal>
     ensures { code_of result ≡ evict_code (lent memories.entry) kept place }
 {
