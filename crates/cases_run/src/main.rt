@@ -8,11 +8,11 @@ use row::Row;
 use std::io;
 
 mod came; // came.rt: what comes of a row
-mod terms; // terms.rt: the columns of a query, or of a label
-mod lent; // lent.rt: the memories
+mod lent; // lent.rt: the memories that the calls are lent
 mod parts; // parts.rt: the texts
-mod play; // play.rt: a row played
-mod row; // row.rt: a row read
+mod play; // play.rt: plays a row
+mod row; // row.rt: a row, read from its text
+mod terms; // terms.rt: the columns of a query or a label
 
 // Plays a part's rows; whether all of them came as expected.
 fn run_part(rt: &impl Print, lent: &mut Lent, part: &str) -> io::Result<bool> {

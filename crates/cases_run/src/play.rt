@@ -27,10 +27,10 @@ fn call_of(begin: Begin, client: u32, range: [u32; 3]) -> Call {
 }
 
 // Makes steps up to the first that ends with anything but 0.
-fn step(lent: &mut Lent, client: u32, steps: u32, short: bool) -> Came {
+fn step(lent: &mut Lent, desk: u32, steps: u32, short: bool) -> Came {
     let mut end = End::ACCEPTED;
     for made in 1..=steps {
-        end = lent.run(Call::Step { client }, &[], short);
+        end = lent.run(Call::Step { client: desk }, &[], short);
         if end != End::ACCEPTED {
             return Came::Ended { steps: made, end };
         }
@@ -39,12 +39,12 @@ fn step(lent: &mut Lent, client: u32, steps: u32, short: bool) -> Came {
 }
 
 // A begin, and then its steps unless it is turned down.
-fn begin(lent: &mut Lent, call: Call, client: u32, query: &[u32], steps: u32) -> Came {
+fn begin(lent: &mut Lent, call: Call, desk: u32, query: &[u32], steps: u32) -> Came {
     let end = lent.run(call, query, false);
     if end != End::ACCEPTED {
         return Came::Ended { steps: 0, end };
     }
-    step(lent, client, steps, false)
+    step(lent, desk, steps, false)
 }
 
 // Inserts each value below one, up to the first insert that ends otherwise than expected.

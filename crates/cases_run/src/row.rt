@@ -49,6 +49,7 @@ pub enum Act {
     },
     // A call with no query and no steps.
     Once(Call),
+    // A number of a memory, set first, or looked at alone.
     Put {
         memory: Memory,
         place: u32,
@@ -76,22 +77,17 @@ pub const EVERY: u32 = u32::MAX;
 
 type Words<'a> = Split<'a, char>;
 
-fn number(words: &mut Words<'_>) -> Option<u32> {
-    words.next()?.parse().ok()
-}
-
 // A desk, a node, an answer or a place of a memory.
-fn place(words: &mut Words<'_>) -> Option<u32> {
-    match number(words)? {
+fn place(word: &str) -> Option<u32> {
+    match word.parse().ok()? {
         EVERY_WRITTEN => Some(EVERY),
         place => Some(place),
     }
 }
 
-// Of fill, between brackets.
-fn bracketed(words: &mut Words<'_>) -> Option<u32> {
-    let inside = words.next()?.strip_prefix('(')?.strip_suffix(')')?;
-    inside.parse().ok()
+// The value of fill's query.
+fn bracketed(word: &str) -> Option<u32> {
+    word.strip_prefix('(')?.strip_suffix(')')?.parse().ok()
 }
 
 // Behind a plus; 0 where the text ends before.
@@ -144,7 +140,7 @@ impl Act {
         if let Some(begin) = Begin::named(first) {
             return Some(Act::Begin {
                 begin,
-                desk: place(words)?,
+                desk: place(words.next()?)?,
                 query: Terms::read(words.next()?)?,
                 steps: steps(words)?,
             });
@@ -152,7 +148,7 @@ impl Act {
         if let Some(memory) = Memory::named(first) {
             return Some(Act::Look {
                 memory,
-                place: place(words)?,
+                place: place(words.next()?)?,
             });
         }
         Act::named(first, words)
@@ -161,42 +157,42 @@ impl Act {
     fn named(first: &str, words: &mut Words<'_>) -> Option<Act> {
         let act = match first {
             "open" | "Open" => Act::Open {
-                columns: number(words)?,
+                columns: words.next()?.parse().ok()?,
                 short: first == "Open",
             },
             "step" | "Step" => Act::Step {
-                desk: place(words)?,
+                desk: place(words.next()?)?,
                 steps: steps(words)?,
                 short: first == "Step",
             },
             "fill" => Act::Fill {
-                below: bracketed(words)?,
+                below: bracketed(words.next()?)?,
                 steps: steps(words)?,
             },
             "abandon" => Act::Once(Call::Abandon {
-                client: place(words)?,
+                client: place(words.next()?)?,
             }),
             "evict" => Act::Once(Call::EvictNode {
-                place: place(words)?,
+                place: place(words.next()?)?,
             }),
             "Evict" => Act::Once(Call::EvictAnswer {
-                place: place(words)?,
+                place: place(words.next()?)?,
             }),
             "new" => Act::Once(Call::Renew),
             "label" => Act::Label {
-                node: number(words)?,
+                node: words.next()?.parse().ok()?,
             },
             _ => return None,
         };
         Some(act)
     }
 
-    // From what stands behind a put, as Nodes 14 = 2.
-    fn put(place_of: &str, number: &str) -> Option<Act> {
-        let (memory, at) = place_of.split_once(' ')?;
+    // From what stands behind put, as Nodes 14, and behind the =.
+    fn put(text: &str, number: &str) -> Option<Act> {
+        let (memory, at) = text.split_once(' ')?;
         Some(Act::Put {
             memory: Memory::named(memory)?,
-            place: place(&mut at.split(' '))?,
+            place: place(at)?,
             number: number.parse().ok()?,
         })
     }
@@ -213,7 +209,7 @@ impl Row {
     pub fn read(text: &str) -> Option<Row> {
         let (done, came) = text.split_once(" = ")?;
         let act = match done.strip_prefix("put ") {
-            Some(place) => Act::put(place, came)?,
+            Some(text) => Act::put(text, came)?,
             None => Act::read(done)?,
         };
         let expected = match act {
