@@ -1,83 +1,60 @@
 -- Laws of what a change of the filed answers leaves in their memory, in the terms of the code that makes it. Leans on the rules'
 -- definitions and on laws. Assumes nothing.
-use mathlib.Core.Path.{◌≡◌, refl, sym, ap, ◌∙◌}
-use mathlib.Core.Bool.{Bool, true, false}
-use mathlib.Core.List.{List, [], ◌∷◌, ◌++◌, append_assoc, append-nil}
+use mathlib.Core.Path.{◌≡◌, refl, sym}
+use mathlib.Core.Bool.{true, false}
+use mathlib.Core.List.{List, [], ◌∷◌, ◌++◌}
 use Prim.Native.Nat.{ℕ, ◌+◌, ◌*◌, ◌-◌, ◌≤◌, ◌<◌}
-use native.Mathlib.Nat.{mul-le-mul_right}
+use native.Mathlib.Nat.{mul-le-mul_right, zero-add}
 use native.Mathlib.Omega.{arith}
-use lib.ListN.{length, get_or, take, drop, set, replicate, length-replicate, length-drop, drop_of_length-le}
-use lib.Seq.{drop-drop, take_all}
-use borrow.Author.Tests.{lt-ltb, le-ltb}
+use lib.ListN.{length, get_or, take, drop, set, replicate, length-replicate, length-take, length-drop}
+use lib.Seq.{take_all, length-take-le}
 use borrow.Rule.Slice.PartMut.{put_mid}
 use Rattle.lists.specs.Lists.{written, without}
 use Rattle.laws.specs.Splice.{removed}
-use Rattle.laws.proofs.WrittenLaws.{written_nil}
-use Rattle.laws.proofs.EntryLaws.{with_append, with_remove, with_replace, with_none}
+use Rattle.laws.proofs.WrittenLaws.{written_nil, get_or_before, mid_written}
+use Rattle.laws.proofs.SpliceLaws.{written_removed}
+use Rattle.laws.proofs.EntryLaws.{with_append, with_remove, with_none}
 use Rattle.query.specs.Encoding.{counts_in}
-use Rattle.rules.specs.Answers.{Entry, length_in, is_count, list_in, key_place, filed, is_long}
+use Rattle.rules.specs.Answers.{Entry, length_in, is_count, list_in, is_long}
 use Rattle.lists.specs.Lists.{header}
-use Rattle.query.specs.Shape.{shape_of, max_columns}
-use Rattle.rules.specs.Layout.{max_answers, max_list, answer_count_offset, length_offset, list_offset, list_room, entry_width}
+use Rattle.query.specs.Shape.{max_columns}
+use Rattle.rules.specs.Layout.{max_list, answer_count_offset, length_offset, list_room, entry_width, tray_least}
 use Rattle.rules.specs.Memory.{current, answers_in, with_answers}
 use Rattle.rules.proofs.ClientLaws.{list_short}
 use Rattle.answers.specs.AnswerContracts.{Fit, Gave}
-use Rattle.answers.proofs.AnswerScan.{count_is, counts_first, part_is}
+use Rattle.answers.proofs.AnswerScan.{counts_first}
 use Rattle.answers.proofs.AnswerEntries.{room}
 
-zeros_written : (s : List ℕ) (n : ℕ) → take 8 s ++ (replicate n 0 ++ drop (8 + n) s) ≡ written s 8 (replicate n 0)
-unfolding written
-zeros_written s n = rw (length-replicate, append_assoc)
-
 module _ (s : List ℕ) (fit : Fit s) where
-  -- ---- behind the last, out, out and behind the last, all out
-  pub appended : (t x : List ℕ) → t ≡ written s (8 + get_or s answer_count_offset 0 * entry_width) x → set t 0 (get_or s answer_count_offset 0 + 1) ≡ with_answers current s (answers_in current s ++ (x ∷ []))
-  unfolding answers_in with_answers
-  appended t x e = rw e (sym (with_append 0 entry_width s (room s fit) x))
+  -- ---- behind the last, out, all out: the memory as the code leaves it, the count stored last
+  pub count_written : (t x : List ℕ) (at : ℕ) → t ≡ written s at x → at ≡ header + get_or s answer_count_offset 0 * entry_width → get_or t answer_count_offset 0 ≡ get_or s answer_count_offset 0
+  count_written t x at e h = let r = room s fit in rw e (get_or_before s at x (omega arith) 0 0 (omega arith))
 
-  pub evicted : (t : List ℕ) (i : ℕ) → t ≡ removed s (header + i * entry_width) entry_width (8 + get_or s answer_count_offset 0 * entry_width) → i < get_or s answer_count_offset 0 → set t 0 (get_or s answer_count_offset 0 - 1) ≡ with_answers current s (without i (answers_in current s))
+  pub appended : (t x : List ℕ) (at : ℕ) → t ≡ written s at x → at ≡ header + get_or s answer_count_offset 0 * entry_width
+      → set t answer_count_offset (get_or t answer_count_offset 0 + 1) ≡ with_answers current s (answers_in current s ++ (x ∷ []))
   unfolding answers_in with_answers
-  evicted t i e h = rw e (sym (with_remove 0 entry_width s (room s fit) i h))
+  appended t x at e h = rw (count_written t x at e h, e, h) (sym (with_append 0 entry_width s (room s fit) x))
 
-  pub replaced : (t u x : List ℕ) (i : ℕ) → t ≡ removed s (header + i * entry_width) entry_width (8 + get_or s answer_count_offset 0 * entry_width) → u ≡ written t (8 + get_or s answer_count_offset 0 * entry_width - entry_width) x → i < get_or s answer_count_offset 0 → length x ≡ entry_width
-      → u ≡ with_answers current s (without i (answers_in current s) ++ (x ∷ []))
-  unfolding answers_in with_answers
-  replaced t u x i e f h k =
-      let m : 8 + get_or s answer_count_offset 0 * entry_width - entry_width ≡ 8 + (get_or s answer_count_offset 0 - 1) * entry_width = omega arith in
-      f ∙ rw (m, e) (sym (with_replace 0 entry_width s (room s fit) i x (omega arith) h k))
+  module _ (t : List ℕ) (i at end : ℕ) (e : t ≡ removed s at entry_width end) (h : at ≡ header + i * entry_width) (g : end ≡ header + get_or s answer_count_offset 0 * entry_width)
+      (k : i < get_or s answer_count_offset 0) where
+    pub count_removed : get_or t answer_count_offset 0 ≡ get_or s answer_count_offset 0
+    count_removed =
+        let r = room s fit in
+        rw (e, ← written_removed s at entry_width end (omega arith) (omega arith)) (get_or_before s at _ (omega arith) 0 0 (omega arith))
 
-  pub emptied : (t : List ℕ) → t ≡ replicate (get_or s answer_count_offset 0 * entry_width) 0 ++ drop (get_or s answer_count_offset 0 * entry_width) (take (length s - 8) (drop 8 s))
-      → set (put_mid 8 (length s - 8) s t) 0 0 ≡ with_answers current s []
+    pub evicted : set t answer_count_offset (get_or t answer_count_offset 0 - 1) ≡ with_answers current s (without i (answers_in current s))
+    unfolding answers_in with_answers
+    evicted = rw (count_removed, e, h, g) (sym (with_remove 0 entry_width s (room s fit) i k))
+
+  pub emptied : (t : List ℕ) (end : ℕ) → t ≡ replicate (length (take (end - 8) (drop 8 s))) 0 → end ≡ header + get_or s answer_count_offset 0 * entry_width
+      → set (put_mid 8 (end - 8) s t) answer_count_offset 0 ≡ with_answers current s []
   unfolding with_answers
-  emptied t e =
-      let n : ℕ = get_or s answer_count_offset 0 * entry_width in
-      let m : length (drop 8 s) ≤ length s - 8 = rw length-drop (omega arith) in
-      let a : take (length s - 8) (drop 8 s) ≡ drop 8 s = take_all (length s - 8) (drop 8 s) m in
-      let b : drop (length s - 8) (drop 8 s) ≡ [] = drop_of_length-le (drop 8 s) m in
-      let d : drop n (drop 8 s) ≡ drop (8 + n) s = drop-drop n 8 s in
-      let f : t ≡ replicate n 0 ++ drop (8 + n) s = e ∙ rw (a, d) in
-      let g : put_mid 8 (length s - 8) s t ≡ written s 8 (replicate n 0) = rw (b, f, append-nil) (zeros_written s n) in
-      ap (λ (l : List ℕ). set l 0 0) g ∙ sym (with_none 0 entry_width s)
-
--- ---- what is filed
-module _ (s : List ℕ) where
-  pub filed_same : (x : Entry) (i : ℕ) → i ≡ key_place x (answers_in current s) → i < get_or s answer_count_offset 0 → filed x (answers_in current s) ≡ without i (answers_in current s) ++ (x ∷ [])
-  unfolding filed
-  filed_same x i e h =
-      let l : length (answers_in current s) ≡ get_or s answer_count_offset 0 = count_is s in
-      rw (← e, lt-ltb i (length (answers_in current s)) (omega arith))
-
-  pub filed_new : (x : Entry) (i : ℕ) → i ≡ key_place x (answers_in current s) → get_or s answer_count_offset 0 ≤ i → get_or s answer_count_offset 0 < max_answers → filed x (answers_in current s) ≡ answers_in current s ++ (x ∷ [])
-  unfolding filed
-  filed_new x i e h k =
-      let l : length (answers_in current s) ≡ get_or s answer_count_offset 0 = count_is s in
-      rw (← e, le-ltb i (length (answers_in current s)) (omega arith), lt-ltb (length (answers_in current s)) max_answers (omega arith))
-
-  pub filed_full : (x : Entry) (i : ℕ) → i ≡ key_place x (answers_in current s) → get_or s answer_count_offset 0 ≤ i → max_answers ≤ get_or s answer_count_offset 0 → filed x (answers_in current s) ≡ without 0 (answers_in current s) ++ (x ∷ [])
-  unfolding filed
-  filed_full x i e h k =
-      let l : length (answers_in current s) ≡ get_or s answer_count_offset 0 = count_is s in
-      rw (← e, le-ltb i (length (answers_in current s)) (omega arith), le-ltb (length (answers_in current s)) max_answers (omega arith))
+  emptied t end e h =
+      let r = room s fit in
+      let n : length (take (end - 8) (drop 8 s)) ≡ end - 8 = simp (length-take, length-drop) (omega arith) in
+      let m : end - 8 ≡ get_or s answer_count_offset 0 * entry_width = omega arith in
+      let f : t ≡ replicate (get_or s answer_count_offset 0 * entry_width) 0 = rw (n, m) at e in
+      rw (f, m, mid_written s 8 (get_or s answer_count_offset 0 * entry_width) (replicate (get_or s answer_count_offset 0 * entry_width) 0) (length-replicate _ 0)) (sym (with_none 0 entry_width s))
 
 -- ---- what is given
 pub list_fits : (e : Entry) (k : ℕ) → is_long e ≡ false → is_count e ≡ false → k ≤ max_columns → get_or e length_offset 0 * k ≤ list_room
@@ -85,25 +62,30 @@ unfolding length_in
 list_fits e k h c g = let a : get_or e length_offset 0 * k ≤ max_list * k = mul-le-mul_right k (list_short e c h) in omega arith
 
 -- .. where the test of its first number has said that it is no count
-pub plain_fits : (e : Entry) (k : ℕ) (b : Bool) → ((vs : List ℕ) → b ≡ counts_in (get_or e 0 0 ∷ vs)) → b ≡ false
-    → is_long e ≡ false → k ≤ max_columns → get_or e length_offset 0 * k ≤ list_room
-plain_fits e k b h f l m = list_fits e k l (sym (counts_first e b h) ∙ f) m
+pub plain_fits : (e : Entry) (k : ℕ) → ((vs : List ℕ) → false ≡ counts_in (get_or e 0 0 ∷ vs)) → is_long e ≡ false → k ≤ max_columns → get_or e length_offset 0 * k ≤ list_room
+plain_fits e k h l m = list_fits e k l (sym (counts_first e false h)) m
 
-pub gave : (k : ℕ) (e tray after : List ℕ) → is_count e ≡ false → after ≡ written tray 0 (take (list_offset (shape_of k) + get_or e length_offset 0 * k - list_offset (shape_of k)) (drop (list_offset (shape_of k)) e)) → Gave k e tray (get_or e length_offset 0) after
-unfolding length_in list_in
-gave k e tray after c h =
-    let m : list_offset (shape_of k) + get_or e length_offset 0 * k - list_offset (shape_of k) ≡ get_or e length_offset 0 * k = omega arith in
-    record { count = refl; list = rw c (rw m at h) }
+-- the parts that are copied, from the entry to the tray
+pub tray_part : (e : Entry) (k : ℕ) (tray : List ℕ) → ((vs : List ℕ) → false ≡ counts_in (get_or e 0 0 ∷ vs)) → is_long e ≡ false → k ≤ max_columns → tray_least ≤ length tray
+    → get_or e length_offset 0 * k ≡ length (take (get_or e length_offset 0 * k) tray)
+tray_part e k tray h l m w = sym (length-take-le (get_or e length_offset 0 * k) tray (omega (arith, plain_fits e k h l m)))
+
+pub list_part : (e : Entry) (k : ℕ) → ((vs : List ℕ) → false ≡ counts_in (get_or e 0 0 ∷ vs)) → is_long e ≡ false → k ≤ max_columns → length e ≡ entry_width
+    → get_or e length_offset 0 * k ≡ length (take (get_or e length_offset 0 * k) (take (length e - 24) (drop 24 e)))
+list_part e k h l m w = simp (length-take, length-drop) (omega (arith, plain_fits e k h l m))
+
+pub gave : (k : ℕ) (e tray part : List ℕ) → ((vs : List ℕ) → false ≡ counts_in (get_or e 0 0 ∷ vs)) → is_long e ≡ false → k ≤ max_columns → length e ≡ entry_width
+    → part ≡ take (get_or e length_offset 0 * k) (take (length e - 24) (drop 24 e)) → Gave k e tray (get_or e length_offset 0) (part ++ drop (get_or e length_offset 0 * k) tray)
+unfolding length_in list_in written
+gave k e tray part c h m w f =
+    let n : ℕ = get_or e length_offset 0 * k in
+    let b : n ≤ list_room = plain_fits e k c h m in
+    let l : length (drop 24 e) ≤ length e - 24 = rw length-drop (omega arith) in
+    let g : part ≡ take n (drop 24 e) = rw (take_all (length e - 24) (drop 24 e) l) at f in
+    let q : length (take n (drop 24 e)) ≡ n = simp (length-take, length-drop) (omega arith) in
+    record { count = refl; list = rw (← counts_first e false c, g, q, zero-add) }
 
 -- a count leaves the tray
-pub gave_count : (k : ℕ) (e tray : List ℕ) → is_count e ≡ true → Gave k e tray (get_or e length_offset 0) tray
+pub gave_count : (k : ℕ) (e tray : List ℕ) → ((vs : List ℕ) → true ≡ counts_in (get_or e 0 0 ∷ vs)) → Gave k e tray (get_or e length_offset 0) tray
 unfolding length_in list_in
-gave_count k e tray c = record { count = refl; list = rw c (sym (written_nil tray 0)) }
-
--- entry i, where it stands in the memory
-pub short_part : (s : List ℕ) (i : ℕ) → is_long (get_or (answers_in current s) i []) ≡ false → i < get_or s answer_count_offset 0 → is_long (take (header + i * entry_width + entry_width - (header + i * entry_width)) (drop (header + i * entry_width) s)) ≡ false
-short_part s i h k = rw (part_is s (header + i * entry_width) i refl k) h
-
-pub gave_at : (s : List ℕ) (i k r : ℕ) (tray after : List ℕ) → Gave k (take (header + i * entry_width + entry_width - (header + i * entry_width)) (drop (header + i * entry_width) s)) tray r after → i < get_or s answer_count_offset 0
-    → Gave k (get_or (answers_in current s) i []) tray r after
-gave_at s i k r tray after h g = rw (part_is s (header + i * entry_width) i refl g) at h
+gave_count k e tray c = record { count = refl; list = rw (← counts_first e true c) (sym (written_nil tray 0)) }

@@ -1,30 +1,32 @@
--- Laws of a scan of the filed answers for the first that passes a test, in the terms of the loops that make it: `at` is where entry i starts.
+-- Laws of one filed answer, of where it stands in the memory, and of a search of them all, in the terms of the code that makes it.
 -- Leans on the rules' definitions, on their laws of the memories and on laws. Assumes nothing.
 use mathlib.Core.Path.{◌≡◌, refl, sym, ap, ◌∙◌}
-use mathlib.Core.Bool.{Bool, true, false, cond, and-true}
+use mathlib.Core.Bool.{Bool, true, false, cond, not, and-true}
 use mathlib.Core.List.{List, [], ◌∷◌}
 use Prim.Native.Nat.{ℕ, suc, ◌+◌, ◌*◌, ◌-◌, ◌≤◌, ◌<◌}
 use native.Mathlib.Omega.{arith}
-use lib.Dec.{ltb}
-use lib.ListN.{length, get_or, take, drop}
-use lib.Seq.{get_or-take}
-use borrow.Author.Tests.{le-leb, lt-leb, lt-ltb, le-ltb, ltb-false}
-use Rattle.lists.specs.Lists.{same, place, all_below}
+use lib.Dec.{ltb, leb}
+use lib.ListN.{length, get_or, take, drop, length-take, length-drop}
+use lib.Seq.{get_or-take, get_or-drop}
+use borrow.Author.Tests.{lt-ltb, le-ltb, ltb-true, ltb-false}
+use Rattle.std.specs.Prelude.{Some, None}
+use Rattle.std.specs.List.{list_all, list_any, zip, position_or_len}
+use Rattle.std.proofs.lemmas.Option.{cond_some, none-some}
+use Rattle.lists.specs.Lists.{flat, place, all_below, entries_in}
 use Rattle.laws.proofs.TestLaws.{by_test}
-use Rattle.laws.proofs.SearchLaws.{place_start, place_found, place_next, place_none, place_before}
+use Rattle.laws.proofs.SearchLaws.{place_before}
+use Rattle.laws.proofs.RowLaws.{rows_flat}
+use Rattle.laws.proofs.WalkLaws.{place_is, any_is, all_zip}
+use Rattle.answers.specs.AnswerContracts.{fetched}
 use Rattle.laws.proofs.EntryLaws.{entry_at}
 use Rattle.rules.specs.Answers.{Entry, key_in, length_in, revision_in, is_count, most_in, has_key_of, at_least, serves, fetch_place, key_place, is_long, some_long}
 use Rattle.lists.specs.Lists.{header}
 use Rattle.query.specs.Encoding.{key_width, counts_in}
-use Rattle.rules.specs.Layout.{max_records, max_list, answer_count_offset, length_offset, entry_width}
+use Rattle.rules.specs.Layout.{max_records, max_list, answer_count_offset, length_offset, look_room, entry_width}
 use Rattle.rules.specs.Memory.{current, answers_in}
 use Rattle.rules.proofs.MemoryLaws.{length_answers}
 
 -- ---- one entry
-pub key_same : (e x : Entry) (b : Bool) → b ≡ same (take key_width e) (take key_width x) → b ≡ has_key_of x e
-unfolding has_key_of key_in
-key_same e x b h = h
-
 -- what it is, by its first number
 pub counts_first : (e : Entry) (b : Bool) → ((vs : List ℕ) → b ≡ counts_in (get_or e 0 0 ∷ vs)) → b ≡ is_count e
 unfolding counts_in is_count key_in
@@ -39,32 +41,33 @@ pub short_not : (e : Entry) → length_in e ≤ max_list → is_long e ≡ false
 unfolding length_in
 short_not e h = long_not e h
 
-pub long_count : (e : Entry) → is_count e ≡ true → is_long e ≡ ltb max_records (get_or e length_offset 0)
-unfolding is_long most_in length_in
-long_count e c = rw c
+-- .. as the code tests it: c is what the test of its first number says
+module _ (e : Entry) (c : Bool) (h : (vs : List ℕ) → c ≡ counts_in (get_or e 0 0 ∷ vs)) where
+  pub long_list : c ≡ false → max_list < get_or e length_offset 0 → not c ≡ is_long e
+  unfolding is_long most_in length_in
+  long_list f l = rw (← counts_first e c h, f, lt-ltb max_list (get_or e length_offset 0) l)
 
-pub long_list : (e : Entry) → is_count e ≡ false → max_list < get_or e length_offset 0 → is_long e ≡ true
-unfolding is_long most_in length_in
-long_list e c h = rw c (lt-ltb max_list (get_or e length_offset 0) h)
+  pub long_count : c ≡ true → ltb max_records (get_or e length_offset 0) ≡ is_long e
+  unfolding is_long most_in length_in
+  long_count f = rw (← counts_first e c h, f)
 
-pub newer : (e x : Entry) (j : ℕ) → get_or x (8 + j) 0 ≤ get_or e (8 + j) 0 → at_least x e j ≡ true
+-- ---- the revisions
+-- the first n of them, as the code lends them
+abbrev pub noted : ℕ → Entry → List ℕ
+noted n e = take n (take (length e - 8) (drop 8 e))
+
+noted_at : (n : ℕ) (e : Entry) (j : ℕ) → length e ≡ entry_width → n ≤ look_room → j < n → get_or (noted n e) j 0 ≡ get_or e (8 + j) 0
+noted_at n e j h l m = get_or-take n (take (length e - 8) (drop 8 e)) j 0 m ∙ get_or-take (length e - 8) (drop 8 e) j 0 (omega arith) ∙ get_or-drop 8 e j 0
+
+length_noted : (n : ℕ) (e : Entry) → length e ≡ entry_width → n ≤ look_room → length (noted n e) ≡ n
+length_noted n e h l = simp (length-take, length-drop) (omega arith)
+
+pub recent_is : (n : ℕ) (e x : Entry) → length e ≡ entry_width → length x ≡ entry_width → n ≤ look_room
+    → list_all (λ p. leb p.1 p.0) (zip (noted n e) (noted n x)) ≡ all_below n (at_least x e)
 unfolding at_least revision_in
-newer e x j h = le-leb (get_or x (8 + j) 0) (get_or e (8 + j) 0) h
-
-pub older : (e x : Entry) (j : ℕ) → get_or e (8 + j) 0 < get_or x (8 + j) 0 → at_least x e j ≡ false
-unfolding at_least revision_in
-older e x j h = lt-leb (get_or x (8 + j) 0) (get_or e (8 + j) 0) h
-
-pub below_end : (n j : ℕ) (p : ℕ → Bool) → all_below j p ≡ true → j ≤ n → n ≤ j → true ≡ all_below n p
-below_end n j p e h k = let q : n ≡ j = omega arith in rw q (sym e)
-
-pub serves_not : (n : ℕ) (x e : Entry) → has_key_of x e ≡ false → serves n x e ≡ false
-unfolding serves
-serves_not n x e h = rw h
-
-pub serves_recent : (n : ℕ) (x e : Entry) → has_key_of x e ≡ true → serves n x e ≡ all_below n (at_least x e)
-unfolding serves
-serves_recent n x e h = rw h
+recent_is n e x h k l =
+    all_zip (λ p. leb p.1 p.0) (noted n e) (noted n x) (at_least x e) n (length_noted n e h l) (length_noted n x k l)
+    (λ j m. rw (noted_at n e j h l m, noted_at n x j k l m))
 
 -- where no revision is compared the key alone decides
 serves_key : (x e : Entry) → serves 0 x e ≡ has_key_of x e
@@ -80,48 +83,43 @@ fetch_key x (e ∷ es) = rw (serves_key x e) (ap (λ (n : ℕ). cond (has_key_of
 pub count_is : (s : List ℕ) → length (answers_in current s) ≡ get_or s answer_count_offset 0
 count_is s = length_answers current s
 
-pub part_is : (s : List ℕ) (at i : ℕ) → at ≡ header + i * entry_width → i < get_or s answer_count_offset 0 → take (at + entry_width - at) (drop at s) ≡ get_or (answers_in current s) i []
+pub entry_is : (s : List ℕ) (a b i : ℕ) → a ≡ header + i * entry_width → b ≡ header + (i + 1) * entry_width → i < get_or s answer_count_offset 0
+    → take (b - a) (drop a s) ≡ get_or (answers_in current s) i []
 unfolding answers_in
-part_is s at i h k =
-    let m : at + entry_width - at ≡ entry_width = omega arith in
+entry_is s a b i h g k =
+    let m : b - a ≡ entry_width = omega arith in
     rw (m, h) (sym (entry_at 0 entry_width s i k))
 
--- ---- the loops
-module _ (p : Entry → Bool) (s : List ℕ) where
-  pub scan_start : place p (answers_in current s) ≡ 0 + place p (drop 0 (answers_in current s))
-  scan_start = place_start p (answers_in current s)
+pub entries_are : (s : List ℕ) (e : ℕ) → e ≡ header + get_or s answer_count_offset 0 * entry_width → e ≤ length s → take (e - 8) (drop 8 s) ≡ flat (answers_in current s)
+unfolding answers_in entries_in
+entries_are s e h k =
+    let m : e - 8 ≡ get_or s answer_count_offset 0 * entry_width = omega arith in
+    rw m (sym (rows_flat entry_width (get_or s answer_count_offset 0) (drop 8 s) (rw length-drop (omega arith))))
 
-  pub scan_found : (at i : ℕ) → place p (answers_in current s) ≡ i + place p (drop i (answers_in current s)) → at ≡ header + i * entry_width → i < get_or s answer_count_offset 0
-      → p (take (at + entry_width - at) (drop at s)) ≡ true → place p (answers_in current s) ≡ i
-  scan_found at i v h k e =
-      let l : length (answers_in current s) ≡ get_or s answer_count_offset 0 = count_is s in
-      place_found p (answers_in current s) i [] v (omega arith) (ap p (sym (part_is s at i h k)) ∙ e)
+-- ---- the search for one that may be answered with
+pub fetched_is : (n : ℕ) (x : Entry) (es : List Entry)
+    → cond (ltb (position_or_len (serves n x) es) (length es)) (Some (position_or_len (serves n x) es)) None ≡ fetched n x es
+unfolding fetch_place
+fetched_is n x es = rw (place_is (serves n x) es)
 
-  pub scan_next : (at i : ℕ) → place p (answers_in current s) ≡ i + place p (drop i (answers_in current s)) → at ≡ header + i * entry_width → i < get_or s answer_count_offset 0
-      → p (take (at + entry_width - at) (drop at s)) ≡ false → place p (answers_in current s) ≡ i + 1 + place p (drop (i + 1) (answers_in current s))
-  scan_next at i v h k e =
-      let l : length (answers_in current s) ≡ get_or s answer_count_offset 0 = count_is s in
-      place_next p (answers_in current s) i [] v (omega arith) (ap p (sym (part_is s at i h k)) ∙ e)
+module _ (n : ℕ) (x : Entry) (es : List Entry) where
+  pub fetched_some : (i : ℕ) → fetched n x es ≡ Some i → (fetch_place n x es ≡ i) × (fetch_place n x es < length es)
+  fetched_some i h =
+      let q = cond_some (ltb (fetch_place n x es) (length es)) (fetch_place n x es) i h in
+      (q.1, ltb-true (fetch_place n x es) (length es) q.0)
 
-  pub scan_none : (i : ℕ) → place p (answers_in current s) ≡ i + place p (drop i (answers_in current s)) → i ≤ get_or s answer_count_offset 0 → get_or s answer_count_offset 0 ≤ i → place p (answers_in current s) ≡ get_or s answer_count_offset 0
-  scan_none i v h k =
-      let l : length (answers_in current s) ≡ get_or s answer_count_offset 0 = count_is s in
-      place_none p (answers_in current s) i v (omega arith) (omega arith) ∙ l
+  pub fetched_none : fetched n x es ≡ None → length es ≤ fetch_place n x es
+  fetched_none h =
+      by_test (ltb (fetch_place n x es) (length es))
+      (λ e. absurd (none-some (fetch_place n x es) (sym h ∙ rw e)))
+      (ltb-false (fetch_place n x es) (length es))
 
--- ---- the scan for an entry that says too much
+-- ---- the search for an entry that says too much
+pub some_long_is : (es : List Entry) → list_any is_long es ≡ some_long es
+unfolding some_long
+some_long_is es = any_is is_long es
+
 module _ (s : List ℕ) where
-  pub long_found : (i : ℕ) → place is_long (answers_in current s) ≡ i → i < get_or s answer_count_offset 0 → some_long (answers_in current s) ≡ true
-  unfolding some_long
-  long_found i e h =
-      let l : length (answers_in current s) ≡ get_or s answer_count_offset 0 = count_is s in
-      lt-ltb (place is_long (answers_in current s)) (length (answers_in current s)) (omega arith)
-
-  pub long_none : place is_long (answers_in current s) ≡ get_or s answer_count_offset 0 → some_long (answers_in current s) ≡ false
-  unfolding some_long
-  long_none e =
-      let l : length (answers_in current s) ≡ get_or s answer_count_offset 0 = count_is s in
-      le-ltb (place is_long (answers_in current s)) (length (answers_in current s)) (omega arith)
-
   -- where none says too much, entry i does not
   pub short_answer : (i : ℕ) → some_long (answers_in current s) ≡ false → i < get_or s answer_count_offset 0 → is_long (get_or (answers_in current s) i []) ≡ false
   unfolding some_long

@@ -1,197 +1,129 @@
 // The begins: what arrives is checked and taken, and the client keeps its kind and its key. Leans on checks for the refusals and the key.
-ghost use Rattle.std.specs.Prelude.{◌≡◌, true, false, ◌≤◌};
-ghost use Rattle.rules.specs.Layout.{reads, deletes};
+ghost use Rattle.std.specs.Prelude.{◌≡◌, true, false};
 ghost use Rattle.query.specs.declared.Range.TheVariants.{None, Between};
 ghost use Rattle.rules.specs.Work.{read_of, insert_of, delete_of};
-ghost use Rattle.rules.specs.Memory.{mem};
 ghost use Rattle.rules.specs.Outcome.{result_of};
 ghost use Rattle.rules.specs.Calls.{begin_result};
+ghost use Rattle.hall.specs.Memories.{lent_mut, SamePlaces};
+ghost use Rattle.hall.specs.Refusal.{outcome_of};
 ghost use Rattle.checks.specs.CheckContracts.{request_of};
 
-use hall::Hall;
+use checks::Request;
+use hall::refusal::outcome_of;
+use hall::{MemoriesMut, Refusal};
 use query::Range;
 use rules::Outcome;
 
-// Kinds: 1 read, 2 insert, 3 delete. A read says whether it wants a count, and its range.
-pub fn begin(
-    table: &mut [u32],
-    nodes: &mut [u32],
-    answers: &mut [u32],
-    clients: &mut [u32],
-    kind: u32,
-    counts: bool,
-    range: Range,
+#[tactic(auto, using(crate::proofs::CallLaws::turned_down, crate::proofs::CallLaws::goes_on, clients::proofs::ClientChanges::begun_with_law), unfolding(rules::specs::Calls::begin_result, rules::specs::Steps::now_at))]
+fn try_begin(
+    memories: &mut MemoriesMut<'_>,
+    request: Request,
     client: u32,
     asked: &[u32],
-) -> Outcome
-    requires { (reads ≤ kind) × (kind ≤ deletes) }
-    ensures { result_of result (mem table.new nodes.new answers.new clients.new) ≡ begin_result (mem table.old nodes.old answers.old clients.old) client (request_of kind counts range asked.now) }
+) -> Result<Outcome, Refusal>
+    ensures leaves { result_of (outcome_of result) (lent_mut memories.new) ≡ begin_result (lent_mut memories.old) client (request_of request asked.now) }
+    ensures same { SamePlaces memories.old memories.new }
 {
-    let checked = checks::begin_check(
-        table, nodes, answers, clients, kind, counts, range, client, asked,
-    );
-    if checked.code != 0 {
-        return Outcome::Refused(checked.code);
-    }
-    let key = checked.key;
-    clients::begin(clients, client as usize, kind, &key);
-    Outcome::Accepted
+    let key = checks::begin_check(memories.view(), request, client, asked)?;
+    let kind = request.kind();
+    clients::begin(memories.clients, client as usize, kind.number(), &key);
+    Ok(Outcome::Accepted)
 }
 
-pub fn begin_read(
-    table: &mut [u32],
-    nodes: &mut [u32],
-    answers: &mut [u32],
-    clients: &mut [u32],
+pub fn begin(
+    memories: &mut MemoriesMut<'_>,
+    request: Request,
     client: u32,
     asked: &[u32],
 ) -> Outcome
-    ensures { result_of result (mem table.new nodes.new answers.new clients.new) ≡ begin_result (mem table.old nodes.old answers.old clients.old) client (read_of false None asked.now) }
+    ensures leaves { result_of result (lent_mut memories.new) ≡ begin_result (lent_mut memories.old) client (request_of request asked.now) }
+    ensures same { SamePlaces memories.old memories.new }
 {
-    begin(
-        table,
-        nodes,
-        answers,
-        clients,
-        Hall::READS,
-        false,
-        Range::None,
-        client,
-        asked,
-    )
+    outcome_of(try_begin(memories, request, client, asked))
+}
+
+pub fn begin_read(memories: &mut MemoriesMut<'_>, client: u32, asked: &[u32]) -> Outcome
+    ensures leaves { result_of result (lent_mut memories.new) ≡ begin_result (lent_mut memories.old) client (read_of false None asked.now) }
+    ensures same { SamePlaces memories.old memories.new }
+{
+    let request = Request::Read {
+        counts: false,
+        range: Range::None,
+    };
+    begin(memories, request, client, asked)
 }
 
 // A read that wants only how many: it makes a read's steps.
-pub fn begin_count(
-    table: &mut [u32],
-    nodes: &mut [u32],
-    answers: &mut [u32],
-    clients: &mut [u32],
-    client: u32,
-    asked: &[u32],
-) -> Outcome
-    ensures { result_of result (mem table.new nodes.new answers.new clients.new) ≡ begin_result (mem table.old nodes.old answers.old clients.old) client (read_of true None asked.now) }
+pub fn begin_count(memories: &mut MemoriesMut<'_>, client: u32, asked: &[u32]) -> Outcome
+    ensures leaves { result_of result (lent_mut memories.new) ≡ begin_result (lent_mut memories.old) client (read_of true None asked.now) }
+    ensures same { SamePlaces memories.old memories.new }
 {
-    begin(
-        table,
-        nodes,
-        answers,
-        clients,
-        Hall::READS,
-        true, // wants a count
-        Range::None,
-        client,
-        asked,
-    )
+    let request = Request::Read {
+        counts: true, // wants a count
+        range: Range::None,
+    };
+    begin(memories, request, client, asked)
 }
 
 // A read of the records that fit the query and whose value in one column, which is given by its number from 0, is the lowest to the highest,
 // both included.
 pub fn begin_read_within(
-    table: &mut [u32],
-    nodes: &mut [u32],
-    answers: &mut [u32],
-    clients: &mut [u32],
+    memories: &mut MemoriesMut<'_>,
     client: u32,
     asked: &[u32],
     column: u32,
     lowest: u32,
     highest: u32,
 ) -> Outcome
-    ensures { result_of result (mem table.new nodes.new answers.new clients.new) ≡ begin_result (mem table.old nodes.old answers.old clients.old) client (read_of false (Between column lowest highest) asked.now) }
+    ensures leaves { result_of result (lent_mut memories.new) ≡ begin_result (lent_mut memories.old) client (read_of false (Between column lowest highest) asked.now) }
+    ensures same { SamePlaces memories.old memories.new }
 {
     let range = Range::Between {
         column,
         lowest,
         highest,
     };
-    begin(
-        table,
-        nodes,
-        answers,
-        clients,
-        Hall::READS,
-        false,
+    let request = Request::Read {
+        counts: false,
         range,
-        client,
-        asked,
-    )
+    };
+    begin(memories, request, client, asked)
 }
 
 // A read that wants only how many these are.
 pub fn begin_count_within(
-    table: &mut [u32],
-    nodes: &mut [u32],
-    answers: &mut [u32],
-    clients: &mut [u32],
+    memories: &mut MemoriesMut<'_>,
     client: u32,
     asked: &[u32],
     column: u32,
     lowest: u32,
     highest: u32,
 ) -> Outcome
-    ensures { result_of result (mem table.new nodes.new answers.new clients.new) ≡ begin_result (mem table.old nodes.old answers.old clients.old) client (read_of true (Between column lowest highest) asked.now) }
+    ensures leaves { result_of result (lent_mut memories.new) ≡ begin_result (lent_mut memories.old) client (read_of true (Between column lowest highest) asked.now) }
+    ensures same { SamePlaces memories.old memories.new }
 {
     let range = Range::Between {
         column,
         lowest,
         highest,
     };
-    begin(
-        table,
-        nodes,
-        answers,
-        clients,
-        Hall::READS,
-        true,
+    let request = Request::Read {
+        counts: true,
         range,
-        client,
-        asked,
-    )
+    };
+    begin(memories, request, client, asked)
 }
 
-pub fn begin_insert(
-    table: &mut [u32],
-    nodes: &mut [u32],
-    answers: &mut [u32],
-    clients: &mut [u32],
-    client: u32,
-    asked: &[u32],
-) -> Outcome
-    ensures { result_of result (mem table.new nodes.new answers.new clients.new) ≡ begin_result (mem table.old nodes.old answers.old clients.old) client (insert_of asked.now) }
+pub fn begin_insert(memories: &mut MemoriesMut<'_>, client: u32, asked: &[u32]) -> Outcome
+    ensures leaves { result_of result (lent_mut memories.new) ≡ begin_result (lent_mut memories.old) client (insert_of asked.now) }
+    ensures same { SamePlaces memories.old memories.new }
 {
-    begin(
-        table,
-        nodes,
-        answers,
-        clients,
-        Hall::INSERTS,
-        false,
-        Range::None,
-        client,
-        asked,
-    )
+    begin(memories, Request::Insert, client, asked)
 }
 
-pub fn begin_delete(
-    table: &mut [u32],
-    nodes: &mut [u32],
-    answers: &mut [u32],
-    clients: &mut [u32],
-    client: u32,
-    asked: &[u32],
-) -> Outcome
-    ensures { result_of result (mem table.new nodes.new answers.new clients.new) ≡ begin_result (mem table.old nodes.old answers.old clients.old) client (delete_of asked.now) }
+pub fn begin_delete(memories: &mut MemoriesMut<'_>, client: u32, asked: &[u32]) -> Outcome
+    ensures leaves { result_of result (lent_mut memories.new) ≡ begin_result (lent_mut memories.old) client (delete_of asked.now) }
+    ensures same { SamePlaces memories.old memories.new }
 {
-    begin(
-        table,
-        nodes,
-        answers,
-        clients,
-        Hall::DELETES,
-        false,
-        Range::None,
-        client,
-        asked,
-    )
+    begin(memories, Request::Delete, client, asked)
 }

@@ -4,10 +4,11 @@
 #![tactic(auto)]
 
 ghost use Rattle.std.specs.Prelude.{◌≡◌};
-ghost use Rattle.rules.specs.Memory.{mem};
 ghost use Rattle.rules.specs.Outcome.{result_with};
+ghost use Rattle.hall.specs.Memories.{lent_mut, SamePlaces};
 ghost use Rattle.calls.specs.CallValues.{ran};
 
+use hall::MemoriesMut;
 use rules::Outcome;
 
 pub mod begins; // begins.rt: the begins of a read, a count, both with a range, an insert and a delete
@@ -58,50 +59,32 @@ pub enum Call {
 }
 
 // Makes the call. The query is read by a begin only, the tray is altered by a step only.
-pub fn run(
-    table: &mut [u32],
-    nodes: &mut [u32],
-    answers: &mut [u32],
-    clients: &mut [u32],
-    tray: &mut [u32],
-    call: Call,
-    query: &[u32],
-) -> Outcome
-    ensures { result_with result (mem table.new nodes.new answers.new clients.new) tray.new ≡ ran (mem table.old nodes.old answers.old clients.old) tray.old call query.now }
+#[tactic(auto, unfolding(crate::specs::CallValues::ran, crate::specs::CallValues::with_tray, crate::specs::CallValues::call_of, crate::specs::CallValues::tray_after, rules::specs::History::call_result, rules::specs::History::untrayed))]
+pub fn run(memories: &mut MemoriesMut<'_>, tray: &mut [u32], call: Call, query: &[u32]) -> Outcome
+    ensures leaves { result_with result (lent_mut memories.new) tray.new ≡ ran (lent_mut memories.old) tray.old call query.now }
+    ensures same { SamePlaces memories.old memories.new }
 {
     match call {
-        Call::BeginRead { client } => {
-            begins::begin_read(table, nodes, answers, clients, client, query)
-        }
-        Call::BeginCount { client } => {
-            begins::begin_count(table, nodes, answers, clients, client, query)
-        }
+        Call::BeginRead { client } => begins::begin_read(memories, client, query),
+        Call::BeginCount { client } => begins::begin_count(memories, client, query),
         Call::BeginReadWithin {
             client,
             column,
             lowest,
             highest,
-        } => begins::begin_read_within(
-            table, nodes, answers, clients, client, query, column, lowest, highest,
-        ),
+        } => begins::begin_read_within(memories, client, query, column, lowest, highest),
         Call::BeginCountWithin {
             client,
             column,
             lowest,
             highest,
-        } => begins::begin_count_within(
-            table, nodes, answers, clients, client, query, column, lowest, highest,
-        ),
-        Call::BeginInsert { client } => {
-            begins::begin_insert(table, nodes, answers, clients, client, query)
-        }
-        Call::BeginDelete { client } => {
-            begins::begin_delete(table, nodes, answers, clients, client, query)
-        }
-        Call::Step { client } => desks::step(table, nodes, answers, clients, tray, client),
-        Call::Abandon { client } => desks::abandon(table, nodes, answers, clients, client),
-        Call::EvictAnswer { place } => upkeep::evict_answer(table, nodes, answers, clients, place),
-        Call::EvictNode { place } => upkeep::evict_node(table, nodes, answers, clients, place),
-        Call::Renew => upkeep::renew(table, nodes, answers, clients),
+        } => begins::begin_count_within(memories, client, query, column, lowest, highest),
+        Call::BeginInsert { client } => begins::begin_insert(memories, client, query),
+        Call::BeginDelete { client } => begins::begin_delete(memories, client, query),
+        Call::Step { client } => desks::step(memories, tray, client),
+        Call::Abandon { client } => desks::abandon(memories, client),
+        Call::EvictAnswer { place } => upkeep::evict_answer(memories, place),
+        Call::EvictNode { place } => upkeep::evict_node(memories, place),
+        Call::Renew => upkeep::renew(memories),
     }
 }

@@ -2,7 +2,7 @@
 -- Leans on Carried and AlikeCalls. Assumes nothing.
 use mathlib.Core.Path.{◌≡◌, refl, sym, ap, subst, ◌∙◌}
 use mathlib.Core.Bool.{true, false, cond, not}
-use mathlib.Core.Option.{Option, none, some}
+use Rattle.std.specs.Prelude.{Option, None, Some}
 use mathlib.Core.List.{List, [], ◌∷◌}
 use Prim.Native.Nat.{ℕ}
 use native.Mathlib.Omega.{arith}
@@ -17,14 +17,13 @@ use Rattle.rules.specs.declared.Outcome.{Outcome}
 use Rattle.rules.specs.declared.Outcome.TheVariants.{Refused, Accepted}
 use Rattle.rules.specs.declared.Tally.{Tally}
 use Rattle.rules.specs.declared.Count.{Count}
-use Rattle.rules.specs.declared.Count.TheVariants.{NoCount}
 use Rattle.rules.specs.Client.{work_at, is_bad}
 use Rattle.rules.specs.Memory.{Mem, opened}
 use Rattle.rules.specs.Refusals.{form, shape, client, open_code, abandon_code, is_short}
 use Rattle.rules.specs.Outcome.{Result, result_of}
 use Rattle.rules.specs.Calls.{unless, abandon_result}
 use Rattle.rules.specs.History.{Call, begin, step, abandon, evict_answer, evict_node, renew, untrayed, call_result}
-use Rattle.rules.specs.Tally.{count_in, count_of, abandoned_count, accepted_count, would_raise, is_full, Made, is_full_for, is_tally_full, made_result, raised, tally_after, mem_after}
+use Rattle.rules.specs.Tally.{count_of, abandoned_count, accepted_count, would_raise, is_full, Made, is_full_for, is_tally_full, made_result, raised, tally_after, mem_after}
 use Rattle.rules.specs.Sound.{Long}
 use Rattle.rules.proofs.PassedChecks.{long, open_passed, abandon_passed}
 use Rattle.machine.specs.Machine as machine
@@ -44,18 +43,18 @@ use Rattle.carrying.proofs.FormStays.{stays_after}
 use Rattle.carrying.proofs.AlikeCalls.{alike_call}
 
 -- ---- The tally goes by the outcome and by the work read
-refused_count : (c c' : Count) (o : Outcome) (k : ℕ) → o ≡ Refused k → count_of c o ≡ count_of c' o
+refused_count : (c c' : Option Count) (o : Outcome) (k : ℕ) → o ≡ Refused k → count_of c o ≡ count_of c' o
 unfolding count_of
 refused_count c c' o k e = rw e refl
 
-refused_none : (c : Count) (o : Outcome) (k : ℕ) → o ≡ Refused k → count_of c o ≡ NoCount
+refused_none : (c : Option Count) (o : Outcome) (k : ℕ) → o ≡ Refused k → count_of c o ≡ None
 unfolding count_of
 refused_none c o k e = rw e refl
 
-full_none : (t : Option Tally) → is_full_for t NoCount ≡ false
-unfolding is_full_for is_full count_in
-full_none none = refl
-full_none (some t) = refl
+full_none : (t : Option Tally) → is_full_for t None ≡ false
+unfolding is_full_for is_full
+full_none None = refl
+full_none (Some t) = refl
 
 abandon_refused : (m : Mem) (d : ℕ) → eqb (abandon_code m d) 0 ≡ false → (call_result m (abandon d)).out ≡ Refused (abandon_code m d)
 unfolding call_result abandon_result untrayed unless
@@ -73,8 +72,8 @@ module _ (m n : Mem) (lm : Lasting m) (ln : Lasting n) (a : Alike m n) (w : Wide
   would_same (step d tray) k = ap (count_of _) k.out
   would_same (abandon d) k =
       by_test (eqb (abandon_code m d) 0)
-      (λ t. let h = (abandon_passed m d (eqb-true _ 0 t)).1 in λ i. count_of (abandoned_count (work_at (a.shape i) (a.clients d h i))) (k.out i))
-      (λ t. refused_count _ _ (call_result m (abandon d)).out _ (abandon_refused m d t) ∙ ap (count_of (abandoned_count (work_at (shape n) (client n d)))) k.out)
+      (λ t. let h = (abandon_passed m d (eqb-true _ 0 t)).1 in λ i. count_of (Some (abandoned_count (work_at (a.shape i) (a.clients d h i)))) (k.out i))
+      (λ t. refused_count _ _ (call_result m (abandon d)).out _ (abandon_refused m d t) ∙ ap (count_of (Some (abandoned_count (work_at (shape n) (client n d))))) k.out)
   would_same (evict_answer i) k = ap (count_of _) k.out
   would_same (evict_node i) k = ap (count_of _) k.out
   would_same renew k = ap (count_of _) k.out
@@ -90,7 +89,7 @@ module _ (m n : Mem) (lm : Lasting m) (ln : Lasting n) (a : Alike m n) (w : Wide
 
     pub same_tally : (t : Tally) → tally_after n x.call t ≡ tally_after m x.call t
     unfolding tally_after
-    same_tally t = ap (λ (c : Count). cond (is_full t c) t (raised t c)) (sym (would_same x.call call_alike))
+    same_tally t = ap (λ (c : Option Count). cond (is_full t c) t (raised t c)) (sym (would_same x.call call_alike))
 
 -- ---- One call after another
 wider_next : (m n : Mem) → Lasting m → Lasting n → Wider (form m) (form n) → (x : Made) → Wider (form (made_result m x).mem) (form (made_result n x).mem)

@@ -1,3 +1,4 @@
+pub mod RefusalLaws
 pub mod SoundMemories
 pub mod CheckCodes
-pub mod BeginCodes
+pub mod BeginKeys

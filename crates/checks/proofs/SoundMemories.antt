@@ -26,7 +26,6 @@ module _ {tb nd an cl : List ℕ} (s : Sound (mem tb nd an cl)) where
   client_fit d h = record { long = (let l = s.long.clients in omega arith); below = h }
 
 pub sound_memories : (m : Mem) → sound_code m ≡ 0 → Sound m
-unfolding sound_code
 sound_memories m e =
     let p = passed (is_short (shape m) m) 0 _ e in
     sound m p.0 (passed (is_unsound m) 2 _ p.1).0

@@ -1,151 +1,135 @@
-// The refusals as numbers: for each call the first number that applies (1, 2, 14, 3, 4 and so on), or 0. Each reads the four lent memories, in any contents and of any
-// lengths, and tests in the order of the rules. What a check has read and a call goes on with, it hands on: a client (`Checked`), the key of
-// what begins (`Begun`). The rules stand in rules (Refusals), what is handed on in specs/CheckContracts.antt.
+// The refusals: for each call the first that applies (1, 2, 14, 3, 4 and so on). Each check reads the four lent memories, in any contents and of any
+// lengths, and tests in the order of the rules. What a check has read and a call goes on with, it hands on: what was read of a client, or the key
+// of what begins. The rules stand in rules (Refusals), parts of them and what begins in specs/CheckContracts.antt.
 #![tactic(auto)]
 
-ghost use Rattle.std.specs.Prelude.{◌≡◌, Bool, true, false, List, ℕ, ◌≤◌, length};
-ghost use Rattle.query.specs.Shape.{shape_of, max_columns};
+ghost use Rattle.std.specs.Prelude.{◌≡◌, Bool, false, true, List, ℕ, ◌≤◌, IfOk, length};
+ghost use Rattle.query.specs.Shape.{Shape, shape_of, max_columns};
 ghost use Rattle.query.specs.Encoding.{is_query};
-ghost use Rattle.query.specs.declared.Range.{Range};
-ghost use Rattle.rules.specs.Work.{ask_fault, read_of, insert_of, ask_of};
-ghost use Rattle.rules.specs.Memory.{mem};
-ghost use Rattle.rules.specs.Refusals.{shape, is_short, is_unsound, at_client, step_code, abandon_code, renew_code};
+ghost use Rattle.rules.specs.Work.{ask_fault, read_of, insert_of, delete_of, ask_of, key_of, work_of, kind_of};
+ghost use Rattle.rules.specs.Refusals.{shape, is_short, bad_columns, is_unsound, at_client, begin_code, step_code, abandon_code, renew_code};
 ghost use Rattle.clients.specs.ClientContracts.{Fit, IsHeld};
 ghost use Rattle.nodes.specs.NodeContracts;
-ghost use Rattle.checks.specs.CheckContracts.{sound_code, client_code, Found, request_of, Asked, desk_code, BeginFound, answer_code, node_code, evict_code};
+ghost use Rattle.hall.specs.Kind.{kind_number};
+ghost use Rattle.hall.specs.Memories.{lent};
+ghost use Rattle.hall.specs.Refusal.{code_of};
+ghost use Rattle.checks.specs.CheckContracts.{sound_code, client_code, request_of, columns_code, asked_code, fresh_code, desk_code, answer_code, node_code, evict_code};
 
 use clients::Held;
-use hall::Hall;
+use hall::{Hall, Kind, Memories, Refusal};
 use query::Range;
 
 // ---- The memories
-// Whether k, an entry count or a filed list's length is out of range. Reads each memory once.
-fn is_unsound(table: &[u32], nodes: &[u32], answers: &[u32], clients: &[u32]) -> bool
-    requires { is_short (shape (mem table.now nodes.now answers.now clients.now)) (mem table.now nodes.now answers.now clients.now) ≡ false }
-    ensures { result ≡ is_unsound (mem table.now nodes.now answers.now clients.now) }
+// Whether a number of columns is none of a hall's.
+#[tactic(auto, unfolding(rules::specs::Refusals::bad_columns))]
+pub fn bad_columns(k: u32) -> bool
+    ensures { result ≡ bad_columns k }
 {
-    let k = clients[Hall::COLUMNS_OFFSET];
-    if k == 0 {
-        return true;
-    }
-    if Hall::COLUMNS < k {
-        return true;
-    }
-    if Hall::RECORDS < table[Hall::RECORD_COUNT_OFFSET] {
-        return true;
-    }
-    if Hall::NODES < nodes[Hall::NODE_COUNT_OFFSET] {
-        return true;
-    }
-    if Hall::ANSWERS < answers[Hall::ANSWER_COUNT_OFFSET] {
-        return true;
-    }
-    answers::some_long(answers)
+    !(1..=Hall::COLUMNS).contains(&k)
+}
+
+// Whether k, an entry count or a filed list's length is out of range. Reads each memory once.
+#[tactic(auto, using(rules::proofs::PassedChecks::long), unfolding(rules::specs::Refusals::is_unsound))]
+fn is_unsound(memories: Memories<'_>) -> bool
+    requires { is_short (shape (lent memories)) (lent memories) ≡ false }
+    ensures { result ≡ is_unsound (lent memories.entry) }
+{
+    bad_columns(memories.clients[Hall::COLUMNS_OFFSET])
+        || Hall::RECORDS < memories.table[Hall::RECORD_COUNT_OFFSET]
+        || Hall::NODES < memories.nodes[Hall::NODE_COUNT_OFFSET]
+        || Hall::ANSWERS < memories.answers[Hall::ANSWER_COUNT_OFFSET]
+        || answers::some_long(memories.answers)
 }
 
 // 1 where a memory is short, 3 where one is unsound.
-fn sound_code(table: &[u32], nodes: &[u32], answers: &[u32], clients: &[u32]) -> u32
-    ensures { result ≡ sound_code (mem table.now nodes.now answers.now clients.now) }
+fn sound_check(memories: Memories<'_>) -> Result<(), Refusal>
+    ensures { code_of result ≡ sound_code (lent memories.entry) }
 {
-    if Hall::is_short(table, nodes, answers, clients) {
-        return Hall::REFUSED_SHORT;
+    if memories.is_short() {
+        return Err(Refusal::Short);
     }
-    if is_unsound(table, nodes, answers, clients) {
-        return Hall::REFUSED_UNSOUND;
+    if is_unsound(memories) {
+        return Err(Refusal::Unsound);
     }
-    0
+    Ok(())
 }
 
 // ---- A client's desk
-// What the checks of a step or an abandoning give: the number that it is refused with, or 0; and, if that is 0, what was read of the client.
-#[derive(Clone, Copy)]
-pub struct Checked {
-    pub code: u32,
-    pub held: Held,
-}
-
-// A refusal: nothing was read that others may use.
-fn refused(code: u32) -> Checked
-    ensures { result.code ≡ code }
-{
-    let values = [0u32; Hall::COLUMN_SLOTS];
-    let held = Held {
-        columns: 0,
-        kind: 0,
-        steps: 0,
-        marks: 0,
-        counts: false,
-        values: values,
-    };
-    Checked { code, held }
-}
-
-// What a client of which h was read is found to be: 3 unsound, 6 idle, 0 busy.
-fn client_code(clients: &[u32], d: usize, h: Held) -> u32
+// What a client of which h was read is found to be: 3 unsound, 6 idle, or busy.
+#[tactic(auto, using(clients::proofs::ClientSound::none_idle, clients::proofs::ClientSound::kind_busy))]
+fn client_check(clients: &[u32], d: usize, h: Held) -> Result<(), Refusal>
     requires { Fit clients.now d × (IsHeld h clients.now d × (h.columns ≤ max_columns)) }
-    ensures { result ≡ client_code clients.now d }
+    ensures { code_of result ≡ client_code clients.now d }
 {
     if clients::is_bad(clients, d, h) {
-        return Hall::REFUSED_UNSOUND;
+        return Err(Refusal::Unsound);
     }
     // A client that is not bad is idle exactly if its kind is 0: its other numbers need not be read again.
     if h.kind == 0 {
-        return Hall::REFUSED_IDLE;
+        return Err(Refusal::Idle);
     }
-    0
+    Ok(())
 }
 
-// What a call finds at client d of long memories: 3 unsound, 4 no such client, 6 idle, 0 busy. The client is read here, once.
-fn at_client(table: &[u32], nodes: &[u32], answers: &[u32], clients: &[u32], d: u32) -> Checked
-    requires { is_short (shape (mem table.now nodes.now answers.now clients.now)) (mem table.now nodes.now answers.now clients.now) ≡ false }
-    ensures { Found result (mem table.now nodes.now answers.now clients.now) d (at_client (mem table.now nodes.now answers.now clients.now) d) }
+// What a call finds at client d of long memories: 3 unsound, 4 no such client, 6 idle, or a busy one. The client is read here, once.
+#[tactic(auto, using(crate::proofs::CheckCodes::client_there), unfolding(rules::specs::Refusals::at_client, rules::specs::Refusals::no_client))]
+fn at_client(memories: Memories<'_>, d: u32) -> Result<Held, Refusal>
+    requires { is_short (shape (lent memories)) (lent memories) ≡ false }
+    ensures code { code_of result ≡ at_client (lent memories.entry) d }
+    ensures ok { IfOk result (λ held. IsHeld held memories.entry.clients.now d) }
 {
-    if is_unsound(table, nodes, answers, clients) {
-        return refused(Hall::REFUSED_UNSOUND);
+    if is_unsound(memories) {
+        return Err(Refusal::Unsound);
     }
     if Hall::CLIENTS <= d {
-        return refused(Hall::REFUSED_NO_CLIENT);
+        return Err(Refusal::NoClient);
     }
-    let held = clients::read(clients, d as usize);
-    let code = client_code(clients, d as usize, held);
-    Checked { code, held }
+    let held = clients::read(memories.clients, d as usize);
+    client_check(memories.clients, d as usize, held)?;
+    Ok(held)
 }
 
-// ---- Begins
-// What the checks of a begin give: the number that it is refused with, or 0; and, if that is 0, the key that the client is to keep.
+// ---- What begins
 #[derive(Clone, Copy)]
-pub struct Begun {
-    pub code: u32,
-    pub key: [u32; Hall::KEY_WIDTH],
+pub enum Request {
+    // Whether it wants a count, and its range.
+    Read { counts: bool, range: Range },
+    Insert,
+    Delete,
 }
 
-// A begin without a key: a refusal, or one that is refused for the number of columns by what is tested next.
-fn keyless(code: u32) -> Begun
-    ensures { result.code ≡ code }
-{
-    let key = [0u32; Hall::KEY_WIDTH];
-    Begun { code, key }
-}
-
-// An insert: its columns' values are taken, or it is refused for a wildcard.
-fn insert_asked(k: u32, asked: &[u32]) -> Begun
-    requires { is_query (shape_of k) asked.now ≡ true }
-    ensures { Asked result (shape_of k) (insert_of asked.now) }
-{
-    let taken = columns::take_record(asked);
-    let code = taken.code;
-    if Hall::COLUMNS < k {
-        return keyless(code);
+impl Request {
+    // The kind that its client keeps.
+    #[tactic(auto, unfolding(rules::specs::Work::kind_of, rules::specs::Work::work_of, rules::specs::Work::change_kind))]
+    pub fn kind(self) -> Kind
+        ensures { (sh : Shape) (a : List ℕ) → kind_number result ≡ kind_of (work_of sh (request_of self a)) }
+    {
+        match self {
+            Request::Read { .. } => Kind::Read,
+            Request::Insert => Kind::Insert,
+            Request::Delete => Kind::Delete,
+        }
     }
-    let values = taken.values;
-    let key = columns::keys::record_key(k as usize, values);
-    Begun { code, key }
 }
 
-// The number that a range beside a query of k columns is turned down with, or 0: its column is past the last, or named too; its ends are reversed.
-fn range_code(k: u32, asked: &[u32], range: Range) -> u32
+// ---- Its key
+// The hall's number of columns, which the key goes by. That it is out of range is the first of what makes memories unsound.
+#[tactic(auto, unfolding(rules::specs::Refusals::bad_columns))]
+fn columns_in(k: u32) -> Result<usize, Refusal>
+    ensures code { code_of result ≡ columns_code (shape_of k) }
+    ensures ok { IfOk result (λ n. (n ≡ k) × (n ≤ max_columns)) }
+{
+    if bad_columns(k) {
+        return Err(Refusal::Unsound);
+    }
+    Ok(k as usize)
+}
+
+// The ranges that a begin takes beside a query of k columns: the column is not past the last, nor named too, and the ends are not reversed.
+#[tactic(auto, using(crate::proofs::BeginKeys::named_of, crate::proofs::BeginKeys::asked_length), unfolding(rules::specs::Work::ask_fault, rules::specs::Work::ask_of, query::specs::Range::is_range, query::specs::Range::is_reversed))]
+fn range_check(k: u32, asked: &[u32], range: Range) -> Result<(), Refusal>
     requires { is_query (shape_of k) asked.now ≡ true }
-    ensures { (counts : Bool) → result ≡ ask_fault (ask_of (shape_of k) counts range asked.now) }
+    ensures { (counts : Bool) → code_of result ≡ ask_fault (ask_of (shape_of k) counts range asked.now) }
 {
     let Range::Between {
         column,
@@ -153,146 +137,152 @@ fn range_code(k: u32, asked: &[u32], range: Range) -> u32
         highest,
     } = range
     else {
-        return 0;
+        return Ok(());
     };
-    if k <= column {
-        return Hall::REFUSED_COLUMNS;
-    }
-    if asked[2 * (column as usize)] != 0 {
-        return Hall::REFUSED_COLUMNS;
+    if k <= column || asked[2 * (column as usize)] != 0 {
+        return Err(Refusal::Columns);
     }
     if highest < lowest {
-        return Hall::REFUSED_REVERSED;
+        return Err(Refusal::Reversed);
     }
-    0
+    Ok(())
 }
 
-// A read: its range is one that may stand beside its query, and it has a key.
-fn read_asked(k: u32, counts: bool, range: Range, asked: &[u32]) -> Begun
-    requires { is_query (shape_of k) asked.now ≡ true }
-    ensures { Asked result (shape_of k) (read_of counts range asked.now) }
-{
-    let code = range_code(k, asked, range);
-    if code != 0 {
-        return keyless(code);
-    }
-    if Hall::COLUMNS < k {
-        return keyless(0);
-    }
-    let cols = columns::columns_of(asked);
-    let key = columns::keys::ask_key(cols, k as usize, counts, range);
-    Begun { code, key }
-}
-
-// What arrives is turned down for itself where it is no query of k columns, a read for its range, an insert for a wildcard; else it has a key. k
-// may be any number: that it is out of range is tested later. Whether a count is wanted, and the range, are asked of a read alone.
-fn request_of(k: u32, kind: u32, counts: bool, range: Range, asked: &[u32]) -> Begun
-    ensures { Asked result (shape_of k) (request_of kind counts range asked.now) }
-{
-    if !columns::is_query(asked, k) {
-        return keyless(Hall::REFUSED_COLUMNS);
-    }
-    if kind == Hall::READS {
-        return read_asked(k, counts, range, asked);
-    }
-    if kind == Hall::INSERTS {
-        return insert_asked(k, asked);
-    }
-    if Hall::COLUMNS < k {
-        return keyless(0);
-    }
-    let cols = columns::columns_of(asked);
-    let key = columns::keys::key_words(cols, k as usize);
-    Begun { code: 0, key }
-}
-
-// What a begin finds behind what arrives, in long memories. Kinds: 1 read, 2 insert, 3 delete.
-fn desk_code(
-    table: &[u32],
-    nodes: &[u32],
-    answers: &[u32],
-    clients: &[u32],
-    kind: u32,
-    d: u32,
-) -> u32
-    requires { is_short (shape (mem table.now nodes.now answers.now clients.now)) (mem table.now nodes.now answers.now clients.now) ≡ false }
-    ensures { (counts : Bool) (range : Range) (a : List ℕ) → result ≡ desk_code (mem table.now nodes.now answers.now clients.now) d (request_of kind counts range a) }
-{
-    let found = at_client(table, nodes, answers, clients, d);
-    if found.code == 0 {
-        return Hall::REFUSED_TAKEN;
-    }
-    if found.code != Hall::REFUSED_IDLE {
-        return found.code;
-    }
-    if kind == Hall::READS { // it raises no counter
-        return 0;
-    }
-    if nodes::is_worn(nodes) {
-        return Hall::REFUSED_WORN;
-    }
-    0
-}
-
-// The checks of a begin. Kinds: 1 read, 2 insert, 3 delete; of a read, whether it wants a count, and its range.
-pub fn begin_check(
-    table: &[u32],
-    nodes: &[u32],
-    answers: &[u32],
-    clients: &[u32],
-    kind: u32,
+// A read's key: its range is one that may stand beside its query.
+#[tactic(auto, using(crate::proofs::BeginKeys::asked_length, crate::proofs::BeginKeys::key_of_read), unfolding(rules::specs::Work::fault_of))]
+fn read_key(
+    k: u32,
     counts: bool,
     range: Range,
+    asked: &[u32],
+) -> Result<[u32; Hall::KEY_WIDTH], Refusal>
+    requires { is_query (shape_of k) asked.now ≡ true }
+    ensures code { code_of result ≡ asked_code (shape_of k) (read_of counts range asked.now) }
+    ensures ok { IfOk result (λ key. key ≡ key_of (work_of (shape_of k) (read_of counts range asked.now))) }
+{
+    range_check(k, asked, range)?;
+    let k = columns_in(k)?;
+    let cols = columns::columns_of(asked);
+    Ok(columns::keys::ask_key(cols, k, counts, range))
+}
+
+// An insert's key: its columns' values are taken, or it is refused for a wildcard.
+#[tactic(auto, using(crate::proofs::BeginKeys::key_of_insert), unfolding(rules::specs::Work::fault_of))]
+fn insert_key(k: u32, asked: &[u32]) -> Result<[u32; Hall::KEY_WIDTH], Refusal>
+    requires { is_query (shape_of k) asked.now ≡ true }
+    ensures code { code_of result ≡ asked_code (shape_of k) (insert_of asked.now) }
+    ensures ok { IfOk result (λ key. key ≡ key_of (work_of (shape_of k) (insert_of asked.now))) }
+{
+    let taken = columns::take_record(asked);
+    if taken.code != 0 {
+        return Err(Refusal::Columns);
+    }
+    let k = columns_in(k)?;
+    Ok(columns::keys::record_key(k, taken.values))
+}
+
+// A delete's key.
+#[tactic(auto, using(crate::proofs::BeginKeys::asked_length, crate::proofs::BeginKeys::key_of_delete), unfolding(rules::specs::Work::fault_of))]
+fn delete_key(k: u32, asked: &[u32]) -> Result<[u32; Hall::KEY_WIDTH], Refusal>
+    requires { is_query (shape_of k) asked.now ≡ true }
+    ensures code { code_of result ≡ asked_code (shape_of k) (delete_of asked.now) }
+    ensures ok { IfOk result (λ key. key ≡ key_of (work_of (shape_of k) (delete_of asked.now))) }
+{
+    let k = columns_in(k)?;
+    let cols = columns::columns_of(asked);
+    Ok(columns::keys::key_words(cols, k))
+}
+
+// The key of what arrives. It is turned down for itself where it is no query of k columns, a read for its range, an insert for a wildcard; then
+// for k.
+#[tactic(auto, using(crate::proofs::BeginKeys::fault_query))]
+fn request_key(k: u32, request: Request, asked: &[u32]) -> Result<[u32; Hall::KEY_WIDTH], Refusal>
+    ensures code { code_of result ≡ asked_code (shape_of k) (request_of request asked.now) }
+    ensures ok { IfOk result (λ key. key ≡ key_of (work_of (shape_of k) (request_of request asked.now))) }
+{
+    if !columns::is_query(asked, k) {
+        return Err(Refusal::Columns);
+    }
+    match request {
+        Request::Read { counts, range } => read_key(k, counts, range, asked),
+        Request::Insert => insert_key(k, asked),
+        Request::Delete => delete_key(k, asked),
+    }
+}
+
+// ---- Begins
+// 10 where a write begins and the revisions are worn.
+#[tactic(auto, unfolding(rules::specs::Work::is_write))]
+fn fresh_check(nodes: &[u32], request: Request) -> Result<(), Refusal>
+    requires { NodeContracts.Fit nodes.now }
+    ensures { (sh : Shape) (a : List ℕ) → code_of result ≡ fresh_code sh nodes.now (request_of request a) }
+{
+    match request {
+        Request::Read { .. } => Ok(()), // it raises no counter
+        _ => {
+            if nodes::is_worn(nodes) {
+                return Err(Refusal::Worn);
+            }
+            Ok(())
+        }
+    }
+}
+
+// What a begin finds behind what arrives, in long memories.
+#[tactic(auto, using(crate::proofs::CheckCodes::desk_taken, crate::proofs::CheckCodes::desk_free, crate::proofs::CheckCodes::desk_other, crate::proofs::RefusalLaws::number_some, crate::proofs::RefusalLaws::number_idle, rules::proofs::PassedChecks::idle_passed))]
+fn desk_check(memories: Memories<'_>, request: Request, d: u32) -> Result<(), Refusal>
+    requires { is_short (shape (lent memories)) (lent memories) ≡ false }
+    ensures { (a : List ℕ) → code_of result ≡ desk_code (lent memories.entry) d (request_of request a) }
+{
+    match at_client(memories, d) {
+        Ok(_) => Err(Refusal::Taken),
+        Err(Refusal::Idle) => fresh_check(memories.nodes, request),
+        Err(refusal) => Err(refusal),
+    }
+}
+
+// The checks of a begin, and the key that the client is to keep.
+#[tactic(auto, using(crate::proofs::RefusalLaws::number_some), unfolding(rules::specs::Refusals::begin_code, rules::specs::Refusals::is_unsound, crate::specs::CheckContracts::desk_code))]
+pub fn begin_check(
+    memories: Memories<'_>,
+    request: Request,
     d: u32,
     asked: &[u32],
-) -> Begun
-    ensures { BeginFound result (mem table.now nodes.now answers.now clients.now) d (request_of kind counts range asked.now) }
+) -> Result<[u32; Hall::KEY_WIDTH], Refusal>
+    ensures code { code_of result ≡ begin_code (lent memories.entry) d (request_of request asked.now) }
+    ensures ok { IfOk result (λ key. key ≡ key_of (work_of (shape (lent memories.entry)) (request_of request asked.now))) }
 {
-    if Hall::is_short(table, nodes, answers, clients) {
-        return keyless(Hall::REFUSED_SHORT);
+    if memories.is_short() {
+        return Err(Refusal::Short);
     }
-    let request = request_of(clients[Hall::COLUMNS_OFFSET], kind, counts, range, asked);
-    if request.code != 0 {
-        return request;
-    }
-    let code = desk_code(table, nodes, answers, clients, kind, d);
-    let key = request.key;
-    Begun { code, key }
+    let k = memories.clients[Hall::COLUMNS_OFFSET];
+    let key = request_key(k, request, asked)?;
+    desk_check(memories, request, d)?;
+    Ok(key)
 }
 
 // ---- Steps and abandonings
-pub fn step_check(
-    table: &[u32],
-    nodes: &[u32],
-    answers: &[u32],
-    clients: &[u32],
-    tray: &[u32],
-    d: u32,
-) -> Checked
-    ensures { Found result (mem table.now nodes.now answers.now clients.now) d (step_code (mem table.now nodes.now answers.now clients.now) tray.now d) }
+// The checks of a step, and what was read of the client.
+#[tactic(auto, unfolding(rules::specs::Refusals::step_code))]
+pub fn step_check(memories: Memories<'_>, tray: &[u32], d: u32) -> Result<Held, Refusal>
+    ensures code { code_of result ≡ step_code (lent memories.entry) tray.now d }
+    ensures ok { IfOk result (λ held. IsHeld held memories.entry.clients.now d) }
 {
-    if Hall::is_short(table, nodes, answers, clients) {
-        return refused(Hall::REFUSED_SHORT);
+    if memories.is_short() || tray.len() < Hall::TRAY_LEAST {
+        return Err(Refusal::Short);
     }
-    if tray.len() < Hall::TRAY_LEAST {
-        return refused(Hall::REFUSED_SHORT);
-    }
-    at_client(table, nodes, answers, clients, d)
+    at_client(memories, d)
 }
 
-pub fn abandon_check(
-    table: &[u32],
-    nodes: &[u32],
-    answers: &[u32],
-    clients: &[u32],
-    d: u32,
-) -> Checked
-    ensures { Found result (mem table.now nodes.now answers.now clients.now) d (abandon_code (mem table.now nodes.now answers.now clients.now) d) }
+#[tactic(auto, unfolding(rules::specs::Refusals::abandon_code))]
+pub fn abandon_check(memories: Memories<'_>, d: u32) -> Result<Held, Refusal>
+    ensures code { code_of result ≡ abandon_code (lent memories.entry) d }
+    ensures ok { IfOk result (λ held. IsHeld held memories.entry.clients.now d) }
 {
-    if Hall::is_short(table, nodes, answers, clients) {
-        return refused(Hall::REFUSED_SHORT);
+    if memories.is_short() {
+        return Err(Refusal::Short);
     }
-    at_client(table, nodes, answers, clients, d)
+    at_client(memories, d)
 }
 
 // ---- Evictions and renewals
@@ -304,59 +294,48 @@ pub enum Kept {
 }
 
 // 8 where there is no filed answer at the place.
-fn answer_code(answers: &[u32], place: u32) -> u32
+fn answer_check(answers: &[u32], place: u32) -> Result<(), Refusal>
     requires { 1 ≤ length answers.now }
-    ensures { result ≡ answer_code answers.now place }
+    ensures { code_of result ≡ answer_code answers.now place }
 {
     if answers[Hall::ANSWER_COUNT_OFFSET] <= place {
-        return Hall::REFUSED_NO_ENTRY;
+        return Err(Refusal::NoEntry);
     }
-    0
+    Ok(())
 }
 
 // 8 where there is no node at the place, 9 where it has pending writes.
-fn node_code(nodes: &[u32], place: u32) -> u32
+fn node_check(nodes: &[u32], place: u32) -> Result<(), Refusal>
     requires { NodeContracts.Fit nodes.now }
-    ensures { result ≡ node_code nodes.now place }
+    ensures { code_of result ≡ node_code nodes.now place }
 {
     if nodes[Hall::NODE_COUNT_OFFSET] <= place {
-        return Hall::REFUSED_NO_ENTRY;
+        return Err(Refusal::NoEntry);
     }
     if !nodes::is_free(nodes, place as usize) {
-        return Hall::REFUSED_PENDING;
+        return Err(Refusal::Pending);
     }
-    0
+    Ok(())
 }
 
-pub fn evict_code(
-    table: &[u32],
-    nodes: &[u32],
-    answers: &[u32],
-    clients: &[u32],
-    kept: Kept,
-    place: u32,
-) -> u32
-    ensures { result ≡ evict_code (mem table.now nodes.now answers.now clients.now) kept place }
+#[tactic(auto, using(nodes::proofs::NodeScans::is_free_pending), unfolding(crate::specs::CheckContracts::evict_code, rules::specs::Refusals::evict_answer_code, rules::specs::Refusals::evict_node_code))]
+pub fn evict_check(memories: Memories<'_>, kept: Kept, place: u32) -> Result<(), Refusal>
+    ensures { code_of result ≡ evict_code (lent memories.entry) kept place }
 {
-    let found = sound_code(table, nodes, answers, clients);
-    if found != 0 {
-        return found;
-    }
+    sound_check(memories)?;
     match kept {
-        Kept::Answer => answer_code(answers, place),
-        Kept::Node => node_code(nodes, place),
+        Kept::Answer => answer_check(memories.answers, place),
+        Kept::Node => node_check(memories.nodes, place),
     }
 }
 
-pub fn renew_code(table: &[u32], nodes: &[u32], answers: &[u32], clients: &[u32]) -> u32
-    ensures { result ≡ renew_code (mem table.now nodes.now answers.now clients.now) }
+#[tactic(auto, using(clients::proofs::ClientReads::all_idle_law), unfolding(rules::specs::Refusals::renew_code))]
+pub fn renew_check(memories: Memories<'_>) -> Result<(), Refusal>
+    ensures { code_of result ≡ renew_code (lent memories.entry) }
 {
-    let found = sound_code(table, nodes, answers, clients);
-    if found != 0 {
-        return found;
+    sound_check(memories)?;
+    if !clients::all_idle(memories.clients) {
+        return Err(Refusal::Occupied);
     }
-    if !clients::all_idle(clients) {
-        return Hall::REFUSED_OCCUPIED;
-    }
-    0
+    Ok(())
 }

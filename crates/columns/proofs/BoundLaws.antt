@@ -1,9 +1,10 @@
 -- Laws of the record test with a range: a number's test by shift and limit is that it lies from the lowest to the highest; so shifts and limits
 -- of a query that names no 0 test what the query tests, and with a range laid over a wildcard, the range too, if it has a number above 0. What has
 -- not is told first (`finds_none`). Leans on the library's bits and on MaskLaws and ColumnLoops. Assumes nothing.
-use Rattle.std.proofs.Common.{◌≡◌, ℕ, zero, suc, ◌+◌, ◌-◌, ◌*◌, ◌%◌, ◌<◌, ◌≤◌, Bool, true, false, ◌&&◌, ◌||◌, eqb, ltb, leb, List, [], ◌∷◌, ◌++◌, map, length, get_or, take, drop, set, replicate, sym, refl, ap, ◌∙◌, true≢false, add-one, arith, length-append, length-drop, length-set, drop_of_length-le, length-take-le, get_or-drop, drop-cons, get_or-take, take_at, drop_at, ltb-false, ltb-true, eq-eqb, eqb-true, le-leb, leb-true}
-use mathlib.Core.Bool.{and-true, and_comm, or-false, or_assoc, or_comm}
+use Rattle.std.proofs.Common.{◌≡◌, ℕ, zero, suc, ◌+◌, ◌-◌, ◌*◌, ◌%◌, ◌<◌, ◌≤◌, Bool, true, false, ◌&&◌, ◌||◌, eqb, ltb, leb, List, [], ◌∷◌, ◌++◌, map, length, get_or, drop, set, replicate, sym, refl, ap, ◌∙◌, true≢false, add-one, arith, drop_of_length-le, drop-cons, ltb-false, ltb-true, eq-eqb, eqb-true, le-leb, leb-true}
+use mathlib.Core.Bool.{and-true, and_comm}
 use lib.Bits.{bit_xor, xor_block, xor_shifted, xor_comm, xor_self, xor_zero_r}
+use Rattle.std.specs.List.{list_any}
 use lib.Dec.{eqb-suc-zero, leb-zero, leb-suc-zero, leb-suc-suc}
 use lib.ListN.{length-map, get_or-append}
 use borrow.Author.Tests.{eqb-false}
@@ -16,9 +17,8 @@ use Rattle.query.specs.Query.{Query, Record, is_measured, admits, lies, is_zero,
 use Rattle.query.specs.Range.{within}
 use Rattle.query.specs.Encoding.{column_value}
 use Rattle.columns.specs.ColumnContracts.{four}
-use Rattle.columns.specs.BoundContracts.{sign_bit, shift_of, limit_of, width_of, shifts_of, limits_of, first_of, bound_words, finds_none, bounded_by, bounded, NamesWords}
-use Rattle.columns.proofs.ColumnLoops.{at_place, past_all}
-use Rattle.columns.proofs.MaskLaws.{length_four, eight_of}
+use Rattle.columns.specs.BoundContracts.{sign_bit, shift_of, limit_of, width_of, shifts_of, limits_of, first_of, bounds_of, bounded_under, finds_none, bounded_by, bounded, NamesWords}
+use Rattle.columns.proofs.MaskLaws.{length_four}
 
 -- ---- The highest bit turned over
 pub turned : (y : ℕ) → y < 4294967296 → bit_xor y sign_bit ≡ (y + sign_bit) % 4294967296
@@ -118,19 +118,20 @@ pub finds_some : (q : Query) (high : ℕ) → finds_none q high ≡ false → (n
 unfolding finds_none
 finds_some q high e = (or_false_l (names_zero q) (eqb high 0) e, omega (arith, eqb-false high 0 (or_false_r (names_zero q) (eqb high 0) e)))
 
--- the loop: f tells whether the range or one of the columns before i says so
-pub none_first : (q : Query) (high : ℕ) → finds_none q high ≡ eqb high 0 || names_zero q
-unfolding finds_none
-none_first q high = or_comm (names_zero q) (eqb high 0)
-
-pub none_on : (cols : Query) (k i : ℕ) (f : Bool) (w : Column) (x : Bool) → x ≡ is_zero (get_or cols i w) → i < k → k ≤ length cols
-    → f || names_zero (drop i (take k cols)) ≡ (f || x) || names_zero (drop (i + 1) (take k cols))
+names_any : (q : Query) → list_any is_zero q ≡ names_zero q
 unfolding names_zero
-none_on cols k i f w x e h l = rw (at_place w cols k i h l, e) (sym (or_assoc f _ _))
+names_any [] = refl
+names_any (c ∷ q) = ap (λ (b : Bool). is_zero c || b) (names_any q)
 
-pub none_end : (cols : Query) (k i : ℕ) (f : Bool) → k ≤ i → f || names_zero (drop i (take k cols)) ≡ f
-unfolding names_zero
-none_end cols k i f h = rw (past_all cols k i h) (or-false f)
+-- r tells whether a column of q names 0
+module _ (q : Query) (high : ℕ) (r : Bool) (e : r ≡ list_any is_zero q) where
+  pub zero_named : r ≡ true → r ≡ finds_none q high
+  unfolding finds_none
+  zero_named t = rw (← names_any q, ← e, t)
+
+  pub zero_high : r ≡ false → eqb high 0 ≡ finds_none q high
+  unfolding finds_none
+  zero_high t = rw (← names_any q, ← e, t)
 
 -- ---- A query's shifts and limits, with a range at a wildcard
 map_both : {A B : Type 0} (f : A → B) (l m : List A) → map f (l ++ m) ≡ map f l ++ map f m
@@ -166,60 +167,33 @@ module _ (q : Query) (few : length q ≤ 4) where
           rw (get_d_map (λ (c : Column). shift_of (column_value c)) (four q) c 0 Wildcard l, get_d_map (λ (c : Column). limit_of (width_of c)) (four q) c 0 Wildcard l, column_at)
           (column_bounded Wildcard (get_or r c 0) refl (omega arith) (fit c))
 
-      pub bound_test : bounded (take 4 (bound_words q c low high)) (drop 4 (bound_words q c low high)) r ≡ lies q r && within (Between c low high) r
-      unfolding bound_words within
+      pub bound_test : bounded_under (bounds_of q c low high) r ≡ lies q r && within (Between c low high) r
+      unfolding bounds_of bounded_under within
       bound_test =
           let first : ℕ = first_of low in
           let o = finds_some q high some in
           let f : first ≤ high = first_below low high ordered o.1 in
-          let a : length (set (shifts_of q) c (shift_of first)) ≡ 4 = length-set (shifts_of q) c (shift_of first) ∙ length_shifts in
           let w : first + (high - first) ≡ high = omega arith in
-          rw (take_at (set (shifts_of q) c (shift_of first)) _ 4 a, drop_at (set (shifts_of q) c (shift_of first)) _ 4 a)
-          (bounded_set (shifts_of q) (limits_of q) r c (shift_of first) (limit_of (high - first)) (omega arith) (omega (arith, length_shifts)) (omega (arith, length_limits)) any_number
-          ∙ rw (plain_test o.0, bounded_by_law first (high - first) (get_or r c 0) (omega arith) (fit c), w, first_takes low (get_or r c 0), swap (is_measured (get_or r c 0)) (leb low (get_or r c 0)) _))
-
-pub bounds_long : (q : Query) (c low high : ℕ) → length q ≤ 4 → length (bound_words q c low high) ≡ 8
-unfolding bound_words
-bounds_long q c low high h =
-    let first : ℕ = first_of low in
-    rw (length-append, length-set (shifts_of q) c (shift_of first), length-set (limits_of q) c (limit_of (high - first)), length_shifts q h, length_limits q h)
+          bounded_set (shifts_of q) (limits_of q) r c (shift_of first) (limit_of (high - first)) (omega arith) (omega (arith, length_shifts)) (omega (arith, length_limits)) any_number
+          ∙ rw (plain_test o.0, bounded_by_law first (high - first) (get_or r c 0) (omega arith) (fit c), w, first_takes low (get_or r c 0), swap (is_measured (get_or r c 0)) (leb low (get_or r c 0)) _)
 
 -- ---- The loop: f tells whether all numbers before i fit
-pub bounded_on : (l rec : List ℕ) (i : ℕ) (f : Bool) → length l ≡ 8 → length rec ≤ 4 → i < length rec
-    → f && bounded (drop i (take 4 l)) (drop i (drop 4 l)) (drop i rec)
-    ≡ (f && bounded_by (get_or l i 0) (get_or l (4 + i) 0) (get_or rec i 0)) && bounded (drop (i + 1) (take 4 l)) (drop (i + 1) (drop 4 l)) (drop (i + 1) rec)
+pub bounded_on : (ss ls rec : List ℕ) (i : ℕ) (f : Bool) → i < length ss → i < length ls → i < length rec
+    → f && bounded (drop i ss) (drop i ls) (drop i rec)
+    ≡ (f && bounded_by (get_or ss i 0) (get_or ls i 0) (get_or rec i 0)) && bounded (drop (i + 1) ss) (drop (i + 1) ls) (drop (i + 1) rec)
 unfolding bounded
-bounded_on l rec i f e k h =
-    let a : length (take 4 l) ≡ 4 = length-take-le 4 l (omega arith) in
-    let b : length (drop 4 l) ≡ 4 = rw length-drop (omega arith) in
-    rw (add-one, drop-cons (take 4 l) i 0 (omega arith), drop-cons (drop 4 l) i 0 (omega arith), drop-cons rec i 0 h, get_or-take 4 l i 0 (omega arith), get_or-drop 4 l i 0)
-    (swap f (bounded_by (get_or l i 0) (get_or l (4 + i) 0) (get_or rec i 0)) _)
+bounded_on ss ls rec i f a b h =
+    rw (add-one, drop-cons ss i 0 a, drop-cons ls i 0 b, drop-cons rec i 0 h) (swap f (bounded_by (get_or ss i 0) (get_or ls i 0) (get_or rec i 0)) _)
 
-pub bounded_end : (ss ls rec : List ℕ) (i : ℕ) (f : Bool) → length rec ≤ i → f && bounded ss ls (drop i rec) ≡ f
+pub bounded_end : (ss ls rec : List ℕ) (i : ℕ) (f : Bool) → length rec ≤ i → f && bounded (drop i ss) (drop i ls) (drop i rec) ≡ f
 unfolding bounded
 bounded_end ss ls rec i f h = rw (drop_of_length-le rec h) (and-true f)
 
 -- ---- What makes them
-pub shift_is : (low r : ℕ) → low < 4294967296 → r < 4294967296 → (r + low) % 4294967296 ≡ sign_bit → r ≡ shift_of low
-unfolding shift_of
-shift_is low r h g e = omega arith
-
-pub bounds_made : (q : Query) (s t : List ℕ) (c low high first : ℕ) → length q ≤ 4 → s ≡ shifts_of q → t ≡ limits_of q → first ≡ first_of low
-    → (let u = set s c (shift_of first) in let v = set t c (limit_of (high - first)) in
-    get_or u 0 0 ∷ get_or u 1 0 ∷ get_or u 2 0 ∷ get_or u 3 0 ∷ get_or v 0 0 ∷ get_or v 1 0 ∷ get_or v 2 0 ∷ get_or v 3 0 ∷ [] ≡ bound_words q c low high)
-unfolding bound_words
-bounds_made q s t c low high first h e f g =
-    let l : length (set s c (shift_of first)) ≡ 4 = length-set s c (shift_of first) ∙ ap length e ∙ length_shifts q h in
-    let m : length (set t c (limit_of (high - first))) ≡ 4 = length-set t c (limit_of (high - first)) ∙ ap length f ∙ length_limits q h in
-    sym (rw (← e, ← f, ← g) (eight_of (set s c (shift_of first)) (set t c (limit_of (high - first))) l m))
-
--- one column more whose value is a 32-bit number
-pub words_more : (cols : Query) (k i v : ℕ) (w : Column) → NamesWords i (take k cols) → v ≡ column_value (get_or cols i w) → v < 4294967296 → i < k → k ≤ length cols
-    → NamesWords (i + 1) (take k cols)
-words_more cols k i v w n e h l g j m = by_test (ltb j i)
+-- the first i values of a query are 32-bit numbers, and one more
+pub words_more : (q : Query) (i v : ℕ) (w : Column) → NamesWords i q → v ≡ column_value (get_or q i w) → v < 4294967296 → i < length q → NamesWords (i + 1) q
+words_more q i v w n e h l j m = by_test (ltb j i)
     (λ t. n j (ltb-true j i t))
     (λ t. let z : j ≡ i = (let y = ltb-false j i t in omega arith) in
-    let b : i < length (take k cols) = (let y = length-take-le k cols g in omega arith) in
-    let x : get_or (map column_value (take k cols)) j 0 ≡ v =
-    rw z (get_d_map column_value (take k cols) i 0 w b ∙ ap column_value (get_or-take k cols i w l) ∙ sym e) in
+    let x : get_or (map column_value q) j 0 ≡ v = rw z (get_d_map column_value q i 0 w l ∙ sym e) in
     omega arith)

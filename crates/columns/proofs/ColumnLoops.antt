@@ -1,16 +1,18 @@
--- Laws on columns and queries, over plain lists. Leans on FillLoop and on the definitions of crates/query. Assumes nothing.
-use Rattle.std.proofs.Common.{◌≡◌, ℕ, zero, suc, ◌+◌, ◌-◌, ◌*◌, ◌<◌, ◌≤◌, Bool, true, false, not, eqb, List, [], ◌∷◌, length, get_or, take, drop, set, replicate, refl, ap, ◌∙◌, add-one, arith, length-drop, drop_of_length-le, length-take, drop-cons, get_or-take, take_at, eq-eqb, ne_eqb}
+-- Laws on columns and queries, over plain lists. Leans on FillLoop, on Rows and on the definitions of crates/query. Assumes nothing.
+use Rattle.std.proofs.Common.{◌≡◌, ℕ, suc, ◌+◌, ◌-◌, ◌/◌, ◌<◌, ◌≤◌, false, List, [], ◌∷◌, map, length, get_or, take, drop, set, replicate, sym, refl, ap, ◌∙◌, add-one, arith, drop_of_length-le, length-take, drop-cons, get_or-take, take_at, ne_eqb}
 use native.Mathlib.Numerals.{add-two}
 use lib.Dec.{eqb-suc-suc}
-use borrow.Author.Tests.{lt-leb, not-true, not-false}
+use lib.ListN.{length-map}
+use Rattle.lists.specs.Lists.{rows}
+use Rattle.laws.proofs.ListLaws.{get_d_map}
+use Rattle.laws.proofs.RowLaws.{length_rows}
 use Rattle.query.specs.declared.Column.{Column}
 use Rattle.query.specs.declared.Column.TheVariants.{Is, Wildcard}
 use Rattle.query.specs.Query.{Query, named}
-use Rattle.query.specs.Encoding.{column_of, query_of, well_marked, is_query, names_all}
-use Rattle.query.specs.Shape.{shape_of}
+use Rattle.query.specs.Encoding.{column_of, query_of, names_all}
 use Rattle.query.proofs.NodeLists.{named_most}
-use Rattle.columns.specs.ColumnContracts.{column_marked, four}
-use Rattle.columns.proofs.FillLoop.{Filled, next_rest, fill_none, fill_more, fill_all}
+use Rattle.columns.specs.ColumnContracts.{four}
+use Rattle.columns.proofs.FillLoop.{Filled, fill_at}
 
 -- ---- The column at a place of the first k
 pub at_place : (z : Column) (cols : List Column) (k i : ℕ) → i < k → k ≤ length cols → drop i (take k cols) ≡ get_or cols i z ∷ drop (i + 1) (take k cols)
@@ -33,68 +35,35 @@ unfolding names_all named
 names_wildcard q = ne_eqb (named q) (suc (length q)) (λ e. omega (arith, named_most q))
 
 -- ---- A query as it arrives
-pub marked_wildcard : (mark v : ℕ) → mark ≡ 0 → eqb v 0 ≡ column_marked mark v
-unfolding column_marked
-marked_wildcard mark v e = rw e
-
-pub marked_value : (mark v : ℕ) → (mark ≡ 0 → ⊥) → eqb mark 1 ≡ column_marked mark v
-unfolding column_marked
-marked_value zero v n = absurd (n refl)
-marked_value (suc zero) v n = refl
-marked_value (suc (suc m)) v n = rw (ne_eqb (suc (suc m)) 1 (λ e. omega arith), lt-leb (suc (suc m)) 1 (omega arith))
-
-pub marked_odd : (a : List ℕ) (i : ℕ) → i + 1 ≡ length a → well_marked (drop i a) ≡ false
-unfolding well_marked
-marked_odd a i e =
-    let h : i < length a = omega arith in
-    let l : length a ≤ suc i = omega arith in
-    rw (drop-cons a i 0 h, drop_of_length-le a l)
-
 module _ (a : List ℕ) (i : ℕ) (h : i < length a) (o : i + 1 ≡ length a → ⊥) where
   pub two_more : drop i a ≡ get_or a i 0 ∷ get_or a (i + 1) 0 ∷ drop (i + 2) a
   two_more =
       let w : suc i < length a = omega arith in
       rw (add-one, add-two, drop-cons a i 0 h, drop-cons a (suc i) 0 w)
 
-  module _ (r : Bool) (e : r ≡ column_marked (get_or a i 0) (get_or a (i + 1) 0)) where
-    pub marked_no : not r ≡ true → well_marked (drop i a) ≡ false
-    unfolding well_marked column_marked
-    marked_no n = rw (two_more, ← e, not-true r n)
+-- pair by pair
+abbrev pub pair_column : List ℕ → Column
+pair_column p = column_of (get_or p 0 0) (get_or p 1 0)
 
-    pub marked_on : not r ≡ false → well_marked (drop i a) ≡ well_marked (drop (i + 2) a)
-    unfolding well_marked column_marked
-    marked_on n = rw (two_more, ← e, not-false r n)
+pub pairs_query : (a : List ℕ) → map pair_column (rows 2 (length a / 2) a) ≡ query_of a
+unfolding query_of rows
+pairs_query [] = refl
+pairs_query (x ∷ []) = refl
+pairs_query (x ∷ y ∷ a) =
+    let e : suc (suc (length a)) / 2 ≡ suc (length a / 2) = omega arith in
+    rw (e, pairs_query a)
 
-pub marked_end : (a : List ℕ) (i : ℕ) → length a ≤ i → well_marked (drop i a) ≡ true
-unfolding well_marked
-marked_end a i h = rw (drop_of_length-le a h)
+pub length_query : (a : List ℕ) → length (query_of a) ≡ length a / 2
+length_query a = ap length (sym (pairs_query a)) ∙ length-map (rows 2 (length a / 2) a) pair_column ∙ length_rows 2 (length a / 2) a
 
-pub query_short : (k : ℕ) (a : List ℕ) → (length a ≡ 2 * k → ⊥) → false ≡ is_query (shape_of k) a
-unfolding is_query
-query_short k a n = rw (ne_eqb (length a) (2 * k) n)
-
-pub query_marked : (k : ℕ) (a : List ℕ) (r : Bool) → length a ≡ 2 * k → r ≡ well_marked a → r ≡ is_query (shape_of k) a
-unfolding is_query
-query_marked k a r e w = rw (eq-eqb (length a) (2 * k) e) w
-
-pub record Arriving (a : List ℕ) (cols : List Column) (i from : ℕ) : Type 0 where
-  pub place : from ≡ 2 * i
-  pub within : from ≤ length a
-  pub rest : drop i (query_of a) ≡ query_of (drop from a)
-  pub fill : Filled 4 Wildcard (query_of a) i cols
-
-pub arriving_none : (a : List ℕ) → Arriving a (replicate 4 Wildcard) 0 0
-arriving_none a = record { place = refl; within = omega arith; rest = refl; fill = fill_none 4 Wildcard (query_of a) }
-
-pub arriving_more : (a : List ℕ) (cols : List Column) (i from : ℕ) (col : Column) → Arriving a cols i from → col ≡ column_of (get_or a from 0) (get_or a (from + 1) 0)
-    → length a ≤ 8 → from + 1 < length a → Arriving a (set cols i col) (i + 1) (from + 2)
-unfolding query_of
-arriving_more a cols i from col t e l h =
-    let w : from < length a = omega arith in
-    let o : from + 1 ≡ length a → ⊥ = λ x. omega arith in
-    let b : i < 4 = omega (arith, t.place) in
-    let f : drop i (query_of a) ≡ col ∷ query_of (drop (from + 2) a) = t.rest ∙ ap query_of (two_more a from w o) ∙ rw (e) in
-    record { place = omega (arith, t.place); within = omega arith; rest = next_rest _ i _ _ f; fill = fill_more 4 Wildcard _ i _ _ _ t.fill f b }
+-- one pair more
+pub pair_more : (a : List ℕ) (cols : Query) (n i : ℕ) (p : List ℕ) (col : Column) → Filled 4 Wildcard (query_of a) n cols
+    → (n < length (rows 2 (length a / 2) a)) × (i ≡ n) × (p ≡ get_or (rows 2 (length a / 2) a) n p) → col ≡ pair_column p → length a ≤ 8 → Filled 4 Wildcard (query_of a) (n + 1) (set cols i col)
+pair_more a cols n i p col f t e h =
+    let l : n < length a / 2 = omega (arith, length_rows 2 (length a / 2) a) in
+    let x : col ≡ get_or (query_of a) n col =
+    e ∙ ap pair_column t.2 ∙ sym (get_d_map pair_column (rows 2 (length a / 2) a) n col p t.0) ∙ ap (λ (q : Query). get_or q n col) (pairs_query a) in
+    rw t.1 (fill_at 4 Wildcard (query_of a) n cols col f (omega (arith, length_query a)) x (omega arith))
 
 -- fewer than two numbers hold no column
 pub none_left : (a : List ℕ) → length a < 2 → query_of a ≡ []
@@ -102,12 +71,6 @@ unfolding query_of
 none_left [] h = refl
 none_left (x ∷ []) h = refl
 none_left (x ∷ y ∷ a) h = absurd (omega arith)
-
-pub arriving_all : (a : List ℕ) (cols : List Column) (i from : ℕ) → Arriving a cols i from → length a ≤ from + 1 → cols ≡ four (query_of a)
-unfolding four
-arriving_all a cols i from t h =
-    let w : length (drop from a) < 2 = simp length-drop (omega arith) in
-    fill_all 4 Wildcard _ i _ t.fill (t.rest ∙ none_left (drop from a) w)
 
 -- ---- For callers: from the four columns back to the query
 pub four_back : (k : ℕ) (q : Query) → length q ≡ k → take k (four q) ≡ q

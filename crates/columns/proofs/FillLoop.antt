@@ -1,6 +1,6 @@
 -- An array that is filled from the front: the first i of q, and z behind them. Every loop here that makes an array has one
 -- turn law (`fill_more`) and one end law (`fill_all`) from this file. Leans on the library's lists alone. Assumes nothing.
-use Rattle.std.proofs.Common.{◌≡◌, ℕ, zero, suc, ◌+◌, ◌-◌, ◌<◌, ◌≤◌, List, [], ◌∷◌, ◌++◌, map, length, get_or, take, drop, set, replicate, refl, ap, append_assoc, add-one, arith, length-drop, length-take-le, take_all, drop-cons, take-suc}
+use Rattle.std.proofs.Common.{◌≡◌, ℕ, zero, suc, ◌+◌, ◌-◌, ◌<◌, ◌≤◌, List, [], ◌∷◌, ◌++◌, map, length, get_or, take, drop, set, replicate, sym, refl, ap, ◌∙◌, append_assoc, add-one, arith, length-drop, length-take-le, take_all, take_at, drop_of_length-le, drop-cons, take-suc}
 use native.Mathlib.Nat.{sub-zero}
 use lib.Seq.{set_at}
 
@@ -43,3 +43,14 @@ module _ {A : Type 0} where
   fill_all n z q i s f e =
       let j : i ≡ length q = omega (arith, length-drop i q, ap length e, f.within) in
       rw (f.held, j, take_all (length q) q (omega arith))
+
+  -- the same where q is known, and where it ends
+  pub fill_at : (n : ℕ) (z : A) (q : List A) (i : ℕ) (s : List A) (x : A) → Filled n z q i s → i < length q → x ≡ get_or q i x → i < n → Filled n z q (i + 1) (set s i x)
+  fill_at n z q i s x f w e h = fill_more n z q i s x (drop (suc i) q) f (drop-cons q i x w ∙ ap (λ (y : A). y ∷ drop (suc i) q) (sym e)) h
+
+  pub fill_end : (n : ℕ) (z : A) (q : List A) (i : ℕ) (s : List A) → Filled n z q i s → length q ≤ i → s ≡ q ++ replicate (n - length q) z
+  fill_end n z q i s f h = fill_all n z q i s f (drop_of_length-le q h)
+
+  -- and of the array what is q's
+  pub fill_front : (n : ℕ) (z : A) (q : List A) (i : ℕ) (s : List A) → Filled n z q i s → (k : ℕ) → length q ≡ k → k ≤ i → take k s ≡ q
+  fill_front n z q i s f k e h = ap (take k) (fill_end n z q i s f (omega arith)) ∙ take_at q (replicate (n - length q) z) k e

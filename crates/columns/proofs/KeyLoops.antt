@@ -1,11 +1,12 @@
 -- Laws on marks, values and keys, over plain lists. Leans on FillLoop and ColumnLoops. Assumes nothing.
-use Rattle.std.proofs.Common.{◌≡◌, ℕ, zero, suc, ◌+◌, ◌-◌, ◌*◌, ◌/◌, ◌%◌, ◌^◌, ◌<◌, ◌≤◌, Bool, true, false, not, ◌&&◌, ◌||◌, eqb, ltb, List, [], ◌∷◌, ◌++◌, map, length, get_or, take, drop, set, replicate, sym, refl, ap, ◌∙◌, div-one, add-one, arith, length-drop, drop_of_length-le, length-take, get_or-drop, drop-cons, drop-drop, ltb-true, le-ltb, lt-ltb, eq-eqb, ne_eqb, eqb-true}
+use Rattle.std.proofs.Common.{◌≡◌, ℕ, zero, suc, ◌+◌, ◌-◌, ◌*◌, ◌/◌, ◌%◌, ◌^◌, ◌<◌, ◌≤◌, Bool, true, false, not, ◌&&◌, ◌||◌, eqb, ltb, List, [], ◌∷◌, ◌++◌, map, reverse, length, get_or, take, drop, set, replicate, Bor, sym, refl, ap, ◌∙◌, div-one, add-one, arith, drop_of_length-le, get_or-drop, drop-cons, drop-drop, ltb-true, le-ltb, lt-ltb, eq-eqb, ne_eqb, eqb-true, leb}
 use mathlib.Core.Bool.{or-true}
 use native.Mathlib.Nat.{pow-succ', sub-zero, div-div-eq-div-mul}
 use lib.ListN.{length-map}
-use borrow.Author.Tests.{not-true, not-false}
+use Rattle.std.proofs.lemmas.List.{map-append, reverse-append}
 use Rattle.lists.specs.Lists.{padded, same}
-use Rattle.laws.proofs.ListLaws.{length_padded}
+use Rattle.laws.proofs.ListLaws.{length_padded, get_d_map, and_left}
+use Rattle.std.proofs.lemmas.Bool.Decides.{nat_tests}
 use Rattle.laws.proofs.TestLaws.{same_test}
 use Rattle.query.specs.declared.Column.{Column}
 use Rattle.query.specs.declared.Column.TheVariants.{Is, Wildcard}
@@ -16,10 +17,8 @@ use Rattle.query.specs.Encoding.{column_of, column_value, marks, columns_in, que
 use Rattle.query.specs.Range.{is_ranged, is_named, is_range, is_reversed}
 use Rattle.query.specs.Shape.{Shape, shape_of}
 use Rattle.query.proofs.EncodingLaws.{columns_length}
-use Rattle.columns.specs.ColumnContracts.{four}
 use Rattle.columns.specs.KeyContracts.{mark_of, keeps, zero_under, query_width}
-use Rattle.columns.proofs.FillLoop.{Filled, next_rest, fill_none, fill_more, fill_all, drop_map}
-use Rattle.columns.proofs.ColumnLoops.{at_place, past_all}
+use Rattle.columns.proofs.FillLoop.{Filled, next_rest, fill_none, fill_more, fill_at, fill_end, fill_front}
 
 -- ---- Marks
 pub mark_most : (c : Column) → mark_of c ≤ 1
@@ -46,30 +45,14 @@ marks_most n [] h = omega arith
 marks_most zero (c ∷ q) h = absurd (omega arith)
 marks_most (suc n) (c ∷ q) h = rw marks_cons (omega (arith, mark_most c, marks_most n q (omega arith)))
 
-pub marks_four : (k i : ℕ) (cols : List Column) → k ≤ 4 → marks (drop i (take k cols)) ≤ 15
+-- a loop that goes from the last column to the first: t are those that it has met, in their own order
+pub marks_more : (t : List (Bor Column)) (x : Bor Column) (m r : ℕ) → m ≡ marks (reverse (map (λ y. y.now) t)) → r ≡ mark_of x.now
+    → r + 2 * m ≡ marks (reverse (map (λ y. y.now) (t ++ (x ∷ []))))
+marks_more t x m r e f = rw (map-append, reverse-append, marks_cons, e, f)
+
+pub marks_row : (t : Query) → length t ≤ 4 → marks t ≤ 15
 unfolding ones
-marks_four k i cols h =
-    let l : length (drop i (take k cols)) ≤ 4 = simp (length-drop, length-take) (omega arith) in
-    marks_most 4 (drop i (take k cols)) l
-
--- a loop that goes down from k: what it has of the columns from i on, with the column before
-module _ (z : Column) (cols : List Column) (k i : ℕ) (h : 0 < i) (b : i ≤ k) (l : k ≤ length cols) where
-  before : drop (i - 1) (take k cols) ≡ get_or cols (i - 1) z ∷ drop i (take k cols)
-  before =
-      let e : i - 1 + 1 ≡ i = omega arith in
-      let w : i - 1 < k = omega arith in
-      rw e at (at_place z cols k (i - 1) w l)
-
-  pub marks_more : (m r : ℕ) → m ≡ marks (drop i (take k cols)) → r ≡ mark_of (get_or cols (i - 1) z) → r + 2 * m ≡ marks (drop (i - 1) (take k cols))
-  marks_more m r e f = rw (before, marks_cons, e, f)
-
-pub marks_none : (cols : List Column) (k : ℕ) → 0 ≡ marks (drop k (take k cols))
-unfolding marks
-marks_none cols k = rw (past_all cols k k (omega arith))
-
-pub down_all : (f : Query → ℕ) (q : Query) (i n : ℕ) → n ≡ f (drop i q) → i ≤ 0 → n ≡ f q
-down_all f q zero n e h = e
-down_all f q (suc i) n e h = absurd (omega arith)
+marks_row t h = marks_most 4 t h
 
 -- ---- Columns from marks and values
 pub record Reading (k marks : ℕ) (values : List ℕ) (cols : List Column) (left i : ℕ) : Type 0 where
@@ -90,53 +73,33 @@ reading_more k m values cols left i col t e h b =
     t.rest ∙ rw (d, get_or-drop i values 0 0, z, drop-drop 1 i values, e) in
     record { within = omega arith; rest = next_rest _ i _ _ f; fill = fill_more 4 Wildcard _ i _ _ _ t.fill f (omega arith) }
 
-pub reading_all : (k m : ℕ) (values : List ℕ) (cols : List Column) (left i : ℕ) → Reading k m values cols left i → k ≤ i → cols ≡ four (columns_in k m values)
-unfolding four columns_in
-reading_all k m values cols left i t h =
-    let d : k - i ≡ 0 = omega arith in
-    fill_all 4 Wildcard _ i _ t.fill (t.rest ∙ rw d)
+pub reading_all : (k m : ℕ) (values : List ℕ) (cols : List Column) (left i : ℕ) → Reading k m values cols left i → k ≤ i → take k cols ≡ columns_in k m values
+reading_all k m values cols left i t h = fill_front 4 Wildcard (columns_in k m values) i cols t.fill k (columns_length k m values) h
 
 -- ---- Keys
--- a word before the values of q
-pub record Keying (q : Query) (i : ℕ) (key : List ℕ) : Type 0 where
-  pub fill : Filled 7 0 (marks q ∷ map column_value q) (i + 1) key
-
-pub keying_none : (q : Query) (m : ℕ) → m ≡ marks q → Keying q 0 (set (replicate 7 0) 0 m)
+-- the values of the first i columns behind the marks
+pub keying_none : (q : Query) (m : ℕ) → m ≡ marks q → Filled 7 0 (marks q ∷ map column_value q) 1 (set (replicate 7 0) 0 m)
 keying_none q m e =
     let l : List ℕ = marks q ∷ map column_value q in
-    record { fill = rw e (fill_more 7 0 l 0 (replicate 7 0) (marks q) (map column_value q) (fill_none 7 0 l) refl (omega arith)) }
+    rw e (fill_more 7 0 l 0 (replicate 7 0) (marks q) (map column_value q) (fill_none 7 0 l) refl (omega arith))
 
-pub keying_more : (z : Column) (cols : List Column) (k i : ℕ) (key : List ℕ) (v : ℕ) → Keying (take k cols) i key → v ≡ column_value (get_or cols i z) → i < k
-    → k ≤ length cols → k ≤ 4 → Keying (take k cols) (i + 1) (set key (i + 1) v)
-keying_more z cols k i key v t e h l b =
-    let a : drop (i + 1) (marks (take k cols) ∷ map column_value (take k cols)) ≡ v ∷ map column_value (drop (i + 1) (take k cols)) =
-    rw (add-one i, drop_map column_value i (take k cols), at_place z cols k i h l, e, add-one i) in
-    record { fill = fill_more 7 0 _ (i + 1) _ _ _ t.fill a (omega arith) }
+pub keying_more : (q : Query) (i : ℕ) (key : List ℕ) (z : Column) (v : ℕ) → Filled 7 0 (marks q ∷ map column_value q) (i + 1) key → v ≡ column_value (get_or q i z) → i < length q
+    → length q ≤ 4 → Filled 7 0 (marks q ∷ map column_value q) (i + 1 + 1) (set key (i + 1) v)
+keying_more q i key z v t e l b =
+    let n : length (map column_value q) ≡ length q = length-map q column_value in
+    fill_at 7 0 _ (i + 1) key v t (omega arith) (rw add-one (e ∙ sym (get_d_map column_value q i v z l))) (omega arith)
 
-pub keying_all : (cols : List Column) (k i : ℕ) (key : List ℕ) → Keying (take k cols) i key → k ≤ i → key ≡ key_words (take k cols)
+pub keying_all : (q : Query) (i : ℕ) (key : List ℕ) → Filled 7 0 (marks q ∷ map column_value q) (i + 1) key → length q ≤ i → key ≡ key_words q
 unfolding key_words padded
-keying_all cols k i key t h =
-    let a : drop (i + 1) (marks (take k cols) ∷ map column_value (take k cols)) ≡ [] = rw (add-one i, drop_map column_value i (take k cols), past_all cols k i h) in
-    let s : 7 - suc (length (map column_value (take k cols))) ≡ 6 - length (map column_value (take k cols)) = omega arith in
-    fill_all 7 0 _ (i + 1) _ t.fill a ∙ rw s
+keying_all q i key t h =
+    let n : length (map column_value q) ≡ length q = length-map q column_value in
+    let s : 7 - suc (length (map column_value q)) ≡ 6 - length (map column_value q) = omega arith in
+    fill_end 7 0 _ (i + 1) _ t (omega arith) ∙ rw s
 
 -- ---- No value without a mark
-pub keeps_marked : (m v : ℕ) → m % 2 ≡ 1 → true ≡ keeps m v
-unfolding keeps
-keeps_marked m v e = rw e
-
-pub keeps_unmarked : (m v : ℕ) → (m % 2 ≡ 1 → ⊥) → eqb v 0 ≡ keeps m v
-unfolding keeps
-keeps_unmarked m v n = rw (ne_eqb (m % 2) 1 n)
-
-module _ (values : List ℕ) (left i : ℕ) (h : i < length values) (r : Bool) (e : r ≡ keeps left (get_or values i 0)) where
-  pub under_no : not r ≡ true → zero_under left (drop i values) ≡ false
-  unfolding zero_under
-  under_no n = rw (drop-cons values i 0 h, ← e, not-true r n)
-
-  pub under_on : not r ≡ false → zero_under left (drop i values) ≡ zero_under (left / 2) (drop (i + 1) values)
-  unfolding zero_under
-  under_on n = rw (add-one, drop-cons values i 0 h, ← e, not-false r n)
+pub under_more : (values : List ℕ) (left i : ℕ) → i < length values → zero_under left (drop i values) ≡ keeps left (get_or values i 0) && zero_under (left / 2) (drop (i + 1) values)
+unfolding zero_under
+under_more values left i h = rw (add-one, drop-cons values i 0 h)
 
 pub under_end : (values : List ℕ) (left i : ℕ) → length values ≤ i → zero_under left (drop i values) ≡ true
 unfolding zero_under
@@ -204,15 +167,13 @@ unfolding zero_under
 under_padded m n [] = zeros_pass m n
 under_padded m n (v ∷ vs) = rw (under_padded (m / 2) n vs)
 
-key_padded : (k m : ℕ) (vs : List ℕ) → k ≤ 4 → length vs ≤ 6 → is_key (shape_of k) (m ∷ padded 6 vs) ≡ (ltb m (2 ^ k) && zero_under m vs)
+pub key_padded : (k m : ℕ) (vs : List ℕ) → k ≤ 4 → length vs ≤ 6 → is_key (shape_of k) (m ∷ padded 6 vs) ≡ (ltb m (2 ^ k) && zero_under m vs)
 unfolding padded
 key_padded k m vs b h = key_whole k (m ∷ padded 6 vs) b (let z = length_padded 6 vs h in omega arith) ∙ rw (under_padded m (6 - length vs) vs)
 
-pub key_high : (k p m : ℕ) (vs : List ℕ) → p ≡ 2 ^ k → k ≤ 4 → length vs ≤ 6 → p ≤ m → false ≡ is_key (shape_of k) (m ∷ padded 6 vs)
-key_high k p m vs e b h l = rw (key_padded k m vs b h, ← e, le-ltb m p l)
-
-pub key_low : (k p m : ℕ) (vs : List ℕ) (r : Bool) → p ≡ 2 ^ k → k ≤ 4 → length vs ≤ 6 → m < p → r ≡ zero_under m vs → r ≡ is_key (shape_of k) (m ∷ padded 6 vs)
-key_low k p m vs r e b h l z = rw (key_padded k m vs b h, ← e, lt-ltb m p l) z
+-- a key's marks are those of its columns
+pub key_fits : (k m : ℕ) (vs : List ℕ) → k ≤ 4 → length vs ≤ 6 → true ≡ is_key (shape_of k) (m ∷ padded 6 vs) → m < 2 ^ k
+key_fits k m vs b h e = ltb-true m (2 ^ k) (and_left _ _ (sym (key_padded k m vs b h) ∙ sym e))
 
 -- ---- What is wanted, and the range
 unranged_first : (g : Range) (m : ℕ) (vs : List ℕ) → get_or (unranged g (m ∷ vs)) 0 0 ≡ m
@@ -239,46 +200,28 @@ named_bit (suc k) m (suc c) vs h =
     rw e (named_bit k (m / 2) c (drop 1 vs) (omega arith))
 
 -- the key of a read: its first number without a range
-pub first_small : (cols : List Column) (k : ℕ) (key : List ℕ) → key ≡ key_words (take k cols) → k ≤ 4 → get_or key 0 0 ≤ 15
+pub first_small : (q : Query) (key : List ℕ) → key ≡ key_words q → length q ≤ 4 → get_or key 0 0 < count_bit
 unfolding key_words
-first_small cols k key e h = rw e (marks_four k 0 cols h)
+first_small q key e h = rw e (let z = marks_row q h in omega arith)
 
--- with a count it is below what a range adds, and without
-module _ (cols : List Column) (k : ℕ) (key : List ℕ) (e : key ≡ key_words (take k cols)) where
-  pub count_low : k ≤ 4 → (now : List ℕ) → now ≡ set key 0 (get_or key 0 0 + count_bit) → get_or now 0 0 < range_unit
-  unfolding key_words
-  count_low h now n = rw (n, e) (let z = marks_four k 0 cols h in omega arith)
+-- with a count it is below what a range adds
+pub count_low : (key now : List ℕ) → get_or key 0 0 < count_bit → now ≡ set key 0 (get_or key 0 0 + count_bit) → get_or now 0 0 < range_unit
+count_low [] now h e = rw e (omega arith)
+count_low (x ∷ key) now h e = rw e (omega arith)
 
-  pub list_low : k ≤ 4 → (now : List ℕ) → now ≡ key → get_or now 0 0 < range_unit
-  unfolding key_words
-  list_low h now n = rw (n, e) (let z = marks_four k 0 cols h in omega arith)
-
-  pub count_wanted : (counts : Bool) (g : Range) → counts ≡ true → {now : List ℕ} → now ≡ set key 0 (get_or key 0 0 + count_bit) → range_key g now ≡ wanted_key counts g (key_words (take k cols))
+module _ (counts : Bool) (g : Range) (key now : List ℕ) where
+  pub count_wanted : counts ≡ true → now ≡ set key 0 (get_or key 0 0 + count_bit) → range_key g now ≡ wanted_key counts g key
   unfolding wanted_key count_key
-  count_wanted counts g c n = rw (c, n, e)
+  count_wanted c n = rw (c, n)
 
-  pub list_wanted : (counts : Bool) (g : Range) → counts ≡ false → {now : List ℕ} → now ≡ key → range_key g now ≡ wanted_key counts g (key_words (take k cols))
+  pub list_wanted : counts ≡ false → now ≡ key → range_key g now ≡ wanted_key counts g key
   unfolding wanted_key
-  list_wanted counts g c n = rw (c, n, e)
+  list_wanted c n = rw (c, n)
 
 -- ---- A range that a begin would turn down, test by test
-pub no_range : (sh : Shape) (q : Query) (g : Range) → g ≡ None → false ≡ not (is_range sh q g) || is_reversed g
+pub range_tests : (sh : Shape) (q : Query) (c l h : ℕ) → not (is_range sh q (Between c l h)) || is_reversed (Between c l h) ≡ (leb sh.columns c || (is_named (get_or q c Wildcard) || ltb h l))
 unfolding is_range is_reversed
-no_range sh q g e = rw e
-
-module _ (sh : Shape) (q : Query) (g : Range) (c l h : ℕ) (e : g ≡ Between c l h) where
-  pub range_past : sh.columns ≤ c → true ≡ not (is_range sh q g) || is_reversed g
-  unfolding is_range is_reversed
-  range_past k = rw (e, le-ltb c sh.columns k)
-
-  module _ (k : c < sh.columns) (r : Bool) (n : r ≡ is_named (get_or q c Wildcard)) where
-    pub range_named : r ≡ true → true ≡ not (is_range sh q g) || is_reversed g
-    unfolding is_range is_reversed
-    range_named t = rw (e, lt-ltb c sh.columns k, ← n, t)
-
-    pub range_ends : r ≡ false → ltb h l ≡ not (is_range sh q g) || is_reversed g
-    unfolding is_range is_reversed
-    range_ends t = rw (e, lt-ltb c sh.columns k, ← n, t)
+range_tests sh q c l h = grind (arith, nat_tests)
 
 -- the numbers of a key that are its query's
 pub query_few : (g : Range) (n : ℕ) → n ≡ query_width g → n ≤ 6

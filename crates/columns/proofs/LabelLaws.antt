@@ -1,6 +1,6 @@
 -- Laws on the labels of nodes, over plain lists: what the sheet and a node's number say of each column, and a label in five numbers,
 -- made of all columns at once by bits. Leans on KeyLoops and MarkLaws. Assumes nothing.
-use Rattle.std.proofs.Common.{◌≡◌, ℕ, zero, suc, ◌+◌, ◌-◌, ◌*◌, ◌/◌, ◌%◌, ◌^◌, ◌<◌, ◌≤◌, min, Bool, true, false, cond, eqb, List, [], ◌∷◌, ◌++◌, map, length, get_or, drop, replicate, sym, refl, ap, ◌∙◌, mod-lt, arith, pow_pos, lt-ltb}
+use Rattle.std.proofs.Common.{◌≡◌, ℕ, zero, suc, ◌+◌, ◌-◌, ◌*◌, ◌/◌, ◌%◌, ◌^◌, ◌<◌, ◌≤◌, min, List, [], ◌∷◌, ◌++◌, map, length, get_or, drop, replicate, sym, refl, ap, ◌∙◌, mod-lt, arith, pow_pos, lt-ltb}
 use native.Mathlib.Nat.{sub-zero, pow-succ', min-le_left}
 use lib.Bits.{bit_and, and_step, and_mask, mask_lt, and_le_l}
 use lib.ListN.{length-map}
@@ -13,9 +13,13 @@ use Rattle.query.specs.Encoding.{column_of, column_value, columns_in, marks, tag
 use Rattle.query.proofs.Choice.{pick_even, pick_same}
 use Rattle.query.proofs.NodeLists.{read_count_most}
 use Rattle.query.proofs.EncodingLaws.{columns_length}
-use Rattle.columns.specs.LabelContracts.{term_of, changed_term, changed_node, spread}
+use Rattle.columns.specs.LabelContracts.{turned_term, changed_term, changed_node, spread}
+use Rattle.columns.specs.declared.labels.Turned.{Turned}
+use Rattle.columns.specs.declared.marked.Marked.{Marked}
+use Rattle.columns.specs.MarkedContracts.{marked_query}
+use Rattle.columns.specs.declared.labels.Turned.TheVariants as turned
 use Rattle.columns.proofs.KeyLoops.{ones, marks_most}
-use Rattle.columns.proofs.MarkLaws.{low_half, marks_in, columns_cut}
+use Rattle.columns.proofs.MarkLaws.{low_half, marks_in, four_at}
 
 -- ---- A write's node: its number's bits say which columns change
 pub write_node_law : (q : Query) (n : ℕ) → write_node q n ≡ changed_node wildcard q n
@@ -86,19 +90,14 @@ unfolding sheet_entry ones
 read_node_law q look h l = rw (looks_count 4 q h, lt-ltb look (read_count q) l) (turned_node 4 q look h)
 
 -- the same in the terms of the code, by marks and values
-pub look_small : (k m look : ℕ) (vs : List ℕ) → k ≤ 4 → look < read_count (columns_in k m vs) → look < 16
-look_small k m look vs h l = omega (arith, read_count_most (columns_in k m vs) (omega (arith, columns_length k m vs)))
+pub look_small : (q : Marked) (look : ℕ) → look < read_count (marked_query q) → look < 16
+look_small q look l = let z = q.few in omega (arith, read_count_most (marked_query q) (omega (arith, columns_length q.k q.marks q.values)))
 
-pub read_words : (k m look t : ℕ) (vs : List ℕ) (r : List ℕ) → r ≡ label_words (changed_node (term_of 3) (columns_in k m vs) t) → t ≡ sheet_entry (15 - m) look
-    → k ≤ 4 → m < 2 ^ k → look < read_count (columns_in k m vs) → r ≡ label_words (read_node (columns_in k m vs) look)
-unfolding term_of
-read_words k m look t vs r e f h b l =
-    let w : length (columns_in k m vs) ≤ 4 = omega (arith, columns_length k m vs) in
-    rw (read_node_law (columns_in k m vs) look w l, marks_in k m vs b, ← f) e
-
-pub write_words : (q : Query) (n : ℕ) (r : List ℕ) → r ≡ label_words (changed_node (term_of 2) q n) → r ≡ label_words (write_node q n)
-unfolding term_of
-write_words q n r e = rw (write_node_law q n) e
+pub read_words : (q : Marked) (look t : ℕ) (r : List ℕ) → r ≡ label_words (changed_node (turned_term turned.Any) (marked_query q) t) → t ≡ sheet_entry (15 - q.marks) look
+    → look < read_count (marked_query q) → r ≡ label_words (read_node (marked_query q) look)
+read_words q look t r e f l =
+    let w : length (marked_query q) ≤ 4 = (let z = q.few in omega (arith, columns_length q.k q.marks q.values)) in
+    rw (read_node_law (marked_query q) look w l, marks_in q.k q.marks q.values q.fit, ← f) e
 
 -- ---- Which columns change
 -- a column changes by the lowest bit alone
@@ -128,16 +127,20 @@ two_bits P w x y z (suc zero) (suc (suc b)) h l = absurd (omega arith)
 two_bits P w x y z (suc (suc a)) b h l = absurd (omega arith)
 
 -- ---- The tags, all at once
--- of a column with the mark a and the bit b: 2, less 1 if it names a value, and 1 more if it changes; e more if both
-module _ (v n : ℕ) where
-  abbrev TagOf : ℕ → ℕ → ℕ → Type 0
-  TagOf e a b = n % 2 ≡ b → tag (changed_term (term_of (2 + e)) (column_of a v) n) + a ≡ 2 + b + e * min a b
+-- what a value that turns adds to the tag 2
+abbrev pub added : Turned → ℕ
+added turned.Wildcard = 0
+added turned.Any = 1
 
-  column_tag : (e a b : ℕ) → e < 2 → a < 2 → b < 2 → TagOf e a b
-  unfolding changed_term column_of pick term_of tag
-  column_tag zero a b he ha hb = two_bits (TagOf 0) (λ f. rw f) (λ f. rw f) (λ f. rw f) (λ f. rw f) a b ha hb
-  column_tag (suc zero) a b he ha hb = two_bits (TagOf 1) (λ f. rw f) (λ f. rw f) (λ f. rw f) (λ f. rw f) a b ha hb
-  column_tag (suc (suc e)) a b he ha hb = absurd (omega arith)
+-- of a column with the mark a and the bit b: 2, less 1 if it names a value, and 1 more if it changes; more yet if both
+module _ (v n : ℕ) where
+  abbrev TagOf : Turned → ℕ → ℕ → Type 0
+  TagOf to a b = n % 2 ≡ b → tag (changed_term (turned_term to) (column_of a v) n) + a ≡ 2 + b + added to * min a b
+
+  column_tag : (to : Turned) (a b : ℕ) → a < 2 → b < 2 → TagOf to a b
+  unfolding changed_term column_of pick tag
+  column_tag turned.Wildcard a b ha hb = two_bits (TagOf turned.Wildcard) (λ f. rw f) (λ f. rw f) (λ f. rw f) (λ f. rw f) a b ha hb
+  column_tag turned.Any a b ha hb = two_bits (TagOf turned.Any) (λ f. rw f) (λ f. rw f) (λ f. rw f) (λ f. rw f) a b ha hb
 
 spread_none : (n : ℕ) → spread n 0 ≡ 0
 unfolding spread
@@ -163,43 +166,43 @@ module _ (a b : ℕ) where
   common_half = omega (arith, and_step a b, common_most (a % 2) (b % 2) (omega arith))
 
 -- so of all columns, each in its byte
-tags_all : (e n k m b : ℕ) (vs : List ℕ) → e < 2 → k ≤ n → m < 2 ^ k → b < 2 ^ k
-    → tags (changed_node (term_of (2 + e)) (columns_in k m vs) b) + spread n m ≡ 2 * spread n (2 ^ k - 1) + spread n b + e * spread n (bit_and m b)
+tags_all : (to : Turned) (n k m b : ℕ) (vs : List ℕ) → k ≤ n → m < 2 ^ k → b < 2 ^ k
+    → tags (changed_node (turned_term to) (columns_in k m vs) b) + spread n m ≡ 2 * spread n (2 ^ k - 1) + spread n b + added to * spread n (bit_and m b)
 unfolding changed_node columns_in tags spread
-tags_all e n zero m b vs he h hm hb =
+tags_all to n zero m b vs h hm hb =
     let x : m ≡ 0 = omega arith in
     let y : b ≡ 0 = omega arith in
     rw (x, y, spread_none n) (omega arith)
-tags_all e zero (suc k) m b vs he h hm hb = absurd (omega arith)
-tags_all e (suc n) (suc k) m b vs he h hm hb =
+tags_all to zero (suc k) m b vs h hm hb = absurd (omega arith)
+tags_all to (suc n) (suc k) m b vs h hm hb =
     let lm : m / 2 < 2 ^ k = omega (arith, pow-succ' 2 k) in
     let lb : b / 2 < 2 ^ k = omega (arith, pow-succ' 2 k) in
-    let i = tags_all e n k (m / 2) (b / 2) (drop 1 vs) he (omega arith) lm lb in
-    let t = column_tag (get_or vs 0 0) b e (m % 2) (b % 2) he (omega arith) (omega arith) refl in
+    let i = tags_all to n k (m / 2) (b / 2) (drop 1 vs) (omega arith) lm lb in
+    let t = column_tag (get_or vs 0 0) b to (m % 2) (b % 2) (omega arith) (omega arith) refl in
     rw (ones_bit k, ones_half k, common_bit m b, common_half m b) (omega (arith, i, t))
 
 -- ---- The values, all at once
-to_value : (x : Bool) → term_value (cond x wildcard any) ≡ 0
+turned_value : (to : Turned) → term_value (turned_term to) ≡ 0
 unfolding term_value
-to_value true = refl
-to_value false = refl
+turned_value turned.Wildcard = refl
+turned_value turned.Any = refl
 
 -- a value stays where it is named and does not change
-module _ (to v n : ℕ) where
+module _ (to : Turned) (v n : ℕ) where
   abbrev ValueOf : ℕ → ℕ → Type 0
-  ValueOf a b = n % 2 ≡ b → term_value (changed_term (term_of to) (column_of a v) n) ≡ column_value (column_of (a - min a b) v)
+  ValueOf a b = n % 2 ≡ b → term_value (changed_term (turned_term to) (column_of a v) n) ≡ column_value (column_of (a - min a b) v)
 
   column_value_law : (a b : ℕ) → a < 2 → b < 2 → ValueOf a b
-  unfolding changed_term column_of column_value pick term_of term_value
-  column_value_law a b ha hb = two_bits ValueOf (λ f. rw f) (λ f. rw f) (λ f. rw f) (λ f. rw f (to_value (eqb to 2))) a b ha hb
+  unfolding changed_term column_of column_value pick term_value
+  column_value_law a b ha hb = two_bits ValueOf (λ f. rw f) (λ f. rw f) (λ f. rw f) (λ f. rw f (turned_value to)) a b ha hb
 
 none_under : (n : ℕ) (vs : List ℕ) → map column_value (columns_in n 0 vs) ≡ replicate n 0
 unfolding columns_in column_of column_value
 none_under zero vs = refl
 none_under (suc n) vs = rw (none_under n (drop 1 vs))
 
-values_all : (to n k m b : ℕ) (vs : List ℕ) → k ≤ n → m < 2 ^ k → b < 2 ^ k
-    → map term_value (changed_node (term_of to) (columns_in k m vs) b) ++ replicate (n - k) 0 ≡ map column_value (columns_in n (m - bit_and m b) vs)
+values_all : (to : Turned) (n k m b : ℕ) (vs : List ℕ) → k ≤ n → m < 2 ^ k → b < 2 ^ k
+    → map term_value (changed_node (turned_term to) (columns_in k m vs) b) ++ replicate (n - k) 0 ≡ map column_value (columns_in n (m - bit_and m b) vs)
 unfolding changed_node columns_in
 values_all to n zero m b vs h hm hb =
     let x : m ≡ 0 = omega arith in
@@ -215,20 +218,17 @@ values_all to (suc n) (suc k) m b vs h hm hb =
 
 -- ---- A label in five numbers, in the terms of the code
 -- the tags as a sum: d of the columns in use, n of those that name a value, g of those that change, w of those that do both
-pub tag_sum : (k m b to u d n g w : ℕ) (vs : List ℕ) → d ≡ spread 4 u → n ≡ spread 4 m → g ≡ spread 4 b → w ≡ spread 4 (bit_and m b)
-    → u ≡ 2 ^ k - 1 → k ≤ 4 → m < 2 ^ k → b < 2 ^ k → 2 ≤ to → to ≤ 3 → tags (changed_node (term_of to) (columns_in k m vs) b) + n ≡ 2 * d + g + (to - 2) * w
-tag_sum k m b to u d n g w vs ed en eg ew e h hm hb l t =
-    let x : 2 + (to - 2) ≡ to = omega arith in
-    rw (ed, en, eg, ew, e) (rw x at (tags_all (to - 2) 4 k m b vs (omega arith) h hm hb))
+pub tag_sum : (q : Marked) (to : Turned) (b u d n g w : ℕ) → d ≡ spread 4 u → n ≡ spread 4 q.marks → g ≡ spread 4 b → w ≡ spread 4 (bit_and q.marks b)
+    → u ≡ 2 ^ q.k - 1 → b < 2 ^ q.k → tags (changed_node (turned_term to) (marked_query q) b) + n ≡ 2 * d + g + added to * w
+tag_sum q to b u d n g w ed en eg ew e hb = rw (ed, en, eg, ew, e) (tags_all to 4 q.k q.marks b q.values q.few q.fit hb)
 
 pub spread_most : (r x : ℕ) → r ≡ spread 4 x → r ≤ 16843009
 unfolding spread
 spread_most r x e = omega arith
 
-pub scaled : (e x : ℕ) → e ≤ 1 → e * x ≤ x
-scaled zero x h = omega arith
-scaled (suc zero) x h = omega arith
-scaled (suc (suc e)) x h = absurd (omega arith)
+pub added_most : (to : Turned) (x : ℕ) → added to * x ≤ x
+added_most turned.Wildcard x = omega arith
+added_most turned.Any x = omega arith
 
 -- what is cut to k bits
 pub cut_below : (k m u : ℕ) → u ≡ 2 ^ k - 1 → bit_and m u < 2 ^ k
@@ -239,31 +239,20 @@ unfolding changed_node
 node_length t [] n = refl
 node_length t (c ∷ q) n = rw (node_length t q (n / 2))
 
-four_at : (l : List ℕ) → length l ≡ 4 → get_or l 0 0 ∷ get_or l 1 0 ∷ get_or l 2 0 ∷ get_or l 3 0 ∷ [] ≡ l
-four_at [] e = absurd (omega arith)
-four_at (a ∷ []) e = absurd (omega arith)
-four_at (a ∷ b ∷ []) e = absurd (omega arith)
-four_at (a ∷ b ∷ c ∷ []) e = absurd (omega arith)
-four_at (a ∷ b ∷ c ∷ d ∷ []) e = refl
-four_at (a ∷ b ∷ c ∷ d ∷ f ∷ l) e = absurd (omega arith)
-
-pub label_words_law : (k m n to u tg : ℕ) (vs held : List ℕ) → k ≤ 4 → u ≡ 2 ^ k - 1 → tg ≡ tags (changed_node (term_of to) (columns_in k (bit_and m u) vs) (bit_and n u))
-    → held ≡ map column_value (columns_in 4 (bit_and m u - bit_and (bit_and m u) (bit_and n u)) vs)
-    → tg ∷ get_or held 0 0 ∷ get_or held 1 0 ∷ get_or held 2 0 ∷ get_or held 3 0 ∷ [] ≡ label_words (changed_node (term_of to) (columns_in k m vs) n)
+pub label_words_law : (q : Marked) (n u tg : ℕ) (to : Turned) (held : List ℕ) → u ≡ 2 ^ q.k - 1 → tg ≡ tags (changed_node (turned_term to) (marked_query q) (bit_and n u))
+    → held ≡ map column_value (columns_in 4 (q.marks - bit_and q.marks (bit_and n u)) q.values)
+    → tg ∷ get_or held 0 0 ∷ get_or held 1 0 ∷ get_or held 2 0 ∷ get_or held 3 0 ∷ [] ≡ label_words (changed_node (turned_term to) (marked_query q) n)
 unfolding label_words padded
-label_words_law k m n to u tg vs held h e f g =
-    let x : ℕ = m % 2 ^ k in
-    let y : ℕ = n % 2 ^ k in
-    let lx : x < 2 ^ k = mod-lt m (pow_pos k) in
-    let ly : y < 2 ^ k = mod-lt n (pow_pos k) in
-    let a : bit_and m u ≡ x = rw e (and_mask m k) in
-    let b : bit_and n u ≡ y = rw e (and_mask n k) in
-    let q : changed_node (term_of to) (columns_in k x vs) y ≡ changed_node (term_of to) (columns_in k m vs) n =
-    rw (columns_cut k m vs) (node_cut (term_of to) (columns_in k m vs) k n (columns_length k m vs)) in
-    let l : Label = changed_node (term_of to) (columns_in k m vs) n in
-    let w : tg ≡ tags l = f ∙ rw (a, b, q) in
-    let v : held ≡ map term_value l ++ replicate (4 - k) 0 =
-    g ∙ rw (a, b) (sym (values_all to 4 k x y vs h lx ly) ∙ ap (λ (z : Label). map term_value z ++ replicate (4 - k) 0) q) in
-    let d : length (map term_value l) ≡ k = length-map l term_value ∙ node_length (term_of to) (columns_in k m vs) n ∙ columns_length k m vs in
-    let z : length held ≡ 4 = ap length g ∙ length-map (columns_in 4 _ vs) column_value ∙ columns_length 4 _ vs in
+label_words_law q n u tg to held e f g =
+    let y : ℕ = n % 2 ^ q.k in
+    let ly : y < 2 ^ q.k = mod-lt n (pow_pos q.k) in
+    let b : bit_and n u ≡ y = rw e (and_mask n q.k) in
+    let c : changed_node (turned_term to) (marked_query q) y ≡ changed_node (turned_term to) (marked_query q) n =
+    node_cut (turned_term to) (marked_query q) q.k n (columns_length q.k q.marks q.values) in
+    let l : Label = changed_node (turned_term to) (marked_query q) n in
+    let w : tg ≡ tags l = f ∙ rw (b, c) in
+    let v : held ≡ map term_value l ++ replicate (4 - q.k) 0 =
+    g ∙ rw b (sym (values_all to 4 q.k q.marks y q.values q.few q.fit ly) ∙ ap (λ (z : Label). map term_value z ++ replicate (4 - q.k) 0) c) in
+    let d : length (map term_value l) ≡ q.k = length-map l term_value ∙ node_length (turned_term to) (marked_query q) n ∙ columns_length q.k q.marks q.values in
+    let z : length held ≡ 4 = ap length g ∙ length-map (columns_in 4 _ q.values) column_value ∙ columns_length 4 _ q.values in
     ap (λ (t : List ℕ). tg ∷ t) (four_at held z) ∙ rw (w, v, d)

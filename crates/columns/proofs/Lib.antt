@@ -1,6 +1,8 @@
 pub mod TableRule
+pub mod ChunkLaws
 pub mod FillLoop
 pub mod ColumnLoops
+pub mod PairLaws
 pub mod TakeLoop
 pub mod KeyLoops
 pub mod MarkLaws

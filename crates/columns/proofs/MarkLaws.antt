@@ -1,12 +1,13 @@
 -- Laws on the marks of a query as one number: what the columns of marks and values name, by the marks alone, and the values under them.
 -- Leans on KeyLoops and ColumnLoops. Assumes nothing.
-use Rattle.std.proofs.Common.{◌≡◌, ℕ, zero, suc, ◌+◌, ◌-◌, ◌*◌, ◌/◌, ◌%◌, ◌^◌, ◌<◌, ◌≤◌, false, eqb, List, [], ◌∷◌, map, length, get_or, take, drop, refl, ap, ◌∙◌, pow-suc, arith, pow_pos, pow_mono, eq-eqb, ne_eqb, eqb-true}
+use Rattle.std.proofs.Common.{◌≡◌, ℕ, zero, suc, ◌+◌, ◌-◌, ◌*◌, ◌/◌, ◌%◌, ◌^◌, ◌<◌, ◌≤◌, false, eqb, List, [], ◌∷◌, map, length, get_or, take, drop, replicate, length-take-le, ◌++◌, sym, refl, ap, ◌∙◌, pow-suc, arith, pow_pos, pow_mono, eq-eqb, ne_eqb, eqb-true}
 use native.Mathlib.Nat.{pow-succ'}
 use lib.Arith.{mod-mul}
+use Rattle.std.proofs.lemmas.List.{drop-replicate}
 use Rattle.lists.specs.Lists.{padded}
 use Rattle.query.specs.declared.Column.{Column}
 use Rattle.query.specs.declared.Column.TheVariants.{Is, Wildcard}
-use Rattle.query.specs.Query.{Query, named, naming, read_count}
+use Rattle.query.specs.Query.{Query, Record, named, naming, read_count}
 use Rattle.query.specs.Encoding.{column_of, column_value, marks, columns_in, key_words, names_all}
 use Rattle.columns.specs.KeyContracts.{mark_of}
 use Rattle.columns.proofs.ColumnLoops.{names_value, names_wildcard}
@@ -115,38 +116,45 @@ pub under_odd : (m v : ℕ) → (m % 2 ≡ 0 → ⊥) → v ≡ column_value (co
 unfolding column_of column_value
 under_odd m v n = rw (ne_eqb (m % 2) 0 n)
 
+pub four_at : (l : List ℕ) → length l ≡ 4 → get_or l 0 0 ∷ get_or l 1 0 ∷ get_or l 2 0 ∷ get_or l 3 0 ∷ [] ≡ l
+four_at [] e = absurd (omega arith)
+four_at (a ∷ []) e = absurd (omega arith)
+four_at (a ∷ b ∷ []) e = absurd (omega arith)
+four_at (a ∷ b ∷ c ∷ []) e = absurd (omega arith)
+four_at (a ∷ b ∷ c ∷ d ∷ []) e = refl
+four_at (a ∷ b ∷ c ∷ d ∷ f ∷ l) e = absurd (omega arith)
+
 next_at : (vs : List ℕ) (i : ℕ) → get_or (drop 1 vs) i 0 ≡ get_or vs (suc i) 0
 next_at [] i = refl
 next_at (v ∷ vs) i = refl
 
-module _ (m : ℕ) (vs : List ℕ) (a b c d : ℕ) where
-  pub under_four : a ≡ column_value (column_of (m % 2) (get_or vs 0 0)) → b ≡ column_value (column_of (m / 2 % 2) (get_or vs 1 0))
-      → c ≡ column_value (column_of (m / 2 / 2 % 2) (get_or vs 2 0)) → d ≡ column_value (column_of (m / 2 / 2 / 2 % 2) (get_or vs 3 0))
-      → a ∷ b ∷ c ∷ d ∷ [] ≡ map column_value (columns_in 4 m vs)
+module _ (m : ℕ) (vs ys : List ℕ) where
+  pub under_four : length ys ≡ 4 → get_or ys 0 0 ≡ column_value (column_of (m % 2) (get_or vs 0 0)) → get_or ys 1 0 ≡ column_value (column_of (m / 2 % 2) (get_or vs 1 0))
+      → get_or ys 2 0 ≡ column_value (column_of (m / 4 % 2) (get_or vs 2 0)) → get_or ys 3 0 ≡ column_value (column_of (m / 8 % 2) (get_or vs 3 0))
+      → ys ≡ map column_value (columns_in 4 m vs)
   unfolding columns_in
-  under_four e f g h =
+  under_four l e f g h =
       let x : List ℕ = drop 1 vs in
       let y : List ℕ = drop 1 x in
-      rw (next_at vs 0, next_at x 0, next_at vs 1, next_at y 0, next_at x 1, next_at vs 2, e, f, g, h)
+      let a : m / 2 / 2 ≡ m / 4 = omega arith in
+      let b : m / 4 / 2 ≡ m / 8 = omega arith in
+      rw (next_at vs 0, next_at x 0, next_at vs 1, next_at y 0, next_at x 1, next_at vs 2, a, b, ← e, ← f, ← g, ← h) (sym (four_at ys l))
 
--- the key of a record: every column is marked, and every value stays
-record_four : (k a b c d : ℕ) → k ≤ 4
-    → let vs : List ℕ = a ∷ b ∷ c ∷ d ∷ [] in
-    let held : List ℕ = map column_value (columns_in 4 (2 ^ k - 1) vs) in
-    (2 ^ k - 1) ∷ get_or held 0 0 ∷ get_or held 1 0 ∷ get_or held 2 0 ∷ get_or held 3 0 ∷ 0 ∷ 0 ∷ [] ≡ key_words (naming (take k vs))
-unfolding columns_in column_of column_value key_words marks naming padded
-record_four zero a b c d h = refl
-record_four (suc zero) a b c d h = refl
-record_four (suc (suc zero)) a b c d h = refl
-record_four (suc (suc (suc zero))) a b c d h = refl
-record_four (suc (suc (suc (suc zero)))) a b c d h = refl
-record_four (suc (suc (suc (suc (suc k))))) a b c d h = absurd (omega arith)
+-- ---- The key of a record: every column is marked
+marks_all : (r : Record) → marks (naming r) ≡ 2 ^ length r - 1
+unfolding marks naming
+marks_all [] = refl
+marks_all (v ∷ r) = omega (arith, marks_all r, pow-succ' 2 (length r), pow_pos (length r))
 
-pub record_words : (k u : ℕ) (vs held : List ℕ) → k ≤ 4 → u ≡ 2 ^ k - 1 → length vs ≡ 4 → held ≡ map column_value (columns_in 4 u vs)
-    → u ∷ get_or held 0 0 ∷ get_or held 1 0 ∷ get_or held 2 0 ∷ get_or held 3 0 ∷ 0 ∷ 0 ∷ [] ≡ key_words (naming (take k vs))
-record_words k u [] held h e l f = absurd (omega arith)
-record_words k u (a ∷ []) held h e l f = absurd (omega arith)
-record_words k u (a ∷ b ∷ []) held h e l f = absurd (omega arith)
-record_words k u (a ∷ b ∷ c ∷ []) held h e l f = absurd (omega arith)
-record_words k u (a ∷ b ∷ c ∷ d ∷ []) held h e l f = rw (f, e) (record_four k a b c d h)
-record_words k u (a ∷ b ∷ c ∷ d ∷ g ∷ vs) held h e l f = absurd (omega arith)
+values_all : (r : Record) → map column_value (naming r) ≡ r
+unfolding naming column_value
+values_all [] = refl
+values_all (v ∷ r) = ap (λ (x : Record). v ∷ x) (values_all r)
+
+pub record_words : (k u : ℕ) (vs : List ℕ) → length vs ≡ 4 → u ≡ 2 ^ k - 1 → k ≤ 4
+    → u ∷ (take k vs ++ drop (1 + k - 1) (replicate 6 0)) ≡ key_words (naming (take k vs))
+unfolding key_words padded
+record_words k u vs l e h =
+    let r : length (take k vs) ≡ k = length-take-le k vs (omega arith) in
+    let d : 1 + k - 1 ≡ k = omega arith in
+    rw (marks_all (take k vs), values_all (take k vs), r, e, d, drop-replicate {X = ℕ} k 6 0)

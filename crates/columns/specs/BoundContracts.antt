@@ -1,10 +1,11 @@
--- A query and its range as the ranged record test takes them: four shifts, then four limits. Leans on query and ColumnContracts. Definitions
+-- A query and its range as the ranged record test takes them: four shifts and four limits. Leans on query and ColumnContracts. Definitions
 -- only. Assumes nothing.
-use Rattle.std.specs.Prelude.{ℕ, ◌+◌, ◌-◌, ◌%◌, ◌<◌, Bool, true, false, cond, ◌&&◌, ◌||◌, List, [], ◌∷◌, ◌++◌, map, ◌==◌, bit_xor, nat_le, slice_index, slice_set}
+use Rattle.std.specs.Prelude.{ℕ, ◌+◌, ◌-◌, ◌%◌, ◌<◌, Bool, true, false, cond, ◌&&◌, ◌||◌, List, [], ◌∷◌, map, ◌==◌, bit_xor, nat_le, slice_index, slice_set}
 use Rattle.query.specs.declared.Column.{Column}
 use Rattle.query.specs.declared.Column.TheVariants.{Is, Wildcard}
 use Rattle.query.specs.Query.{Query, Record, is_measured, names_zero}
 use Rattle.query.specs.Encoding.{column_value}
+use Rattle.columns.specs.declared.bounds.Bounds.{Bounds}
 use Rattle.columns.specs.ColumnContracts.{four}
 
 -- the highest bit of a 32-bit number
@@ -36,9 +37,11 @@ shifts_of q = map (λ (c : Column). shift_of (column_value c)) (four q)
 unfoldable pub limits_of : Query → List ℕ
 limits_of q = map (λ (c : Column). limit_of (width_of c)) (four q)
 
-unfoldable pub bound_words : Query → ℕ → ℕ → ℕ → List ℕ
-bound_words q column lowest highest =
-    slice_set (shifts_of q) column (shift_of (first_of lowest)) ++ slice_set (limits_of q) column (limit_of (highest - first_of lowest))
+unfoldable pub bounds_of : Query → ℕ → ℕ → ℕ → Bounds
+bounds_of q column lowest highest = record {
+  shifts = slice_set (shifts_of q) column (shift_of (first_of lowest));
+  limits = slice_set (limits_of q) column (limit_of (highest - first_of lowest));
+}
 
 -- no record passes: the query names 0, or the range has nothing above 0. It is told apart, since any shift and limit take some number
 unfoldable pub finds_none : Query → ℕ → Bool
@@ -53,6 +56,9 @@ bounded ss ls [] = true
 bounded [] ls (x ∷ r) = false
 bounded (s ∷ ss) [] (x ∷ r) = false
 bounded (s ∷ ss) (l ∷ ls) (x ∷ r) = bounded_by s l x && bounded ss ls r
+
+unfoldable pub bounded_under : Bounds → Record → Bool
+bounded_under b r = bounded b.shifts b.limits r
 
 -- the values that a query names are 32-bit numbers, as far as its first n columns; all of them
 abbrev pub NamesWords : ℕ → Query → Type 0

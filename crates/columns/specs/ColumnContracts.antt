@@ -1,18 +1,15 @@
--- What the functions over `[Column; 4]` give, where crates/query/specs has no name for it. Definitions only. Assumes nothing.
-use Rattle.std.specs.Prelude.{ℕ, ◌-◌, Bool, cond, ◌&&◌, ◌||◌, [], ◌∷◌, ◌++◌, length, take, replicate, ◌==◌, nat_le}
+-- What the functions over columns give, where crates/query/specs has no name for it. Definitions only. Assumes nothing.
+use Rattle.std.specs.Prelude.{ℕ, ◌-◌, Bool, ◌&&◌, ◌||◌, [], ◌∷◌, ◌++◌, length, take, replicate, ◌==◌, nat_le, List}
 use Rattle.lists.specs.Lists.{padded}
 use Rattle.query.specs.declared.Column.TheVariants.{Is, Wildcard}
 use Rattle.query.specs.Query.{Query, Record}
-use Rattle.query.specs.Encoding.{names_all}
 use Rattle.query.specs.Shape.{max_columns}
-use Rattle.rules.specs.Layout.{refused_columns}
-use Rattle.columns.specs.declared.Taken.{Taken}
 
 -- a mark and its value are those of a column; `well_marked` asks it of each
 unfoldable pub column_marked : ℕ → ℕ → Bool
 column_marked mark v = nat_le mark 1 && (mark == 1 || v == 0)
 
--- a query as an array of four columns: wildcards behind those in use
+-- a query as four columns: wildcards behind its own
 unfoldable pub four : Query → Query
 four q = q ++ replicate (4 - length q) Wildcard
 
@@ -22,6 +19,6 @@ front [] = []
 front (Is v ∷ q) = v ∷ front q
 front (Wildcard ∷ q) = []
 
--- what an insert takes from a query: refusal 2 where some column names no value
-abbrev pub taken_of : Query → Taken
-taken_of q = record { code = cond (names_all q) 0 refused_columns; values = padded max_columns (take max_columns (front q)) }
+-- the values that an insert takes from a query, as an array: those before the first wildcard, zeros behind
+abbrev pub taken_of : Query → List ℕ
+taken_of q = padded max_columns (take max_columns (front q))

@@ -1,13 +1,16 @@
 -- The labels of reads and of writes by one rule: which columns change, and to what a value changes. Leans on query.
 -- Definitions only. Assumes nothing.
-use Rattle.std.specs.Prelude.{ℕ, zero, suc, ◌+◌, ◌*◌, ◌/◌, ◌%◌, cond, [], ◌∷◌, ◌==◌}
+use Rattle.std.specs.Prelude.{ℕ, zero, suc, ◌+◌, ◌*◌, ◌/◌, ◌%◌, [], ◌∷◌}
 use Rattle.query.specs.declared.Column.{Column}
 use Rattle.query.specs.declared.Column.TheVariants.{Is, Wildcard}
+use Rattle.columns.specs.declared.labels.Turned.{Turned}
+use Rattle.columns.specs.declared.labels.Turned.TheVariants as turned
 use Rattle.query.specs.Query.{Query, Term, value, wildcard, any, Label, pick}
 
--- what a value changes to: * by the tag 2, ? by the tag 3
-unfoldable pub term_of : ℕ → Term
-term_of to = cond (to == 2) wildcard any
+-- what a value changes to
+abbrev pub turned_term : Turned → Term
+turned_term turned.Any = any
+turned_term turned.Wildcard = wildcard
 
 -- a column changes where n is odd: a value to t, a star to ?
 unfoldable pub changed_term : Term → Column → ℕ → Term

@@ -3,3 +3,4 @@ pub mod KeyContracts
 pub mod LabelContracts
 pub mod MaskContracts
 pub mod BoundContracts
+pub mod MarkedContracts

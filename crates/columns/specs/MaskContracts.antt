@@ -1,9 +1,9 @@
--- A query as the record test takes it: four masks, then four values, which the masks are to leave of a record's numbers. Leans on query and
+-- A query as the record test takes it: four masks and four values, which the masks are to leave of a record's numbers. Leans on query and
 -- ColumnContracts. Definitions only. Assumes nothing.
-use Rattle.std.specs.Prelude.{◌≡◌, ℕ, ◌≤◌, cond, List, [], ◌∷◌, ◌++◌, map, length, take, drop, ◌==◌}
+use Rattle.std.specs.Prelude.{◌≡◌, ℕ, ◌≤◌, Bool, cond, List, [], ◌∷◌, map, length, take, ◌==◌}
 use Rattle.query.specs.declared.Column.{Column}
 use Rattle.query.specs.declared.Column.TheVariants.{Is, Wildcard}
-use Rattle.query.specs.Query.{Query, is_measured}
+use Rattle.query.specs.Query.{Query, Record, is_measured, lies}
 use Rattle.query.specs.Shape.{max_columns}
 use Rattle.columns.specs.ColumnContracts.{four}
 
@@ -17,10 +17,6 @@ unfoldable pub sought_of : Column → ℕ
 sought_of (Is v) = cond (is_measured v) v 1
 sought_of Wildcard = 0
 
--- a query's masks and values, with those of wildcards behind its columns
-unfoldable pub mask_words : Query → List ℕ
-mask_words q = map mask_of (four q) ++ map sought_of (four q)
-
 -- the columns that masks and values name
 unfoldable pub column_under : ℕ → ℕ → Column
 column_under m v = cond (m == 0) (cond (v == 0) Wildcard (Is 0)) (Is v)
@@ -30,12 +26,13 @@ columns_under [] vs = []
 columns_under (m ∷ ms) [] = []
 columns_under (m ∷ ms) (v ∷ vs) = column_under m v ∷ columns_under ms vs
 
--- the query of k columns that eight such numbers name
-unfoldable pub query_under : ℕ → List ℕ → Query
-query_under k l = take k (columns_under (take max_columns l) (drop max_columns l))
-
--- eight numbers that are some query's masks and values
-pub record Masked (l : List ℕ) : Type 0 where
+-- masks and values that are some query's, with those of wildcards behind its columns
+pub record Masked (masks values : List ℕ) : Type 0 where
   pub query : Query
   pub few : length query ≤ max_columns
-  pub words : l ≡ mask_words query
+  pub masks_are : masks ≡ map mask_of (four query)
+  pub values_are : values ≡ map sought_of (four query)
+
+-- the test of four columns, of a record that may have fewer numbers
+unfoldable pub lies_under : Query → Record → Bool
+lies_under q r = lies (take (length r) q) r

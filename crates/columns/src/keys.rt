@@ -5,89 +5,15 @@ ghost use Rattle.query.specs.Query.{naming, read_count};
 ghost use Rattle.query.specs.Encoding.{key_width};
 ghost use Rattle.query.specs.Shape.{shape_of, max_columns};
 ghost use Rattle.query.specs.declared.Column.TheVariants.{Wildcard};
-ghost use Rattle.query.specs.Encoding.{marks, column_of, columns_in, column_value, key_words, names_all, is_key, range_unit, range_of, range_key, wanted_key, bare_key};
+ghost use Rattle.query.specs.Encoding.{column_of, columns_in, column_value, key_words, names_all, is_key, range_unit, range_of, bare_key};
 ghost use Rattle.query.specs.Range.{is_ranged, is_named, is_range, is_reversed};
-ghost use Rattle.columns.specs.ColumnContracts.{four};
-ghost use Rattle.columns.specs.KeyContracts.{mark_of, keeps, zero_under, query_width, IsNear};
+ghost use Rattle.columns.specs.KeyContracts.{keeps, zero_under, query_width};
 
 use hall::Hall;
-use query::{Column, Range};
+use query::Range;
 
-// 1 for a column that names a value, 0 for a wildcard.
-fn mark_of(col: Column) -> u32
-    ensures { result ≡ mark_of col }
-{
-    let Column::Is(_) = col else {
-        return 0;
-    };
-    1
-}
-
-// The value that a column names; 0 for a wildcard.
-pub fn value_of(col: Column) -> u32
-    ensures { result ≡ column_value col }
-{
-    let Column::Is(v) = col else {
-        return 0;
-    };
-    v
-}
-
-// One bit for each column, 1 where it names a value; the first column has the lowest bit.
-fn marks_of(cols: [Column; Hall::COLUMN_SLOTS], k: usize) -> u32
-    requires { k ≤ max_columns }
-    ensures { result ≡ marks (take k cols) }
-{
-    let mut marks = 0;
-    let mut i = k;
-    while 0 < i {
-        i -= 1;
-        let col = cols[i];
-        let mark = mark_of(col);
-        marks = mark + 2 * marks;
-    }
-    marks
-}
-
-// The k columns of marks and values.
-pub fn columns_in(k: usize, marks: u32, values: &[u32]) -> [Column; Hall::COLUMN_SLOTS]
-    requires { (k ≤ max_columns) × (k ≤ length values.now) }
-    ensures { result ≡ four (columns_in k marks values.now) }
-{
-    let wildcard = Column::Wildcard;
-    let mut cols = [wildcard; Hall::COLUMN_SLOTS];
-    let mut left = marks;
-    let mut i = 0;
-    while i < k {
-        let v = values[i];
-        let col = super::column_of(left % 2, v);
-        cols[i] = col;
-        left = left / 2;
-        i += 1;
-    }
-    cols
-}
-
-// A query as the key of an answer: its marks, its values, zeros behind.
-pub fn key_words(cols: [Column; Hall::COLUMN_SLOTS], k: usize) -> [u32; Hall::KEY_WIDTH]
-    requires { k ≤ max_columns }
-    ensures { result ≡ key_words (take k cols) }
-{
-    let mut key = [0u32; Hall::KEY_WIDTH];
-    key[0] = marks_of(cols, k);
-    let mut i = 0;
-    while i < k {
-        let col = cols[i];
-        let v = value_of(col);
-        i += 1;
-        key[i] = v;
-    }
-    key
-}
-
-// Two to the k: as many as the nodes of a write, and one above the highest marks. A shift, since a constant array is made on the stack wherever
-// it is read.
-pub fn power(k: usize) -> u32
+// Two to the k: one above the highest marks of k columns. A shift, since a constant array is made on the stack wherever it is read.
+pub(crate) fn power(k: usize) -> u32
     requires { k ≤ max_columns }
     ensures { result ≡ 2 ^ k }
 {
@@ -95,7 +21,7 @@ pub fn power(k: usize) -> u32
 }
 
 // The marks of a query that names every column: k bits, all 1.
-pub fn all_marks(k: usize) -> u32
+pub(crate) fn all_marks(k: usize) -> u32
     requires { k ≤ max_columns }
     ensures { result ≡ 2 ^ k - 1 }
 {
@@ -105,27 +31,12 @@ pub fn all_marks(k: usize) -> u32
 // Two to the number of 1 bits, for the numbers to 15.
 const LOOKS: [u8; 16] = [1, 2, 2, 4, 2, 4, 4, 8, 2, 4, 4, 8, 4, 8, 8, 16];
 
-fn wide(x: u8) -> usize
-    ensures { result ≡ x }
-{
-    x as usize
-}
-
 // How many looks a read makes, by its marks.
-pub fn look_count(k: usize, marks: u32) -> usize
+pub(crate) fn look_count(k: usize, marks: u32) -> usize
     requires { (k ≤ max_columns) × (marks < 2 ^ k) }
     ensures { (vs : List ℕ) → result ≡ read_count (columns_in k marks vs) }
 {
-    let i = marks as usize;
-    wide(LOOKS[i])
-}
-
-// Whether a query names every column, by its marks.
-pub fn names_all(k: usize, marks: u32) -> bool
-    requires { (k ≤ max_columns) × (marks < 2 ^ k) }
-    ensures { (vs : List ℕ) → result ≡ names_all (columns_in k marks vs) }
-{
-    marks == all_marks(k)
+    usize::from(LOOKS[marks as usize])
 }
 
 // A value where its mark is odd, else 0: a choice without a branch.
@@ -136,18 +47,13 @@ fn value_under(mark: u32, v: u32) -> u32
 }
 
 // The values that have a mark, and 0 in place of the others.
-pub fn values_under(marks: u32, values: [u32; Hall::COLUMN_SLOTS]) -> [u32; Hall::COLUMN_SLOTS]
+pub(crate) fn values_under(
+    marks: u32,
+    values: [u32; Hall::COLUMN_SLOTS],
+) -> [u32; Hall::COLUMN_SLOTS]
     ensures { result ≡ map column_value (columns_in max_columns marks values) }
 {
-    let second = marks / 2;
-    let third = second / 2;
-    let fourth = third / 2;
-    [
-        value_under(marks, values[0]),
-        value_under(second, values[1]),
-        value_under(third, values[2]),
-        value_under(fourth, values[3]),
-    ]
+    std::array::from_fn(|c| value_under(marks >> c, values[c]))
 }
 
 // The key of an insert's record, which names every column.
@@ -155,48 +61,43 @@ pub fn record_key(k: usize, values: [u32; Hall::COLUMN_SLOTS]) -> [u32; Hall::KE
     requires { k ≤ max_columns }
     ensures { result ≡ key_words (naming (take k values)) }
 {
-    let marks = all_marks(k);
-    let kept = values_under(marks, values);
-    [marks, kept[0], kept[1], kept[2], kept[3], 0, 0]
+    let mut key = [0; Hall::KEY_WIDTH];
+    key[0] = all_marks(k);
+    key[1..1 + k].copy_from_slice(&values[..k]);
+    key
 }
 
 // Whether a value has a mark, or is 0.
+#[tactic(auto, unfolding(crate::specs::KeyContracts::keeps))]
 fn keeps(marks: u32, v: u32) -> bool
     ensures { result ≡ keeps marks v }
 {
-    if marks % 2 == 1 {
-        return true;
-    }
-    v == 0
+    marks % 2 == 1 || v == 0
 }
 
 // Whether each value under an unmarked column is 0.
+#[tactic(auto, using(crate::proofs::KeyLoops::under_more, crate::proofs::KeyLoops::under_end))]
 fn zero_under(marks: u32, values: &[u32]) -> bool
     ensures { result ≡ zero_under marks values.now }
 {
     let mut left = marks;
-    let mut i = 0;
-    while i < values.len() {
-        let v = values[i];
+    for &v in values {
         if !keeps(left, v) {
             return false;
         }
-        left = left / 2;
-        i += 1;
+        left /= 2;
     }
     true
 }
 
 // Whether marks and the numbers behind them, zeros from where they end, are the key of a query of k columns: marks for k columns at most, and no
 // value without a mark.
-pub fn is_key(k: usize, marks: u32, values: &[u32]) -> bool
+#[tactic(auto, using(crate::proofs::KeyLoops::key_padded))]
+pub(crate) fn is_key(k: usize, marks: u32, values: &[u32]) -> bool
     requires { (k ≤ max_columns) × (length values.now ≤ key_width - 1) }
     ensures { result ≡ is_key (shape_of k) (marks ∷ padded (key_width - 1) values.now) }
 {
-    if power(k) <= marks {
-        return false;
-    }
-    zero_under(marks, values)
+    marks < power(k) && zero_under(marks, values)
 }
 
 // ---- What is wanted, and the range
@@ -211,15 +112,13 @@ pub fn bare_marks(first: u32) -> u32
 pub fn range_of(first: u32, lowest: u32, highest: u32) -> Range
     ensures { result ≡ range_of (first / range_unit) lowest highest }
 {
-    let above = first / Hall::RANGE_UNIT;
-    if above == 0 {
-        return Range::None;
-    }
-    let column = above - 1;
-    Range::Between {
-        column,
-        lowest,
-        highest,
+    match (first / Hall::RANGE_UNIT).checked_sub(1) {
+        Some(column) => Range::Between {
+            column,
+            lowest,
+            highest,
+        },
+        None => Range::None,
     }
 }
 
@@ -227,91 +126,24 @@ pub fn range_of(first: u32, lowest: u32, highest: u32) -> Range
 pub fn is_ranged(range: Range) -> bool
     ensures { result ≡ is_ranged range }
 {
-    let Range::Between {
-        column: _,
-        lowest: _,
-        highest: _,
-    } = range
-    else {
-        return false;
-    };
-    true
+    matches!(range, Range::Between { .. })
 }
 
 // How many of the numbers behind a key's first are its query's: a range has the last two.
+#[tactic(auto, unfolding(crate::specs::KeyContracts::query_width))]
 pub fn query_width(range: Range) -> usize
     ensures { result ≡ query_width range }
 {
-    if is_ranged(range) {
-        return Hall::COLUMN_SLOTS;
+    match range {
+        Range::Between { .. } => Hall::COLUMN_SLOTS,
+        Range::None => Hall::KEY_WIDTH - 1,
     }
-    Hall::KEY_WIDTH - 1
 }
 
 // Whether the column at a place names a value, by the marks.
-fn is_named(marks: u32, column: u32) -> bool
+pub(crate) fn is_named(marks: u32, column: u32) -> bool
     requires { column < max_columns }
     ensures { (k : ℕ) (vs : List ℕ) → column < k → result ≡ is_named (slice_index_or (columns_in k marks vs) column Wildcard) }
 {
     (marks >> column) % 2 == 1
-}
-
-// Whether a begin would turn a range down, beside a query of k columns that has these marks: its column is past the last, or named too, or its
-// ends are reversed.
-pub fn bad_range(k: usize, marks: u32, range: Range) -> bool
-    requires { k ≤ max_columns }
-    ensures { (vs : List ℕ) → result ≡ (not (is_range (shape_of k) (columns_in k marks vs) range) || is_reversed range) }
-{
-    let Range::Between {
-        column,
-        lowest,
-        highest,
-    } = range
-    else {
-        return false;
-    };
-    if k <= column as usize {
-        return true;
-    }
-    if is_named(marks, column) {
-        return true;
-    }
-    highest < lowest
-}
-
-// A key with its range: its column plus 1 above what stands in the first number, and its ends.
-fn ranged_key(key: [u32; Hall::KEY_WIDTH], range: Range) -> [u32; Hall::KEY_WIDTH]
-    requires { (slice_index key 0 < range_unit) × IsNear range }
-    ensures { result ≡ range_key range key }
-{
-    let Range::Between {
-        column,
-        lowest,
-        highest,
-    } = range
-    else {
-        return key;
-    };
-    let mut ranged = key;
-    ranged[0] = key[0] + Hall::RANGE_UNIT * (column + 1);
-    ranged[Hall::LOWEST_OFFSET] = lowest;
-    ranged[Hall::HIGHEST_OFFSET] = highest;
-    ranged
-}
-
-// The key of a read: its query's, with what it wants and its range.
-pub fn ask_key(
-    cols: [Column; Hall::COLUMN_SLOTS],
-    k: usize,
-    counts: bool,
-    range: Range,
-) -> [u32; Hall::KEY_WIDTH]
-    requires { (k ≤ max_columns) × IsNear range }
-    ensures { result ≡ wanted_key counts range (key_words (take k cols)) }
-{
-    let mut key = key_words(cols, k);
-    if counts {
-        key[0] = key[0] + Hall::COUNT_BIT;
-    }
-    ranged_key(key, range)
 }

@@ -1,58 +1,49 @@
-// Queries in code: an array of four columns, of which the first k are in use and the rest are wildcards.
+// Queries as they arrive, in code and in memory, their labels, and the tests of records.
 // Leans on query for the column and for the rules.
 #![tactic(auto)]
 
-ghost use Rattle.std.specs.Prelude.{◌≡◌, ◌*◌, ◌≤◌, length};
+ghost use Rattle.std.specs.Prelude.{◌≡◌, ◌*◌, ◌≤◌, cond, length, IfOk};
 ghost use Rattle.query.specs.Shape.{shape_of, max_columns};
-ghost use Rattle.query.specs.Encoding.{is_query, column_of, query_of, well_marked};
-ghost use Rattle.columns.specs.ColumnContracts.{column_marked, four, taken_of};
+ghost use Rattle.query.specs.Encoding.{is_query, column_of, query_of, well_marked, names_all};
+ghost use Rattle.columns.specs.ColumnContracts.{column_marked, taken_of, four};
+ghost use Rattle.rules.specs.Layout.{refused_columns};
+ghost use Rattle.hall.specs.Refusal.{code_of};
 
 use hall::Hall;
+use hall::refusal::Refusal;
 use query::Column;
 
 pub mod bounds; // bounds.rt: the record test with a range
 pub mod keys; // keys.rt: marks, values and keys
 pub mod labels; // labels.rt: the labels of nodes
-pub mod masks; // masks.rt: the record test
+pub mod marked; // marked.rt: a query as marks and values
+pub mod masks; // masks.rt: the record test without a range
+pub mod queries; // queries.rt: queries, and their keys
+pub mod record_test; // record_test.rt: what the passes ask of a record test
 mod sheet; // sheet.rt: the fixed sheet
 
 // Whether a mark and its value are those of a column: no mark above 1, no value under a wildcard.
+#[tactic(auto, unfolding(crate::specs::ColumnContracts::column_marked))]
 fn is_column(mark: u32, v: u32) -> bool
     ensures { result ≡ column_marked mark v }
 {
-    if mark == 0 {
-        return v == 0;
-    }
-    mark == 1
+    mark <= 1 && (mark == 1 || v == 0)
 }
 
 // Whether the columns as they arrive are well marked, each mark with its value.
 fn well_marked(asked: &[u32]) -> bool
     ensures { result ≡ well_marked asked.now }
 {
-    let mut i = 0;
-    while i < asked.len() {
-        if i + 1 == asked.len() {
-            return false;
-        }
-        let mark = asked[i];
-        let v = asked[i + 1];
-        if !is_column(mark, v) {
-            return false;
-        }
-        i += 2;
-    }
-    true
+    let (pairs, rest) = asked.as_chunks::<2>();
+    rest.is_empty() && pairs.iter().all(|&[mark, v]| is_column(mark, v))
 }
 
 // Whether what arrives is a query of k columns.
+#[tactic(auto, unfolding(query::specs::Encoding::is_query))]
 pub fn is_query(asked: &[u32], k: u32) -> bool
     ensures { result ≡ is_query (shape_of k) asked.now }
 {
-    if asked.len() != 2 * (k as usize) {
-        return false;
-    }
-    well_marked(asked)
+    asked.len() == 2 * k as usize && well_marked(asked)
 }
 
 // The column of a mark and a value.
@@ -66,56 +57,22 @@ fn column_of(mark: u32, v: u32) -> Column
     }
 }
 
-// The columns of what arrives, at most four, wildcards behind.
-pub fn columns_of(asked: &[u32]) -> [Column; Hall::COLUMN_SLOTS]
-    requires { length asked.now ≤ 2 * max_columns }
-    ensures { result ≡ four (query_of asked.now) }
+// An insert takes the values of the columns as they arrive, zeros behind, and refuses a wildcard. What arrives may have more columns than any hall:
+// the memory's number of columns is tested later.
+pub fn take_record(asked: &[u32]) -> Result<[u32; Hall::COLUMN_SLOTS], Refusal>
+    ensures code { code_of result ≡ cond (names_all (query_of asked.now)) 0 refused_columns }
+    ensures values { IfOk result (λ values. values ≡ taken_of (query_of asked.now)) }
 {
-    let wildcard = Column::Wildcard;
-    let mut cols = [wildcard; Hall::COLUMN_SLOTS];
-    let mut i = 0;
-    let mut from = 0;
-    while from + 1 < asked.len() {
-        let mark = asked[from];
-        let v = asked[from + 1];
-        let col = column_of(mark, v);
-        cols[i] = col;
-        i += 1;
-        from += 2;
-    }
-    cols
-}
-
-// What an insert takes: refusal 2 or 0, and the values up to the first wildcard, at most four, zeros behind.
-#[derive(Clone, Copy)]
-pub struct Taken {
-    pub code: u32,
-    pub values: [u32; Hall::COLUMN_SLOTS],
-}
-
-// An insert takes each column as it arrives, and refuses a wildcard. What arrives may have more columns than any hall: the memory's number of
-// columns is tested later.
-pub fn take_record(asked: &[u32]) -> Taken
-    ensures { result ≡ taken_of (query_of asked.now) }
-{
-    let mut values = [0u32; Hall::COLUMN_SLOTS];
-    let mut i = 0;
-    let mut from = 0;
-    while from + 1 < asked.len() {
-        let mark = asked[from];
-        let named = asked[from + 1];
+    let mut values = [0; Hall::COLUMN_SLOTS];
+    let (pairs, _) = asked.as_chunks::<2>();
+    for (i, &[mark, named]) in pairs.iter().enumerate() {
         let col = column_of(mark, named);
         let Column::Is(v) = col else {
-            return Taken {
-                code: Hall::REFUSED_COLUMNS,
-                values,
-            };
+            return Err(Refusal::Columns);
         };
         if i < Hall::COLUMN_SLOTS {
             values[i] = v;
         }
-        i += 1;
-        from += 2;
     }
-    Taken { code: 0, values }
+    Ok(values)
 }

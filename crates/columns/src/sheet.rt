@@ -39,17 +39,10 @@ const SHEET: [u8; 256] = [
     0, 0, 0, 0, 0, 0, 0, 0, 0, 0, 0, 0, 0, 0, 0, 0,
 ];
 
-fn wide(x: u8) -> u32
-    ensures { result ≡ x }
-{
-    x as u32
-}
-
 // The columns that become ? at a look, for a star pattern.
 pub fn turned(stars: usize, look: usize) -> u32
     requires { (stars < 16) × (look < 16) }
     ensures { result ≡ sheet_entry stars look }
 {
-    let i = stars * 16 + look;
-    wide(SHEET[i])
+    u32::from(SHEET[stars * 16 + look])
 }

@@ -3,7 +3,7 @@
 use mathlib.Core.Path.{◌≡◌, refl, sym, ap, ◌∙◌}
 use mathlib.Core.Bool.{Bool, false, cond, ◌||◌, true≢false}
 use mathlib.Core.List.{List, [], ◌∷◌}
-use mathlib.Core.Option.{Option, none, some}
+use Rattle.std.specs.Prelude.{Option, None, Some}
 use Prim.Native.Nat.{ℕ, zero, suc, ◌+◌, ◌≤◌, ◌<◌}
 use native.Mathlib.Omega.{arith}
 use lib.Dec.{eqb}
@@ -12,7 +12,7 @@ use Rattle.laws.proofs.TestLaws.{by_test}
 use Rattle.rules.specs.declared.Outcome.TheVariants.{Accepted}
 use Rattle.rules.specs.declared.Tally.{Tally}
 use Rattle.rules.specs.declared.Count.{Count}
-use Rattle.rules.specs.declared.Count.TheVariants.{NoCount, ReadBegun, FromFile, FromTable, EndedLong, ReadAbandoned}
+use Rattle.rules.specs.declared.Count.TheVariants.{ReadBegun, FromFile, FromTable, EndedLong, ReadAbandoned}
 use Rattle.rules.specs.declared.Count.TheVariants.{WriteBegun, EndedChanged, EndedUnchanged, WriteAbandoned}
 use Rattle.query.specs.Shape.{shape_of}
 use Rattle.rules.specs.Memory.{Mem, opened}
@@ -20,7 +20,7 @@ use Rattle.rules.specs.Refusals.{open_code, evict_answer_code, evict_node_code, 
 use Rattle.rules.specs.Calls.{unless, evict_answer_result, evict_node_result, renew_result}
 use Rattle.rules.specs.Work.{Request, is_write}
 use Rattle.rules.specs.History.{Call, begin, step, abandon, evict_answer, evict_node, renew, untrayed, call_result}
-use Rattle.rules.specs.Tally.{count_in, rank, one, raised, count_of, accepted_count, would_raise, is_full, is_full_for, is_tally_full, cleared_tally, Made, made, made_result, tally_after, mem_after}
+use Rattle.rules.specs.Tally.{rank, raises as is, one, raised, count_of, accepted_count, would_raise, is_full, is_full_for, is_tally_full, cleared_tally, Made, made, made_result, tally_after, mem_after}
 use Rattle.rules.proofs.TallyLaws.{raised_none}
 use Rattle.demands.specs.WholeHistory.{History, mem_at, made_at, call_at, result_at}
 use Rattle.demands.specs.DayTally.{how_many, some_call, is_read, under_way, ends_begun, reads_begun, from_file, from_table, ended_long, reads_abandoned}
@@ -28,7 +28,7 @@ use Rattle.demands.specs.DayTally.{writes_begun, ended_changed, ended_unchanged,
 use Rattle.demands.proofs.HistoryRuns.{plain_result, full_result}
 use Rattle.demands.proofs.OneWorkHolds.{one_work_ends}
 use Rattle.demands.proofs.CallCounts.{one_many, tests_under_way, under_way_next}
-use Rattle.demands.proofs.CallTells.{is, Tells, ends_tested, told}
+use Rattle.demands.proofs.CallTells.{Tells, ends_tested, told}
 
 -- 1 where a test holds
 abbrev num : Bool → ℕ
@@ -42,34 +42,34 @@ ends_one h p n w = one_many (ends_begun p h n) n (λ i j l m e f.
     let z = ends_tested h p n j w m f in
     (one_work_ends h n y.1 z.1 i j y.0 z.0 y.4 z.4).1)
 
-read_ends : (c : Count) → num (is c FromFile || (is c FromTable || (is c EndedLong || is c ReadAbandoned)))
+read_ends : (c : Option Count) → num (is c FromFile || (is c FromTable || (is c EndedLong || is c ReadAbandoned)))
     ≡ num (is c FromFile) + num (is c FromTable) + num (is c EndedLong) + num (is c ReadAbandoned)
-unfolding rank
-read_ends NoCount = refl
-read_ends ReadBegun = refl
-read_ends FromFile = refl
-read_ends FromTable = refl
-read_ends EndedLong = refl
-read_ends ReadAbandoned = refl
-read_ends WriteBegun = refl
-read_ends EndedChanged = refl
-read_ends EndedUnchanged = refl
-read_ends WriteAbandoned = refl
+unfolding rank is
+read_ends None = refl
+read_ends (Some ReadBegun) = refl
+read_ends (Some FromFile) = refl
+read_ends (Some FromTable) = refl
+read_ends (Some EndedLong) = refl
+read_ends (Some ReadAbandoned) = refl
+read_ends (Some WriteBegun) = refl
+read_ends (Some EndedChanged) = refl
+read_ends (Some EndedUnchanged) = refl
+read_ends (Some WriteAbandoned) = refl
 
-write_ends : (c : Count) → num (is c EndedChanged || (is c EndedUnchanged || is c WriteAbandoned)) ≡ num (is c EndedChanged) + num (is c EndedUnchanged) + num (is c WriteAbandoned)
-unfolding rank
-write_ends NoCount = refl
-write_ends ReadBegun = refl
-write_ends FromFile = refl
-write_ends FromTable = refl
-write_ends EndedLong = refl
-write_ends ReadAbandoned = refl
-write_ends WriteBegun = refl
-write_ends EndedChanged = refl
-write_ends EndedUnchanged = refl
-write_ends WriteAbandoned = refl
+write_ends : (c : Option Count) → num (is c EndedChanged || (is c EndedUnchanged || is c WriteAbandoned)) ≡ num (is c EndedChanged) + num (is c EndedUnchanged) + num (is c WriteAbandoned)
+unfolding rank is
+write_ends None = refl
+write_ends (Some ReadBegun) = refl
+write_ends (Some FromFile) = refl
+write_ends (Some FromTable) = refl
+write_ends (Some EndedLong) = refl
+write_ends (Some ReadAbandoned) = refl
+write_ends (Some WriteBegun) = refl
+write_ends (Some EndedChanged) = refl
+write_ends (Some EndedUnchanged) = refl
+write_ends (Some WriteAbandoned) = refl
 
-sums_more : (h : History) (n : ℕ) → n < length h.calls → (c : Count) → Tells h n c → Sums h n → Sums h (suc n)
+sums_more : (h : History) (n : ℕ) → n < length h.calls → (c : Option Count) → Tells h n c → Sums h n → Sums h (suc n)
 unfolding reads_begun from_file from_table ended_long reads_abandoned writes_begun ended_changed ended_unchanged writes_abandoned how_many
 sums_more h n w c t s =
     let ra = s.reads in
@@ -99,11 +99,11 @@ sums h (suc n) l = let t = told h n (omega arith) in sums_more h n (omega arith)
 
 -- ---- The tally
 -- an eviction or a renewal raises no count
-unless_raises : (code : ℕ) (m t : Mem) → count_of NoCount (unless code m (record { out = Accepted; mem = t })).out ≡ NoCount
+unless_raises : (code : ℕ) (m t : Mem) → count_of None (unless code m (record { out = Accepted; mem = t })).out ≡ None
 unfolding unless count_of
 unless_raises code m t = by_test (eqb code 0) (λ e. rw e refl) (λ e. rw e refl)
 
-idle_raises : (m : Mem) (c : Call) → can_raise c ≡ false → would_raise m c ≡ NoCount
+idle_raises : (m : Mem) (c : Call) → can_raise c ≡ false → would_raise m c ≡ None
 unfolding would_raise can_raise accepted_count call_result untrayed evict_answer_result evict_node_result renew_result
 idle_raises m (begin d r) e = absurd (true≢false e)
 idle_raises m (step d tray) e = absurd (true≢false e)
@@ -116,17 +116,17 @@ would_is : (m : Mem) (c : Call) → would_raise m c ≡ count_of (accepted_count
 unfolding would_raise
 would_is m c = refl
 
-none_unfull : (t : Option Tally) → is_full_for t NoCount ≡ false
-unfolding is_full_for is_full count_in
-none_unfull none = refl
-none_unfull (some t) = refl
+none_unfull : (t : Option Tally) → is_full_for t None ≡ false
+unfolding is_full_for is_full
+none_unfull None = refl
+none_unfull (Some t) = refl
 
 module _ (h : History) (n : ℕ) (w : n < length h.calls) (t : Tally) where
   abbrev m : Mem
   m = mem_at h n
 
   -- a call that is lent the tally leaves it as its outcome tells
-  lent_next : (made_at h n).tally ≡ some t → tally_after m (call_at h n) t ≡ raised t (count_of (accepted_count m (call_at h n)) (result_at h n).out)
+  lent_next : (made_at h n).tally ≡ Some t → tally_after m (call_at h n) t ≡ raised t (count_of (accepted_count m (call_at h n)) (result_at h n).out)
   unfolding tally_after is_tally_full is_full_for would_raise count_of call_at
   lent_next e = by_test (is_full t (would_raise m (call_at h n)))
       (λ k. rw (full_result h n (rw e k), k) (sym (raised_none t)))
@@ -134,20 +134,20 @@ module _ (h : History) (n : ℕ) (w : n < length h.calls) (t : Tally) where
 
   -- and so does one that can raise none, whatever tally it is lent
   idle_next : can_raise (call_at h n) ≡ false → tally_after m (call_at h n) t ≡ raised t (count_of (accepted_count m (call_at h n)) (result_at h n).out)
-  unfolding tally_after is_tally_full call_at is_full count_in
+  unfolding tally_after is_tally_full call_at is_full
   idle_next e =
       let k = idle_raises m (call_at h n) e in
       let o = plain_result h n (rw k (none_unfull (made_at h n).tally)) in
       rw (k, o) (ap (raised t) (sym k ∙ would_is m (call_at h n)))
 
-tally_next : (h : History) (n : ℕ) → n < length h.calls → HandedOn h → (c : Count) → Tells h n c → tally_at h (suc n) ≡ raised (tally_at h n) c
+tally_next : (h : History) (n : ℕ) → n < length h.calls → HandedOn h → (c : Option Count) → Tells h n c → tally_at h (suc n) ≡ raised (tally_at h n) c
 unfolding tally_at
 tally_next h n w g c t = by_test (can_raise (call_at h n))
     (λ k. lent_next h n w (tally_at h n) (g n w k))
     (λ k. idle_next h n w (tally_at h n) k)
     ∙ ap (raised (tally_at h n)) t.raises
 
-counts_more : (h : History) (n : ℕ) (c : Count) (t u : Tally) → Tells h n c → u ≡ raised t c → Counts h n t → Counts h (suc n) u
+counts_more : (h : History) (n : ℕ) (c : Option Count) (t u : Tally) → Tells h n c → u ≡ raised t c → Counts h n t → Counts h (suc n) u
 unfolding raised one reads_begun from_file from_table ended_long reads_abandoned writes_begun ended_changed ended_unchanged writes_abandoned how_many
 counts_more h n c t u x e k = rw e (record {
   of_reads_begun = let a = k.of_reads_begun in let b = ap num x.of_reads_begun in omega arith;
@@ -202,25 +202,25 @@ tally_sums h g n l =
 -- the tally after these calls
 tally_on : Mem → Tally → List Call → Tally
 tally_on m t [] = t
-tally_on m t (c ∷ cs) = tally_on (made_result m (made c (some t))).mem (tally_after m c t) cs
+tally_on m t (c ∷ cs) = tally_on (made_result m (made c (Some t))).mem (tally_after m c t) cs
 
-lent_at : (cs : List Call) (m : Mem) (t : Tally) (n : ℕ) → n < length cs → get_or (lent_on m t cs) n (made renew none) ≡ made (get_or cs n renew) (some (tally_on m t (take n cs)))
+lent_at : (cs : List Call) (m : Mem) (t : Tally) (n : ℕ) → n < length cs → get_or (lent_on m t cs) n (made renew None) ≡ made (get_or cs n renew) (Some (tally_on m t (take n cs)))
 unfolding lent_on tally_on
 lent_at [] m t n l = absurd (omega arith)
 lent_at (c ∷ cs) m t zero l = refl
-lent_at (c ∷ cs) m t (suc n) l = lent_at cs (made_result m (made c (some t))).mem (tally_after m c t) n (omega arith)
+lent_at (c ∷ cs) m t (suc n) l = lent_at cs (made_result m (made c (Some t))).mem (tally_after m c t) n (omega arith)
 
 tally_on_law : (cs : List Call) (m : Mem) (t : Tally) (n : ℕ) → n < length cs
     → tally_on m t (take (suc n) cs) ≡ tally_after (mem_after m (take n (lent_on m t cs))) (get_or cs n renew) (tally_on m t (take n cs))
 unfolding lent_on tally_on mem_after
 tally_on_law [] m t n l = absurd (omega arith)
 tally_on_law (c ∷ cs) m t zero l = refl
-tally_on_law (c ∷ cs) m t (suc n) l = tally_on_law cs (made_result m (made c (some t))).mem (tally_after m c t) n (omega arith)
+tally_on_law (c ∷ cs) m t (suc n) l = tally_on_law cs (made_result m (made c (Some t))).mem (tally_after m c t) n (omega arith)
 
 length_lent : (cs : List Call) (m : Mem) (t : Tally) → length (lent_on m t cs) ≡ length cs
 unfolding lent_on
 length_lent [] m t = refl
-length_lent (c ∷ cs) m t = ap suc (length_lent cs (made_result m (made c (some t))).mem (tally_after m c t))
+length_lent (c ∷ cs) m t = ap suc (length_lent cs (made_result m (made c (Some t))).mem (tally_after m c t))
 
 module _ (m : Mem) (k : ℕ) (a : open_code m k ≡ 0) (cs : List Call) where
   abbrev start : Mem
@@ -242,7 +242,7 @@ module _ (m : Mem) (k : ℕ) (a : open_code m k ≡ 0) (cs : List Call) where
   unfolding made_at
   handed_on n l c =
       let e = length_lent cs start cleared_tally in
-      rw (lent_at cs start cleared_tally n (omega arith)) (ap some (sym (tally_is n (omega arith))))
+      rw (lent_at cs start cleared_tally n (omega arith)) (ap Some (sym (tally_is n (omega arith))))
 
 pub can_hand_on : CanHandOn
 can_hand_on m k a cs = handed_on m k a cs

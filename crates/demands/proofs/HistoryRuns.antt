@@ -3,7 +3,7 @@
 use mathlib.Core.Path.{◌≡◌, refl, sym, ap, ◌∙◌, subst}
 use mathlib.Core.Bool.{true, false}
 use mathlib.Core.List.{List, [], ◌∷◌, ◌++◌}
-use mathlib.Core.Option.{none}
+use Rattle.std.specs.Prelude.{None}
 use Prim.Native.Nat.{ℕ, zero, suc, ◌≤◌, ◌<◌}
 use native.Mathlib.Omega.{arith}
 use lib.ListN.{length, get_or, take}
@@ -33,14 +33,14 @@ use Rattle.machine.proofs.Plain as plain
 use Rattle.rules.specs.History.{Plain}
 
 -- ---- One call more
-mem_more : (xs : List Made) (m : Mem) (n : ℕ) → n < length xs → mem_after m (take (suc n) xs) ≡ (made_result (mem_after m (take n xs)) (get_or xs n (made renew none))).mem
+mem_more : (xs : List Made) (m : Mem) (n : ℕ) → n < length xs → mem_after m (take (suc n) xs) ≡ (made_result (mem_after m (take n xs)) (get_or xs n (made renew None))).mem
 unfolding mem_after
 mem_more [] m n l = absurd (omega arith)
 mem_more (x ∷ xs) m zero l = refl
 mem_more (x ∷ xs) m (suc n) l = mem_more xs (made_result m x).mem n (omega arith)
 
 plain_more : (xs : List Made) (m : Mem) (p : Plain) (n : ℕ) → n < length xs → plain_after m p (take (suc n) xs)
-    ≡ fed (plain_after m p (take n xs)) (get_or xs n (made renew none)).call (number (made_result (mem_after m (take n xs)) (get_or xs n (made renew none))).out)
+    ≡ fed (plain_after m p (take n xs)) (get_or xs n (made renew None)).call (number (made_result (mem_after m (take n xs)) (get_or xs n (made renew None))).out)
 unfolding mem_after plain_after
 plain_more [] m p n l = absurd (omega arith)
 plain_more (x ∷ xs) m p zero l = refl

@@ -3,6 +3,7 @@
 use mathlib.Core.Path.{◌≡◌, refl, sym, ap, ◌∙◌, subst}
 use mathlib.Core.Bool.{true, false, true≢false}
 use mathlib.Core.Option.{none, some, IsSome}
+use Rattle.std.specs.Prelude.{None}
 use mathlib.Core.List.{List, [], ◌++◌, map}
 use Prim.Native.Nat.{ℕ, zero, suc, ◌+◌, ◌≤◌, ◌<◌}
 use native.Mathlib.Omega.{arith}
@@ -134,20 +135,20 @@ module _ (h : History) (n d : ℕ) (trays : List (List ℕ)) (l : n ≤ length h
   unfolding stepped_on
   on_length =
       length-append (take n h.calls) (unlent (map (step d) trays))
-      ∙ rw (first_calls, length-map (map (step d) trays) (λ c. made c none), length-map trays (step d)) refl
+      ∙ rw (first_calls, length-map (map (step d) trays) (λ c. made c None), length-map trays (step d)) refl
 
   on_mem : mem_at (stepped_on h n d trays) n ≡ mem_at h n
   unfolding stepped_on mem_at
   on_mem = ap (mem_after (opened (shape_at h) h.lent)) (take_at (take n h.calls) (unlent (map (step d) trays)) n first_calls)
 
-  on_made : (i : ℕ) → i < length trays → made_at (stepped_on h n d trays) (n + i) ≡ made (step d (get_or trays i [])) none
+  on_made : (i : ℕ) → i < length trays → made_at (stepped_on h n d trays) (n + i) ≡ made (step d (get_or trays i [])) None
   unfolding stepped_on made_at
   on_made i k =
       let cs = map (step d) trays in
       let few = length-map trays (step d) in
-      let a : get_or (take n h.calls ++ unlent cs) (n + i) (made renew none) ≡ get_or (unlent cs) i (made renew none) =
-      rw first_calls at (get_or-append-add (take n h.calls) (unlent cs) i (made renew none)) in
-      a ∙ get_d_map (λ c. made c none) cs i (made renew none) renew (omega arith) ∙ ap (λ c. made c none) (get_d_map (step d) trays i renew [] k)
+      let a : get_or (take n h.calls ++ unlent cs) (n + i) (made renew None) ≡ get_or (unlent cs) i (made renew None) =
+      rw first_calls at (get_or-append-add (take n h.calls) (unlent cs) i (made renew None)) in
+      a ∙ get_d_map (λ c. made c None) cs i (made renew None) renew (omega arith) ∙ ap (λ c. made c None) (get_d_map (step d) trays i renew [] k)
 
   on_call : (i : ℕ) → i < length trays → call_at (stepped_on h n d trays) (n + i) ≡ step d (get_or trays i [])
   unfolding call_at

@@ -1,8 +1,7 @@
 -- S-7, the day's tally: each count "defined from the history of calls, not from the others", by the calls and what they returned; that a tally handed
 -- on from a cleared one holds these numbers; and the two sums. Leans on WholeHistory, on rules' Tally and on Demand2's `is_unchanged`. Definitions
 -- only. Assumes nothing.
-use Rattle.std.specs.Prelude.{◌≡◌, Bool, true, false, cond, not, ◌&&◌, ◌||◌, ◌↔◌, List, [], ◌∷◌, ℕ, zero, suc, ◌+◌, ◌^◌, ◌≤◌, ◌<◌, leb, length}
-use Rattle.std.proofs.Math.Option.{some}
+use Rattle.std.specs.Prelude.{◌≡◌, Bool, true, false, cond, not, ◌&&◌, ◌||◌, ◌↔◌, List, [], ◌∷◌, ℕ, zero, suc, ◌+◌, ◌^◌, ◌≤◌, ◌<◌, leb, length, Some}
 use Rattle.rules.specs.declared.Outcome.{Outcome}
 use Rattle.rules.specs.declared.Outcome.TheVariants.{Refused, Accepted, Answered, Long, Ended, Full}
 use Rattle.rules.specs.declared.Tally.{Tally}
@@ -170,12 +169,12 @@ can_raise renew = false
 
 -- each is lent the tally as the calls before it have left it
 abbrev pub HandedOn : History → Type 0
-HandedOn h = (n : ℕ) → n < length h.calls → can_raise (call_at h n) ≡ true → (made_at h n).tally ≡ some (tally_at h n)
+HandedOn h = (n : ℕ) → n < length h.calls → can_raise (call_at h n) ≡ true → (made_at h n).tally ≡ Some (tally_at h n)
 
 -- "any history": after an accepted opening a cleared tally can be handed on through any list of calls, each lent it as the one before has left it
 unfoldable pub lent_on : Mem → Tally → List Call → List Made
 lent_on m t [] = []
-lent_on m t (c ∷ cs) = made c (some t) ∷ lent_on (made_result m (made c (some t))).mem (tally_after m c t) cs
+lent_on m t (c ∷ cs) = made c (Some t) ∷ lent_on (made_result m (made c (Some t))).mem (tally_after m c t) cs
 
 abbrev pub CanHandOn : Type 0
 CanHandOn = (m : Mem) (k : ℕ) (a : open_code m k ≡ 0) (cs : List Call)

@@ -1,7 +1,6 @@
 -- Demand 1, about the definitions that the calls' contracts cite: what any call, the opening too, lent a tally or none, does to memories of
 -- any contents with any arguments. Leans on rules' Calls, History and Tally. Definitions only. Assumes nothing.
-use Rattle.std.specs.Prelude.{◌≡◌, ◌⊎◌, true, false, List, [], ℕ, ◌≤◌, length, drop}
-use Rattle.std.proofs.Math.Option.{Option, some}
+use Rattle.std.specs.Prelude.{◌≡◌, ◌⊎◌, true, false, List, [], ℕ, ◌≤◌, length, drop, Option, Some}
 use Rattle.query.specs.Shape.{Shape, shape_of}
 use Rattle.rules.specs.declared.Outcome.TheVariants.{Refused}
 use Rattle.rules.specs.Layout.{table_least, nodes_least, answers_least, clients_least, tray_least, refused_short, refused_occupied, refused_reversed, refused_tally_full}
@@ -42,6 +41,6 @@ pub record Demand1 : Type 0 where
   pub opening : (m : Mem) (k : ℕ) → Leaves (shape_of k) m [] (untrayed (open_result m k))
   pub calls : (m : Mem) (x : Made) → Leaves (shape m) m (tray_of x.call) (made_result m x)
   -- "15 .., altering nothing" (S-7), nor does any other refusal alter the tally
-  pub tallies : (m : Mem) (c : Call) (t : Tally) → is_accepted (number (made_result m (made c (some t))).out) ≡ false → tally_after m c t ≡ t
+  pub tallies : (m : Mem) (c : Call) (t : Tally) → is_accepted (number (made_result m (made c (Some t))).out) ≡ false → tally_after m c t ≡ t
   -- S-1: "The tray of a count is untouched": at every step of a desk whose key says "count", the one that answers too
   pub counts : (m : Mem) (tray : List ℕ) (d : ℕ) (t : Option Tally) → is_count (entry_of (client m d)) ≡ true → (made_result m (made (step d tray) t)).tray ≡ tray

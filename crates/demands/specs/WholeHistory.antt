@@ -1,7 +1,6 @@
 -- Document 01, "A history and the plain table", for the theorems: a whole history, its calls by number, and what is under way.
 -- Leans on rules' History and Tally. Definitions only. Assumes nothing.
-use Rattle.std.specs.Prelude.{◌≡◌, Bool, true, false, cond, ◌&&◌, List, ℕ, zero, suc, ◌+◌, ◌<◌, eqb, ltb, length, get_or, take}
-use Rattle.std.proofs.Math.Option.{none}
+use Rattle.std.specs.Prelude.{◌≡◌, Bool, true, false, cond, ◌&&◌, List, ℕ, zero, suc, ◌+◌, ◌<◌, eqb, ltb, length, get_or, take, None}
 use Rattle.rules.specs.declared.Outcome.{Outcome}
 use Rattle.rules.specs.declared.Outcome.TheVariants.{Refused, Accepted, Answered, Long, Ended, Full}
 use Rattle.rules.specs.Memory.{Mem, opened}
@@ -35,7 +34,7 @@ plain_at h n = plain_after (opened (shape_at h) h.lent) (plain_at_opening (shape
 
 -- call n, and what it returned and left
 unfoldable pub made_at : History → ℕ → Made
-made_at h n = get_or h.calls n (made renew none)
+made_at h n = get_or h.calls n (made renew None)
 
 unfoldable pub call_at : History → ℕ → Call
 call_at h n = (made_at h n).call

@@ -1,36 +1,18 @@
-// The calls that can raise a count, for programs in C and Rust, with the tally lent along with the memories (S-7). For each there are two functions:
-// the exported one is lent the tally, copies it, and stores what the other hands back, which is handed it by value and makes the call. Nothing is
-// decided here. Leans on tallied for the calls, on this crate for the three numbers; specs/Reply.antt says what is sent back.
+// The calls that can raise a count, for programs in C and Rust, with the tally lent along with the memories (S-7): each hands on a copy of the tally
+// and stores the one that comes back. Nothing is decided here. Leans on tallied for the calls, on this crate for the three numbers; specs/Reply.antt
+// says what is sent back.
+#![tactic(auto, unfolding(crate::specs::Reply::sent_by_tallied))]
+
 ghost use Rattle.std.specs.Prelude.{◌≡◌, true, false, []};
 ghost use Rattle.query.specs.declared.Range.TheVariants.{None, Between};
 ghost use Rattle.rules.specs.Work.{read_of, insert_of, delete_of};
 ghost use Rattle.rules.specs.Memory.{mem};
-ghost use Rattle.exports.specs.Reply.{reply_of, sent_tallied, begin_tallied, step_tallied, abandon_tallied};
+ghost use Rattle.exports.specs.Reply.{sent_tallied, begin_tallied, step_tallied, abandon_tallied};
 
 use super::Reply;
 use hall::Hall;
 use query::Range;
 use rules::Tally;
-use tallied::Counted;
-
-// What the exported call sends back and what it stores in the lent tally.
-#[derive(Clone, Copy)]
-pub struct Replied {
-    pub reply: Reply,
-    pub tally: Tally,
-}
-
-// The three numbers of a call's outcome, beside its tally.
-fn replied_of(c: Counted) -> Replied
-    ensures { (result.reply ≡ reply_of c.out) × (result.tally ≡ c.tally) }
-{
-    let out = c.out;
-    let tally = c.tally;
-    Replied {
-        reply: super::reply_of(out),
-        tally: tally,
-    }
-}
 
 // Begins a read.
 #[unsafe(no_mangle)]
@@ -45,37 +27,20 @@ pub extern "C" fn mondzafeky_begin_read_tallied(
 ) -> Reply
     ensures { sent_tallied result (mem table.new nodes.new answers.new clients.new) [] tally.new ≡ begin_tallied (mem table.old nodes.old answers.old clients.old) tally.old client (read_of false None query.now) }
 {
-    let t = *tally;
-    let c = begin_read_replied(table, nodes, answers, clients, t, client, query);
-    *tally = c.tally;
-    c.reply
-}
-
-// The same, with the tally by value.
-pub fn begin_read_replied(
-    table: &mut [u32],
-    nodes: &mut [u32],
-    answers: &mut [u32],
-    clients: &mut [u32],
-    t: Tally,
-    client: u32,
-    query: &[u32],
-) -> Replied
-    ensures { sent_tallied result.reply (mem table.new nodes.new answers.new clients.new) [] result.tally ≡ begin_tallied (mem table.old nodes.old answers.old clients.old) t client (read_of false None query.now) }
-{
     let c = tallied::begin(
         table,
         nodes,
         answers,
         clients,
-        t,
+        *tally,
         Hall::READS,
         false,
         Range::None,
         client,
         query,
     );
-    replied_of(c)
+    *tally = c.tally;
+    Reply::from(c.out)
 }
 
 // Begins a read that wants only how many records there are.
@@ -91,37 +56,20 @@ pub extern "C" fn mondzafeky_begin_count_tallied(
 ) -> Reply
     ensures { sent_tallied result (mem table.new nodes.new answers.new clients.new) [] tally.new ≡ begin_tallied (mem table.old nodes.old answers.old clients.old) tally.old client (read_of true None query.now) }
 {
-    let t = *tally;
-    let c = begin_count_replied(table, nodes, answers, clients, t, client, query);
-    *tally = c.tally;
-    c.reply
-}
-
-// The same, with the tally by value.
-pub fn begin_count_replied(
-    table: &mut [u32],
-    nodes: &mut [u32],
-    answers: &mut [u32],
-    clients: &mut [u32],
-    t: Tally,
-    client: u32,
-    query: &[u32],
-) -> Replied
-    ensures { sent_tallied result.reply (mem table.new nodes.new answers.new clients.new) [] result.tally ≡ begin_tallied (mem table.old nodes.old answers.old clients.old) t client (read_of true None query.now) }
-{
     let c = tallied::begin(
         table,
         nodes,
         answers,
         clients,
-        t,
+        *tally,
         Hall::READS,
         true,
         Range::None,
         client,
         query,
     );
-    replied_of(c)
+    *tally = c.tally;
+    Reply::from(c.out)
 }
 
 // Begins a read of the records whose value in one column is the lowest to the highest, as `mondzafeky_begin_read_within`.
@@ -140,35 +88,12 @@ pub extern "C" fn mondzafeky_begin_read_within_tallied(
 ) -> Reply
     ensures { sent_tallied result (mem table.new nodes.new answers.new clients.new) [] tally.new ≡ begin_tallied (mem table.old nodes.old answers.old clients.old) tally.old client (read_of false (Between column lowest highest) query.now) }
 {
-    let t = *tally;
-    let c = begin_read_within_replied(
-        table, nodes, answers, clients, t, client, query, column, lowest, highest,
-    );
-    *tally = c.tally;
-    c.reply
-}
-
-// The same, with the tally by value.
-pub fn begin_read_within_replied(
-    table: &mut [u32],
-    nodes: &mut [u32],
-    answers: &mut [u32],
-    clients: &mut [u32],
-    t: Tally,
-    client: u32,
-    query: &[u32],
-    column: u32,
-    lowest: u32,
-    highest: u32,
-) -> Replied
-    ensures { sent_tallied result.reply (mem table.new nodes.new answers.new clients.new) [] result.tally ≡ begin_tallied (mem table.old nodes.old answers.old clients.old) t client (read_of false (Between column lowest highest) query.now) }
-{
     let c = tallied::begin(
         table,
         nodes,
         answers,
         clients,
-        t,
+        *tally,
         Hall::READS,
         false,
         Range::Between {
@@ -179,7 +104,8 @@ pub fn begin_read_within_replied(
         client,
         query,
     );
-    replied_of(c)
+    *tally = c.tally;
+    Reply::from(c.out)
 }
 
 // Begins a read that wants only how many these are.
@@ -198,35 +124,12 @@ pub extern "C" fn mondzafeky_begin_count_within_tallied(
 ) -> Reply
     ensures { sent_tallied result (mem table.new nodes.new answers.new clients.new) [] tally.new ≡ begin_tallied (mem table.old nodes.old answers.old clients.old) tally.old client (read_of true (Between column lowest highest) query.now) }
 {
-    let t = *tally;
-    let c = begin_count_within_replied(
-        table, nodes, answers, clients, t, client, query, column, lowest, highest,
-    );
-    *tally = c.tally;
-    c.reply
-}
-
-// The same, with the tally by value.
-pub fn begin_count_within_replied(
-    table: &mut [u32],
-    nodes: &mut [u32],
-    answers: &mut [u32],
-    clients: &mut [u32],
-    t: Tally,
-    client: u32,
-    query: &[u32],
-    column: u32,
-    lowest: u32,
-    highest: u32,
-) -> Replied
-    ensures { sent_tallied result.reply (mem table.new nodes.new answers.new clients.new) [] result.tally ≡ begin_tallied (mem table.old nodes.old answers.old clients.old) t client (read_of true (Between column lowest highest) query.now) }
-{
     let c = tallied::begin(
         table,
         nodes,
         answers,
         clients,
-        t,
+        *tally,
         Hall::READS,
         true,
         Range::Between {
@@ -237,7 +140,8 @@ pub fn begin_count_within_replied(
         client,
         query,
     );
-    replied_of(c)
+    *tally = c.tally;
+    Reply::from(c.out)
 }
 
 // Begins an insert of a record.
@@ -253,37 +157,20 @@ pub extern "C" fn mondzafeky_begin_insert_tallied(
 ) -> Reply
     ensures { sent_tallied result (mem table.new nodes.new answers.new clients.new) [] tally.new ≡ begin_tallied (mem table.old nodes.old answers.old clients.old) tally.old client (insert_of query.now) }
 {
-    let t = *tally;
-    let c = begin_insert_replied(table, nodes, answers, clients, t, client, query);
-    *tally = c.tally;
-    c.reply
-}
-
-// The same, with the tally by value.
-pub fn begin_insert_replied(
-    table: &mut [u32],
-    nodes: &mut [u32],
-    answers: &mut [u32],
-    clients: &mut [u32],
-    t: Tally,
-    client: u32,
-    query: &[u32],
-) -> Replied
-    ensures { sent_tallied result.reply (mem table.new nodes.new answers.new clients.new) [] result.tally ≡ begin_tallied (mem table.old nodes.old answers.old clients.old) t client (insert_of query.now) }
-{
     let c = tallied::begin(
         table,
         nodes,
         answers,
         clients,
-        t,
+        *tally,
         Hall::INSERTS,
         false,
         Range::None,
         client,
         query,
     );
-    replied_of(c)
+    *tally = c.tally;
+    Reply::from(c.out)
 }
 
 // Begins a delete of every record in the query's subspace.
@@ -299,37 +186,20 @@ pub extern "C" fn mondzafeky_begin_delete_tallied(
 ) -> Reply
     ensures { sent_tallied result (mem table.new nodes.new answers.new clients.new) [] tally.new ≡ begin_tallied (mem table.old nodes.old answers.old clients.old) tally.old client (delete_of query.now) }
 {
-    let t = *tally;
-    let c = begin_delete_replied(table, nodes, answers, clients, t, client, query);
-    *tally = c.tally;
-    c.reply
-}
-
-// The same, with the tally by value.
-pub fn begin_delete_replied(
-    table: &mut [u32],
-    nodes: &mut [u32],
-    answers: &mut [u32],
-    clients: &mut [u32],
-    t: Tally,
-    client: u32,
-    query: &[u32],
-) -> Replied
-    ensures { sent_tallied result.reply (mem table.new nodes.new answers.new clients.new) [] result.tally ≡ begin_tallied (mem table.old nodes.old answers.old clients.old) t client (delete_of query.now) }
-{
     let c = tallied::begin(
         table,
         nodes,
         answers,
         clients,
-        t,
+        *tally,
         Hall::DELETES,
         false,
         Range::None,
         client,
         query,
     );
-    replied_of(c)
+    *tally = c.tally;
+    Reply::from(c.out)
 }
 
 // One step of what is under way at the desk.
@@ -345,26 +215,9 @@ pub extern "C" fn mondzafeky_step_tallied(
 ) -> Reply
     ensures { sent_tallied result (mem table.new nodes.new answers.new clients.new) tray.new tally.new ≡ step_tallied (mem table.old nodes.old answers.old clients.old) tally.old client tray.old }
 {
-    let t = *tally;
-    let c = step_replied(table, nodes, answers, clients, tray, t, client);
+    let c = tallied::step(table, nodes, answers, clients, tray, *tally, client);
     *tally = c.tally;
-    c.reply
-}
-
-// The same, with the tally by value.
-pub fn step_replied(
-    table: &mut [u32],
-    nodes: &mut [u32],
-    answers: &mut [u32],
-    clients: &mut [u32],
-    tray: &mut [u32],
-    t: Tally,
-    client: u32,
-) -> Replied
-    ensures { sent_tallied result.reply (mem table.new nodes.new answers.new clients.new) tray.new result.tally ≡ step_tallied (mem table.old nodes.old answers.old clients.old) t client tray.old }
-{
-    let c = tallied::step(table, nodes, answers, clients, tray, t, client);
-    replied_of(c)
+    Reply::from(c.out)
 }
 
 // Abandons what is under way at the desk; a write past its table step is brought to its end.
@@ -379,23 +232,7 @@ pub extern "C" fn mondzafeky_abandon_tallied(
 ) -> Reply
     ensures { sent_tallied result (mem table.new nodes.new answers.new clients.new) [] tally.new ≡ abandon_tallied (mem table.old nodes.old answers.old clients.old) tally.old client }
 {
-    let t = *tally;
-    let c = abandon_replied(table, nodes, answers, clients, t, client);
+    let c = tallied::abandon(table, nodes, answers, clients, *tally, client);
     *tally = c.tally;
-    c.reply
-}
-
-// The same, with the tally by value.
-pub fn abandon_replied(
-    table: &mut [u32],
-    nodes: &mut [u32],
-    answers: &mut [u32],
-    clients: &mut [u32],
-    t: Tally,
-    client: u32,
-) -> Replied
-    ensures { sent_tallied result.reply (mem table.new nodes.new answers.new clients.new) [] result.tally ≡ abandon_tallied (mem table.old nodes.old answers.old clients.old) t client }
-{
-    let c = tallied::abandon(table, nodes, answers, clients, t, client);
-    replied_of(c)
+    Reply::from(c.out)
 }

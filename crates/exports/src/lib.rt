@@ -1,14 +1,14 @@
 // The calls for programs in C and Rust: each of the twelve public calls over plain slices and numbers, under a name of its own. Nothing is decided
 // here: an export makes one call of the library and turns its outcome into three numbers. Leans on calls; specs/Reply.antt
 // says what is sent back. The calls that may be lent a tally stand in lent.rt.
-#![tactic(auto)]
+#![tactic(auto, unfolding(crate::specs::Reply::sent_by, crate::specs::Reply::sent_by_step))]
 
 ghost use Rattle.std.specs.Prelude.{◌≡◌, true, false};
 ghost use Rattle.query.specs.declared.Range.TheVariants.{None, Between};
 ghost use Rattle.rules.specs.Work.{read_of, insert_of, delete_of};
 ghost use Rattle.rules.specs.Memory.{mem};
 ghost use Rattle.rules.specs.Calls.{open_result, begin_result, step_result, abandon_result, evict_answer_result, evict_node_result, renew_result};
-ghost use Rattle.exports.specs.Reply.{replied, reply_of, sent, sent_by, sent_with, sent_by_step};
+ghost use Rattle.exports.specs.Reply.{reply_of, sent, sent_by, sent_with, sent_by_step};
 
 use hall::Hall;
 use rules::Outcome;
@@ -27,38 +27,33 @@ pub struct Reply {
     pub ending: u32,
 }
 
-// A reply of three numbers.
-fn three(number: u32, count: u32, ending: u32) -> Reply
-    ensures { result ≡ replied number count ending }
-{
-    Reply {
-        number: number,
-        count: count,
-        ending: ending,
-    }
-}
-
 // The three numbers of an outcome.
-fn reply_of(out: Outcome) -> Reply
-    ensures { result ≡ reply_of out }
-{
-    match out {
-        Outcome::Refused(n) => three(n, 0, 0),
-        Outcome::Accepted => three(0, 0, 0),
-        Outcome::Answered { count, cached } => {
-            if cached {
-                return three(0, count, 1);
-            }
-            three(0, count, 2)
+impl From<Outcome> for Reply {
+    ghost from_gives = { λ o r. r ≡ reply_of o };
+
+    #[tactic(auto, unfolding(crate::specs::Reply::reply_of, rules::specs::Outcome::number, rules::specs::Outcome::count, rules::specs::Outcome::ending))]
+    fn from(out: Outcome) -> Reply {
+        let (number, count, ending) = match out {
+            Outcome::Refused(number) => (number, 0, 0),
+            Outcome::Accepted => (0, 0, 0),
+            Outcome::Answered {
+                count,
+                cached: true,
+            } => (0, count, 1),
+            Outcome::Answered {
+                count,
+                cached: false,
+            } => (0, count, 2),
+            Outcome::Long => (Hall::ENDED_LONG, 0, 0),
+            Outcome::Ended { changed: true } => (0, 0, 3),
+            Outcome::Ended { changed: false } => (0, 0, 4),
+            Outcome::Full => (Hall::ENDED_FULL, 0, 0),
+        };
+        Reply {
+            number,
+            count,
+            ending,
         }
-        Outcome::Long => three(Hall::ENDED_LONG, 0, 0),
-        Outcome::Ended { changed } => {
-            if changed {
-                return three(0, 0, 3);
-            }
-            three(0, 0, 4)
-        }
-        Outcome::Full => three(Hall::ENDED_FULL, 0, 0),
     }
 }
 
@@ -74,7 +69,7 @@ pub extern "C" fn mondzafeky_open(
     ensures { sent result (mem table.new nodes.new answers.new clients.new) ≡ sent_by (open_result (mem table.old nodes.old answers.old clients.old) k) }
 {
     let out = calls::opening::open(table, nodes, answers, clients, k);
-    reply_of(out)
+    Reply::from(out)
 }
 
 // Begins a read.
@@ -90,7 +85,7 @@ pub extern "C" fn mondzafeky_begin_read(
     ensures { sent result (mem table.new nodes.new answers.new clients.new) ≡ sent_by (begin_result (mem table.old nodes.old answers.old clients.old) client (read_of false None query.now)) }
 {
     let out = calls::begins::begin_read(table, nodes, answers, clients, client, query);
-    reply_of(out)
+    Reply::from(out)
 }
 
 // Begins a read that wants only how many records there are.
@@ -106,7 +101,7 @@ pub extern "C" fn mondzafeky_begin_count(
     ensures { sent result (mem table.new nodes.new answers.new clients.new) ≡ sent_by (begin_result (mem table.old nodes.old answers.old clients.old) client (read_of true None query.now)) }
 {
     let out = calls::begins::begin_count(table, nodes, answers, clients, client, query);
-    reply_of(out)
+    Reply::from(out)
 }
 
 // Begins a read of the records that fit the query and whose value in one column, which is given by its number from 0, is the lowest to the
@@ -128,7 +123,7 @@ pub extern "C" fn mondzafeky_begin_read_within(
     let out = calls::begins::begin_read_within(
         table, nodes, answers, clients, client, query, column, lowest, highest,
     );
-    reply_of(out)
+    Reply::from(out)
 }
 
 // Begins a read that wants only how many these are.
@@ -149,7 +144,7 @@ pub extern "C" fn mondzafeky_begin_count_within(
     let out = calls::begins::begin_count_within(
         table, nodes, answers, clients, client, query, column, lowest, highest,
     );
-    reply_of(out)
+    Reply::from(out)
 }
 
 // Begins an insert of a record.
@@ -165,7 +160,7 @@ pub extern "C" fn mondzafeky_begin_insert(
     ensures { sent result (mem table.new nodes.new answers.new clients.new) ≡ sent_by (begin_result (mem table.old nodes.old answers.old clients.old) client (insert_of query.now)) }
 {
     let out = calls::begins::begin_insert(table, nodes, answers, clients, client, query);
-    reply_of(out)
+    Reply::from(out)
 }
 
 // Begins a delete of every record in the query's subspace.
@@ -181,7 +176,7 @@ pub extern "C" fn mondzafeky_begin_delete(
     ensures { sent result (mem table.new nodes.new answers.new clients.new) ≡ sent_by (begin_result (mem table.old nodes.old answers.old clients.old) client (delete_of query.now)) }
 {
     let out = calls::begins::begin_delete(table, nodes, answers, clients, client, query);
-    reply_of(out)
+    Reply::from(out)
 }
 
 // One step of what is under way at the desk.
@@ -197,7 +192,7 @@ pub extern "C" fn mondzafeky_step(
     ensures { sent_with result (mem table.new nodes.new answers.new clients.new) tray.new ≡ sent_by_step (step_result (mem table.old nodes.old answers.old clients.old) tray.old client) }
 {
     let out = calls::desks::step(table, nodes, answers, clients, tray, client);
-    reply_of(out)
+    Reply::from(out)
 }
 
 // Abandons what is under way at the desk: a read, or a write; a write past its table step is brought to its end.
@@ -212,7 +207,7 @@ pub extern "C" fn mondzafeky_abandon(
     ensures { sent result (mem table.new nodes.new answers.new clients.new) ≡ sent_by (abandon_result (mem table.old nodes.old answers.old clients.old) client) }
 {
     let out = calls::desks::abandon(table, nodes, answers, clients, client);
-    reply_of(out)
+    Reply::from(out)
 }
 
 // Puts out the filed answer at a place, 0 the oldest.
@@ -227,7 +222,7 @@ pub extern "C" fn mondzafeky_evict_answer(
     ensures { sent result (mem table.new nodes.new answers.new clients.new) ≡ sent_by (evict_answer_result (mem table.old nodes.old answers.old clients.old) place) }
 {
     let out = calls::upkeep::evict_answer(table, nodes, answers, clients, place);
-    reply_of(out)
+    Reply::from(out)
 }
 
 // Puts out the node at a place, which has no pending write.
@@ -242,7 +237,7 @@ pub extern "C" fn mondzafeky_evict_node(
     ensures { sent result (mem table.new nodes.new answers.new clients.new) ≡ sent_by (evict_node_result (mem table.old nodes.old answers.old clients.old) place) }
 {
     let out = calls::upkeep::evict_node(table, nodes, answers, clients, place);
-    reply_of(out)
+    Reply::from(out)
 }
 
 // With every desk idle: empties answers and nodes; the table stays.
@@ -256,5 +251,5 @@ pub extern "C" fn mondzafeky_renew(
     ensures { sent result (mem table.new nodes.new answers.new clients.new) ≡ sent_by (renew_result (mem table.old nodes.old answers.old clients.old)) }
 {
     let out = calls::upkeep::renew(table, nodes, answers, clients);
-    reply_of(out)
+    Reply::from(out)
 }

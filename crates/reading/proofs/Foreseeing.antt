@@ -3,7 +3,8 @@
 use mathlib.Core.Path.{◌≡◌, refl, sym, ap, ◌∙◌}
 use mathlib.Core.Bool.{Bool, true, false, not}
 use mathlib.Core.List.{List}
-use mathlib.Core.Option.{Option, none, some}
+use mathlib.Core.Option.{Option as Maybe, none, some}
+use Rattle.std.specs.Prelude.{Option, None, Some}
 use Prim.Native.Nat.{ℕ, ◌+◌, ◌≤◌, ◌<◌}
 use lib.Dec.{ltb, leb}
 use lib.ListN.{length, get_or, take}
@@ -13,7 +14,7 @@ use Rattle.query.specs.declared.Column.{Column}
 use Rattle.query.specs.declared.Range.{Range}
 use Rattle.columns.specs.ColumnContracts.{four}
 use Rattle.rules.specs.declared.Count.{Count}
-use Rattle.rules.specs.declared.Count.TheVariants.{NoCount, FromFile, FromTable, EndedLong}
+use Rattle.rules.specs.declared.Count.TheVariants.{FromFile, FromTable, EndedLong}
 use Rattle.rules.specs.Layout.{max_list, answer_count_offset}
 use Rattle.rules.specs.Nodes.{Words, Store}
 use Rattle.rules.specs.Work.{Value, list_within, value_of, may_answer}
@@ -32,10 +33,10 @@ use Rattle.reading.proofs.Filing.{fetch_not, fetch_given}
 use Rattle.reading.proofs.Listing.{list_for, value_list, table_at}
 
 -- what a step's outcome raises
-abbrev raises : StepResult → Count
-raises x = count_of NoCount x.out
+abbrev raises : StepResult → Option Count
+raises x = count_of None x.out
 
-look_none : (m : Mem) (y : List ℕ) (d j : ℕ) (p : Words) (o : Option Store) → NoCount ≡ raises (look_result m y d j p o)
+look_none : (m : Mem) (y : List ℕ) (d j : ℕ) (p : Words) (o : Maybe Store) → None ≡ raises (look_result m y d j p o)
 unfolding look_result count_of
 look_none m y d j p none = refl
 look_none m y d j p (some s) = refl
@@ -45,24 +46,24 @@ long_test n = by_test (ltb max_list n) (λ e. rw (e, lt-leb n max_list (ltb-true
 
 module _ {h : Held} {clients : List ℕ} {d : ℕ} (r : Reader h clients d) where
   -- what the step that is due raises
-  abbrev due : Mem → List ℕ → Count
+  abbrev due : Mem → List ℕ → Option Count
   due m y = raises (read_result m y d (asked_at clients d) (made clients d))
 
-  pub look_raises : made clients d < looks clients d → (t n a y : List ℕ) → NoCount ≡ due (mem t n a clients) y
+  pub look_raises : made clients d < looks clients d → (t n a y : List ℕ) → None ≡ due (mem t n a clients) y
   look_raises i t n a y =
       rw (look_is (mem t n a clients) y d (asked_at clients d) (made clients d) i) (look_none (mem t n a clients) y d (made clients d) _ _)
 
-  pub file_raises : made clients d ≡ looks clients d + 2 → (t n a y : List ℕ) → FromTable ≡ due (mem t n a clients) y
+  pub file_raises : made clients d ≡ looks clients d + 2 → (t n a y : List ℕ) → Some FromTable ≡ due (mem t n a clients) y
   unfolding file_result answered count_of
   file_raises p t n a y = rw (file_is (mem t n a clients) y d (asked_at clients d) (made clients d) p)
 
   -- i: the place of the filed answer that was found
   module _ (p : made clients d ≡ looks clients d) (s : List ℕ) (i : ℕ) (e : i ≡ found_for s (client_in current clients d) h.steps) (t n y : List ℕ) where
-    pub none_raises : get_or s answer_count_offset 0 ≤ i → NoCount ≡ due (mem t n s clients) y
+    pub none_raises : get_or s answer_count_offset 0 ≤ i → None ≡ due (mem t n s clients) y
     unfolding count_of
     none_raises g = ap raises (fetch_not r p s y i e g _ refl t n)
 
-    pub filed_raises : i < get_or s answer_count_offset 0 → FromFile ≡ due (mem t n s clients) y
+    pub filed_raises : i < get_or s answer_count_offset 0 → Some FromFile ≡ due (mem t n s clients) y
     unfolding count_of
     filed_raises g = ap raises (fetch_given r p s y i e g _ _ _ (record { count = refl; list = refl }) refl t n)
 
@@ -88,16 +89,16 @@ module _ {h : Held} {clients : List ℕ} {d : ℕ} (r : Reader h clients d) wher
         ≡ table_result (mem s n a clients) y d (asked_at clients d) (value_of (asked_at clients d) (records_in h.columns s))
     taken = table_at r s _ refl p y n a
 
-    pub long_raises : b ≡ true → EndedLong ≡ due (mem s n a clients) y
+    pub long_raises : b ≡ true → Some EndedLong ≡ due (mem s n a clients) y
     unfolding table_result count_of
     long_raises q = rw (taken, ← e, q)
 
     -- c: whether a look saw a mark
     module _ (q : b ≡ false) (c : Bool) (f : c ≡ saw_pending (client_in current clients d)) where
-      pub given_raises : c ≡ true → FromTable ≡ due (mem s n a clients) y
+      pub given_raises : c ≡ true → Some FromTable ≡ due (mem s n a clients) y
       unfolding table_result answered client count_of
       given_raises z = rw (taken, ← e, q, ← f, z)
 
-      pub held_raises : c ≡ false → NoCount ≡ due (mem s n a clients) y
+      pub held_raises : c ≡ false → None ≡ due (mem s n a clients) y
       unfolding table_result client count_of
       held_raises z = rw (taken, ← e, q, ← f, z)

@@ -1,7 +1,6 @@
 // Which count of a tally the step that is due of a read would raise: asked before anything is altered, and only where a count of the tally stands
 // at its largest. Leans on the searches of the steps themselves.
 ghost use Rattle.std.specs.Prelude.{◌≡◌, not, List, ℕ};
-ghost use Rattle.rules.specs.declared.Count.TheVariants.{NoCount};
 ghost use Rattle.rules.specs.Work.{value_of, may_answer};
 ghost use Rattle.rules.specs.Memory.{mem, records_in};
 ghost use Rattle.rules.specs.Steps.{read_result};
@@ -15,15 +14,15 @@ use hall::Hall;
 use rules::Count;
 
 // The fetch: the read is answered from file, or goes on.
-fn fetch_would(answers: &[u32], clients: &[u32], d: usize, h: Held) -> Count
+fn fetch_would(answers: &[u32], clients: &[u32], d: usize, h: Held) -> Option<Count>
     requires { ForeseesFetch answers.now clients.now d h }
-    ensures { (t n y : List ℕ) → result ≡ count_of NoCount (read_result (mem t n answers.now clients.now) y d (asked_at clients.now d) (made clients.now d)).out }
+    ensures { (t n y : List ℕ) → result ≡ count_of None (read_result (mem t n answers.now clients.now) y d (asked_at clients.now d) (made clients.now d)).out }
 {
     let i = find_filed(answers, clients, d, h.steps);
     if answers[Hall::ANSWER_COUNT_OFFSET] as usize <= i {
-        return Count::NoCount;
+        return None;
     }
-    Count::FromFile
+    Some(Count::FromFile)
 }
 
 // Whether a list's table step would find more than 32 records. A count is never too long: no pass over the table is made for it.
@@ -42,27 +41,33 @@ fn is_long(table: &[u32], clients: &[u32], d: usize, h: Held) -> bool
 }
 
 // The table step: a list of more than 32 ends the read; where a look saw a mark it is answered from the table; else it goes on.
-fn table_would(table: &[u32], clients: &[u32], d: usize, h: Held) -> Count
+fn table_would(table: &[u32], clients: &[u32], d: usize, h: Held) -> Option<Count>
     requires { ForeseesTable table.now clients.now d h }
-    ensures { (n a y : List ℕ) → result ≡ count_of NoCount (read_result (mem table.now n a clients.now) y d (asked_at clients.now d) (made clients.now d)).out }
+    ensures { (n a y : List ℕ) → result ≡ count_of None (read_result (mem table.now n a clients.now) y d (asked_at clients.now d) (made clients.now d)).out }
 {
     if is_long(table, clients, d, h) {
-        return Count::EndedLong;
+        return Some(Count::EndedLong);
     }
     if clients::saw_pending(clients, d) {
-        return Count::FromTable;
+        return Some(Count::FromTable);
     }
-    Count::NoCount
+    None
 }
 
 // The step that is due: a look ends nothing, a file step answers from the table.
-pub fn step_would(table: &[u32], answers: &[u32], clients: &[u32], d: usize, h: Held) -> Count
+pub fn step_would(
+    table: &[u32],
+    answers: &[u32],
+    clients: &[u32],
+    d: usize,
+    h: Held,
+) -> Option<Count>
     requires { Foresees table.now answers.now clients.now d h }
-    ensures { (n y : List ℕ) → result ≡ count_of NoCount (read_result (mem table.now n answers.now clients.now) y d (asked_at clients.now d) (made clients.now d)).out }
+    ensures { (n y : List ℕ) → result ≡ count_of None (read_result (mem table.now n answers.now clients.now) y d (asked_at clients.now d) (made clients.now d)).out }
 {
     let count = columns::keys::look_count(h.columns, h.marks);
     if h.steps < count {
-        return Count::NoCount;
+        return None;
     }
     if h.steps == count {
         return fetch_would(answers, clients, d, h);
@@ -70,5 +75,5 @@ pub fn step_would(table: &[u32], answers: &[u32], clients: &[u32], d: usize, h: 
     if h.steps == count + 1 {
         return table_would(table, clients, d, h);
     }
-    Count::FromTable
+    Some(Count::FromTable)
 }

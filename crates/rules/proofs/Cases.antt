@@ -31,7 +31,7 @@ use Rattle.rules.specs.Calls.{unless, open_result, begin_result, step_result, pa
 use Rattle.rules.specs.History.{Call, begin, step, abandon, evict_answer as drop_answer, evict_node as drop_node, renew, untrayed, call_result, tray_of}
 use Rattle.rules.specs.declared.Tally.{Tally}
 use Rattle.rules.specs.declared.Count.TheVariants.{ReadBegun, FromFile, FromTable, EndedLong, ReadAbandoned, WriteBegun, EndedChanged, EndedUnchanged, WriteAbandoned}
-use Rattle.rules.specs.Tally.{count_in, rank, one as raise, cleared_tally, raised, count_of, begun_count, abandoned_count, accepted_count, would_raise, is_full as is_count_full, is_full_for, is_tally_full, made_result, tally_after, tallied_result, unlent, mem_after}
+use Rattle.rules.specs.Tally.{count_in, rank, raises as is_raised, one as raise, cleared_tally, raised, count_of, begun_count, abandoned_count, accepted_count, would_raise, is_full as is_count_full, is_full_for, is_tally_full, made_result, tally_after, tallied_result, unlent, mem_after}
 
 -- what a row expects of a call, or of the memories
 pub data Expect : Type 0 where
@@ -568,7 +568,7 @@ module _ (f : Form) where
 
 -- In the form that the calls serve
 pub cases_1_to_12 : T (all (cases current))
-unfolding stretch with_stretch joined parts_in with_parts kept_in with_kept wholes halves wholes_at halves_at check_of misfit labelled bared check_for wide_floor with_wide_floor node_from node_to entry_from entry_to read_nodes write_nodes sheet_entry turned looks wildcards_of wildcards_in same keep place without all_below listed padded written rows flat entries_in with_entries admits lies naming pick read_node write_node named read_count write_count column_of query_of well_marked is_query names_all record_of term_value column_value tag tags label_words marks key_words columns_in query_in counts_in count_key range_of range_in range_key wanted_key unranged bare_key range.within is_named is_range is_reversed list_of before has put_in target is_full outside effect no_room changes label_in pending revision with_pending with_revision has_label node_place is_present node_of with_node evict_node new_node added is_free oldest_free make_room added_in ensured announced_in announced is_pending released lifted may_retire retired is_high is_worn key_in length_in revision_in is_count most_in list_in value_in has_key_of at_least serves fetch_place key_place filed is_long some_long kind steps saw_pending did_change found_full entry_of idle is_idle begun work_at is_bad stepped flag noted holding wrote records_in with_records store_in with_store answers_in with_answers client_in with_client told cleared opened renewed columns client is_short bad_columns is_unsound no_client all_idle open_code begin_code at_client step_code abandon_code evict_answer_code evict_node_code renew_code now_at store_back answered look_result fetch_result table_result file_result read_result announce_result write_table_result end_of raise_result write_result progress_of progress unless open_result begin_result step_result past_table retire_result abandoned_write abandoned_of abandoned abandon_result evict_answer_result evict_node_result renew_result untrayed call_result of_records of_number ask_fault list_within value_of may_answer read_labels ask_key ask_in write_labels change_kind kind_of key_of change_in write_in work_in work_fault steps_in_all is_write ask_of work_of fault_of is_full_for is_tally_full made_result tray_of count_in rank raise raised count_of begun_count abandoned_count accepted_count would_raise is_count_full tally_after tallied_result unlent mem_after
+unfolding stretch with_stretch joined parts_in with_parts kept_in with_kept wholes halves wholes_at halves_at check_of misfit labelled bared check_for wide_floor with_wide_floor node_from node_to entry_from entry_to read_nodes write_nodes sheet_entry turned looks wildcards_of wildcards_in same keep place without all_below listed padded written rows flat entries_in with_entries admits lies naming pick read_node write_node named read_count write_count column_of query_of well_marked is_query names_all record_of term_value column_value tag tags label_words marks key_words columns_in query_in counts_in count_key range_of range_in range_key wanted_key unranged bare_key range.within is_named is_range is_reversed list_of before has put_in target is_full outside effect no_room changes label_in pending revision with_pending with_revision has_label node_place is_present node_of with_node evict_node new_node added is_free oldest_free make_room added_in ensured announced_in announced is_pending released lifted may_retire retired is_high is_worn key_in length_in revision_in is_count most_in list_in value_in has_key_of at_least serves fetch_place key_place filed is_long some_long kind steps saw_pending did_change found_full entry_of idle is_idle begun work_at is_bad stepped flag noted holding wrote records_in with_records store_in with_store answers_in with_answers client_in with_client told cleared opened renewed columns client is_short bad_columns is_unsound no_client all_idle open_code begin_code at_client step_code abandon_code evict_answer_code evict_node_code renew_code now_at store_back answered look_result fetch_result table_result file_result read_result announce_result write_table_result end_of raise_result write_result progress_of progress unless open_result begin_result step_result past_table retire_result abandoned_write abandoned_of abandoned abandon_result evict_answer_result evict_node_result renew_result untrayed call_result of_records of_number ask_fault list_within value_of may_answer read_labels ask_key ask_in write_labels change_kind kind_of key_of change_in write_in work_in work_fault steps_in_all is_write ask_of work_of fault_of is_full_for is_tally_full made_result tray_of count_in rank is_raised raise raised count_of begun_count abandoned_count accepted_count would_raise is_count_full tally_after tallied_result unlent mem_after
 cases_1_to_12 = tt
 
 -- In the wide form: the node of 5 with a check that does not fit its label is nobody's node

@@ -3,7 +3,7 @@
 use mathlib.Core.Path.{◌≡◌, refl, sym, ap, ◌∙◌, subst}
 use mathlib.Core.Bool.{Bool, true, false, true≢false}
 use mathlib.Core.List.{List, [], ◌∷◌, ◌++◌, map}
-use mathlib.Core.Option.{Option, none, some}
+use Rattle.std.specs.Prelude.{Option, None, Some}
 use Prim.Native.Nat.{ℕ, suc, ◌<◌}
 use native.Mathlib.Omega.{arith}
 use lib.Dec.{eqb}
@@ -88,7 +88,7 @@ module _ {A : Type 0} (left : A → Mem) (call : A → Made) (says : Mem → A �
         ∙ sym (next_mem it (length ys) (subst (λ l. length ys < length (map call l)) (sym e) (number_low ys zs x)))
 
 -- ---- By `calls::run`
-unlent_result : (m : Mem) (c : Call) → made_result m (made c none) ≡ call_result m c
+unlent_result : (m : Mem) (c : Call) → made_result m (made c None) ≡ call_result m c
 unfolding made_result is_tally_full is_full_for
 unlent_result m c = refl
 
@@ -121,10 +121,10 @@ runs_are_histories m n k e xs f =
     (t.0, memory_0 m n k t.0 (map ran_call xs) t.1, ran_there m n k t.0 t.1 xs f)
 
 -- ---- By the exported functions
-apart : {A : Type 0} {t : Tally} → ◌≡◌ {A = Option Tally} none (some t) → A
+apart : {A : Type 0} {t : Tally} → ◌≡◌ {A = Option Tally} None (Some t) → A
 apart e = absurd (let z : ◌≡◌ {A = ℕ} 0 1 = cc in omega arith)
 
-the_same : {t u : Tally} → some t ≡ some u → t ≡ u
+the_same : {t u : Tally} → Some t ≡ Some u → t ≡ u
 the_same e = cc
 
 -- what the contract's equation tells of one
@@ -132,10 +132,10 @@ record Tells (m : Mem) (c : Call) (t : Option Tally) (x : Exported) : Type 0 whe
   reply : x.reply ≡ reply_of (made_result m (made c t)).out
   left : (made_result m (made c t)).mem ≡ x.left
   tray : (d : ℕ) (l : List ℕ) → c ≡ step d l → x.tray_left ≡ (made_result m (made c t)).tray
-  tally : (u : Tally) → t ≡ some u → x.tally_left ≡ tally_after m c u
+  tally : (u : Tally) → t ≡ Some u → x.tally_left ≡ tally_after m c u
 
 by_sent : (m : Mem) (c : Call) (x : Exported) (r : Result) → call_result m c ≡ untrayed r → ((d : ℕ) (l : List ℕ) → c ≡ step d l → ⊥) → sent x.reply x.left ≡ sent_by r
-    → Tells m c none x
+    → Tells m c None x
 unfolding made_result is_tally_full is_full_for sent_by untrayed
 by_sent m c x r i other e = record {
   reply = ap (λ (y : Sent). y.reply) e ∙ ap (λ (y : StepResult). reply_of y.out) (sym i);
@@ -144,7 +144,7 @@ by_sent m c x r i other e = record {
   tally = λ u z. apart z;
 }
 
-by_step : (m : Mem) (d : ℕ) (l : List ℕ) (x : Exported) → SaysOf m (step d l) none x → Tells m (step d l) none x
+by_step : (m : Mem) (d : ℕ) (l : List ℕ) (x : Exported) → SaysOf m (step d l) None x → Tells m (step d l) None x
 unfolding SaysOf made_result is_tally_full is_full_for sent_by_step call_result
 by_step m d l x e = record {
   reply = ap (λ (y : SentWith). y.reply) e;
@@ -155,7 +155,7 @@ by_step m d l x e = record {
 
 -- of a call that is lent a tally; a tray it is lent only if it is a step
 by_tallied : (m : Mem) (c : Call) (t : Tally) (x : Exported) (l : List ℕ) → ((d : ℕ) (k : List ℕ) → c ≡ step d k → x.tray_left ≡ l)
-    → sent_tallied x.reply x.left l x.tally_left ≡ sent_by_tallied (tallied_result m t c) → Tells m c (some t) x
+    → sent_tallied x.reply x.left l x.tally_left ≡ sent_by_tallied (tallied_result m t c) → Tells m c (Some t) x
 unfolding sent_by_tallied tallied_result
 by_tallied m c t x l is e = record {
   reply = ap (λ (y : SentTallied). y.reply) e;
@@ -179,18 +179,18 @@ no_step n e = true≢false (sym (ap is_step e) ∙ n)
 
 tells : (m : Mem) (c : Call) (t : Option Tally) (x : Exported) → SaysOf m c t x → Tells m c t x
 unfolding SaysOf call_result is_step
-tells m (begin d r) none x e = by_sent m (begin d r) x _ refl (λ f l z. no_step refl z) e
-tells m (step d l) none x e = by_step m d l x e
-tells m (abandon d) none x e = by_sent m (abandon d) x _ refl (λ f l z. no_step refl z) e
-tells m (evict_answer i) none x e = by_sent m (evict_answer i) x _ refl (λ f l z. no_step refl z) e
-tells m (evict_node i) none x e = by_sent m (evict_node i) x _ refl (λ f l z. no_step refl z) e
-tells m renew none x e = by_sent m renew x _ refl (λ f l z. no_step refl z) e
-tells m (begin d r) (some t) x e = by_tallied m (begin d r) t x [] (λ f l z. absurd (no_step refl z)) e
-tells m (step d l) (some t) x e = by_tallied m (step d l) t x x.tray_left (λ f k z. refl) e
-tells m (abandon d) (some t) x e = by_tallied m (abandon d) t x [] (λ f l z. absurd (no_step refl z)) e
-tells m (evict_answer i) (some t) x e = absurd e
-tells m (evict_node i) (some t) x e = absurd e
-tells m renew (some t) x e = absurd e
+tells m (begin d r) None x e = by_sent m (begin d r) x _ refl (λ f l z. no_step refl z) e
+tells m (step d l) None x e = by_step m d l x e
+tells m (abandon d) None x e = by_sent m (abandon d) x _ refl (λ f l z. no_step refl z) e
+tells m (evict_answer i) None x e = by_sent m (evict_answer i) x _ refl (λ f l z. no_step refl z) e
+tells m (evict_node i) None x e = by_sent m (evict_node i) x _ refl (λ f l z. no_step refl z) e
+tells m renew None x e = by_sent m renew x _ refl (λ f l z. no_step refl z) e
+tells m (begin d r) (Some t) x e = by_tallied m (begin d r) t x [] (λ f l z. absurd (no_step refl z)) e
+tells m (step d l) (Some t) x e = by_tallied m (step d l) t x x.tray_left (λ f k z. refl) e
+tells m (abandon d) (Some t) x e = by_tallied m (abandon d) t x [] (λ f l z. absurd (no_step refl z)) e
+tells m (evict_answer i) (Some t) x e = absurd e
+tells m (evict_node i) (Some t) x e = absurd e
+tells m renew (Some t) x e = absurd e
 
 made_leaves : (m : Mem) (x : Exported) → ExportSays m x → (made_result m x.made).mem ≡ x.left
 made_leaves m x e = (tells m x.made.call x.made.tally x e).left

@@ -1,8 +1,7 @@
 -- From contracts to histories: an opening and calls made one after another by the library's own functions are a history, and what each of them
 -- returned and left is what the theorems speak of. All that is supposed of a call is the equation of its contract. Leans on calls' CallValues and
 -- exports' Reply, which the contracts cite, and on demands' WholeHistory. Definitions only. Assumes nothing.
-use Rattle.std.specs.Prelude.{◌≡◌, List, [], ◌∷◌, ◌++◌, map, ℕ, suc, length}
-use Rattle.std.proofs.Math.Option.{Option, none, some}
+use Rattle.std.specs.Prelude.{◌≡◌, List, [], ◌∷◌, ◌++◌, map, ℕ, suc, length, Option, None, Some}
 use Rattle.rules.specs.declared.Outcome.{Outcome}
 use Rattle.rules.specs.declared.Outcome.TheVariants.{Accepted}
 use Rattle.rules.specs.declared.Tally.{Tally}
@@ -43,7 +42,7 @@ abbrev pub RunSays : Mem → Ran → Type 0
 RunSays m x = result_with x.out x.left x.tray_left ≡ ran m x.tray x.call x.query
 
 abbrev pub ran_call : Ran → Made
-ran_call x = made (call_of x.call x.query x.tray) none
+ran_call x = made (call_of x.call x.query x.tray) None
 
 -- it is call i of the history
 pub record IsRan (h : History) (i : ℕ) (x : Ran) : Type 0 where
@@ -71,18 +70,18 @@ pub record Exported : Type 0 where
 
 -- the equation of its contract. The six begins have one, by what they begin; an eviction and a renewal are lent no tally
 unfoldable pub SaysOf : Mem → Call → Option Tally → Exported → Type 0
-SaysOf m (begin d r) none x = sent x.reply x.left ≡ sent_by (begin_result m d r)
-SaysOf m (step d tray) none x = sent_with x.reply x.left x.tray_left ≡ sent_by_step (step_result m tray d)
-SaysOf m (abandon d) none x = sent x.reply x.left ≡ sent_by (abandon_result m d)
-SaysOf m (evict_answer i) none x = sent x.reply x.left ≡ sent_by (evict_answer_result m i)
-SaysOf m (evict_node i) none x = sent x.reply x.left ≡ sent_by (evict_node_result m i)
-SaysOf m renew none x = sent x.reply x.left ≡ sent_by (renew_result m)
-SaysOf m (begin d r) (some t) x = sent_tallied x.reply x.left [] x.tally_left ≡ begin_tallied m t d r
-SaysOf m (step d tray) (some t) x = sent_tallied x.reply x.left x.tray_left x.tally_left ≡ step_tallied m t d tray
-SaysOf m (abandon d) (some t) x = sent_tallied x.reply x.left [] x.tally_left ≡ abandon_tallied m t d
-SaysOf m (evict_answer i) (some t) x = ⊥
-SaysOf m (evict_node i) (some t) x = ⊥
-SaysOf m renew (some t) x = ⊥
+SaysOf m (begin d r) None x = sent x.reply x.left ≡ sent_by (begin_result m d r)
+SaysOf m (step d tray) None x = sent_with x.reply x.left x.tray_left ≡ sent_by_step (step_result m tray d)
+SaysOf m (abandon d) None x = sent x.reply x.left ≡ sent_by (abandon_result m d)
+SaysOf m (evict_answer i) None x = sent x.reply x.left ≡ sent_by (evict_answer_result m i)
+SaysOf m (evict_node i) None x = sent x.reply x.left ≡ sent_by (evict_node_result m i)
+SaysOf m renew None x = sent x.reply x.left ≡ sent_by (renew_result m)
+SaysOf m (begin d r) (Some t) x = sent_tallied x.reply x.left [] x.tally_left ≡ begin_tallied m t d r
+SaysOf m (step d tray) (Some t) x = sent_tallied x.reply x.left x.tray_left x.tally_left ≡ step_tallied m t d tray
+SaysOf m (abandon d) (Some t) x = sent_tallied x.reply x.left [] x.tally_left ≡ abandon_tallied m t d
+SaysOf m (evict_answer i) (Some t) x = ⊥
+SaysOf m (evict_node i) (Some t) x = ⊥
+SaysOf m renew (Some t) x = ⊥
 
 abbrev pub ExportSays : Mem → Exported → Type 0
 ExportSays m x = SaysOf m x.made.call x.made.tally x
@@ -93,7 +92,7 @@ pub record IsExported (h : History) (i : ℕ) (x : Exported) : Type 0 where
   pub reply : x.reply ≡ reply_of (result_at h i).out
   pub left : x.left ≡ mem_at h (suc i)
   pub tray : (d : ℕ) (t : List ℕ) → x.made.call ≡ step d t → x.tray_left ≡ (result_at h i).tray
-  pub tally : (t : Tally) → x.made.tally ≡ some t → x.tally_left ≡ tally_after (mem_at h i) x.made.call t
+  pub tally : (t : Tally) → x.made.tally ≡ Some t → x.tally_left ≡ tally_after (mem_at h i) x.made.call t
 
 -- the same of them: the opening is the one whose reply has the number 0
 abbrev pub ExportsAreHistories : Type 0

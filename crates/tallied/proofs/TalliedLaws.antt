@@ -3,6 +3,7 @@
 use mathlib.Core.Path.{◌≡◌, sym, ap, ◌∙◌}
 use mathlib.Core.Bool.{Bool, true, false}
 use mathlib.Core.List.{List, []}
+use Rattle.std.specs.Prelude.{Option, None, Some}
 use Prim.Native.Nat.{ℕ, ◌≤◌, ◌<◌}
 use lib.Dec.{eqb}
 use lib.ListN.{length}
@@ -14,7 +15,7 @@ use Rattle.rules.specs.declared.Outcome.{Outcome}
 use Rattle.rules.specs.declared.Outcome.TheVariants.{Refused}
 use Rattle.rules.specs.declared.Tally.{Tally}
 use Rattle.rules.specs.declared.Count.{Count}
-use Rattle.rules.specs.declared.Count.TheVariants.{NoCount, ReadBegun, ReadAbandoned, WriteBegun, WriteAbandoned}
+use Rattle.rules.specs.declared.Count.TheVariants.{ReadBegun, ReadAbandoned, WriteBegun, WriteAbandoned}
 use Rattle.rules.specs.Layout.{refused_tally_full, reads, inserts, max_clients, clients_least}
 use Rattle.rules.specs.Work.{Request, is_write, work_in}
 use Rattle.rules.specs.Client.{Client, kind, work_at}
@@ -36,7 +37,7 @@ module _ (m : Mem) (t : Tally) (c : Call) (b : Bool) (e : b ≡ is_full t (would
   turned_down h f = rw (← e, h, f.0, f.1)
 
   -- or the call without a tally, and one more at the count k that it raises
-  module _ (h : b ≡ false) (k : Count) (f : k ≡ would_raise m c) where
+  module _ (h : b ≡ false) (k : Option Count) (f : k ≡ would_raise m c) where
     pub may_raise : is_full t k ≡ false
     may_raise = rw f (sym e ∙ h)
 
@@ -51,17 +52,17 @@ module _ (m : Mem) (d : ℕ) (r : Request) {x : Result} (e : x ≡ begin_result 
   unfolding call_result untrayed
   begin_made = ap untrayed e
 
-  pub begin_raises : {j k : Count} → j ≡ begun_count r → k ≡ count_of j x.out → k ≡ would_raise m (begin d r)
+  pub begin_raises : {j : Count} {k : Option Count} → j ≡ begun_count r → k ≡ count_of (Some j) x.out → k ≡ would_raise m (begin d r)
   unfolding would_raise accepted_count call_result untrayed
   begin_raises f g = g ∙ rw (f, e)
 
-pub step_raises : (m : Mem) (tray : List ℕ) (d : ℕ) {x : StepResult} → x ≡ step_result m tray d → {k : Count} → k ≡ count_of NoCount x.out
+pub step_raises : (m : Mem) (tray : List ℕ) (d : ℕ) {x : StepResult} → x ≡ step_result m tray d → {k : Option Count} → k ≡ count_of None x.out
     → k ≡ would_raise m (step d tray)
 unfolding would_raise accepted_count call_result
 step_raises m tray d e g = g ∙ rw e
 
 -- a refused abandoning raises none, whatever stands at the desk
-left_raises : (m : Mem) (d : ℕ) (j i : Count) → (abandon_code m d ≡ 0 → j ≡ i) → count_of j (abandon_result m d).out ≡ count_of i (abandon_result m d).out
+left_raises : (m : Mem) (d : ℕ) (j i : Option Count) → (abandon_code m d ≡ 0 → j ≡ i) → count_of j (abandon_result m d).out ≡ count_of i (abandon_result m d).out
 unfolding abandon_result unless count_of
 left_raises m d j i f =
     by_test (eqb (abandon_code m d) 0) (λ z. rw (f (eqb-true (abandon_code m d) 0 z))) (λ z. rw z)
@@ -71,8 +72,8 @@ module _ (m : Mem) (d : ℕ) {x : Result} (e : x ≡ abandon_result m d) where
   unfolding call_result untrayed
   abandon_made = ap untrayed e
 
-  pub abandon_raises : {j k : Count}
-      → (d < max_clients → clients_least (form m) (shape m) ≤ length m.clients → j ≡ abandoned_count (work_at (shape m) (client_in (form m) m.clients d)))
+  pub abandon_raises : {j k : Option Count}
+      → (d < max_clients → clients_least (form m) (shape m) ≤ length m.clients → j ≡ Some (abandoned_count (work_at (shape m) (client_in (form m) m.clients d))))
       → k ≡ count_of j x.out → k ≡ would_raise m (abandon d)
   unfolding would_raise accepted_count call_result untrayed client
   abandon_raises {j} {k} f g =
@@ -91,10 +92,10 @@ module _ (x : ℕ) (counts : Bool) (range : Range) (a : List ℕ) where
 
 -- by the kind x at the desk
 module _ (sh : Shape) (c : Client) (x : ℕ) (e : x ≡ kind c) where
-  pub reader_left : x ≡ reads → ReadAbandoned ≡ abandoned_count (work_at sh c)
+  pub reader_left : x ≡ reads → Some ReadAbandoned ≡ Some (abandoned_count (work_at sh c))
   unfolding work_at work_in abandoned_count
   reader_left h = rw (← e, eq-eqb x reads h)
 
-  pub writer_left : (x ≡ reads → ⊥) → WriteAbandoned ≡ abandoned_count (work_at sh c)
+  pub writer_left : (x ≡ reads → ⊥) → Some WriteAbandoned ≡ Some (abandoned_count (work_at sh c))
   unfolding work_at work_in abandoned_count
   writer_left h = rw (← e, ne_eqb x reads h)

@@ -14,7 +14,7 @@ ghost use Rattle.checks.specs.CheckContracts.{request_of};
 use calls::{begins, desks};
 use hall::Hall;
 use query::Range;
-use rules::{Count, Outcome, Tally};
+use rules::{Outcome, Tally};
 
 mod would; // would.rt: which count a call would raise, and whether that stands at its largest
 
@@ -59,7 +59,7 @@ pub fn begin(
     let out = begins::begin(
         table, nodes, answers, clients, kind, counts, range, client, asked,
     );
-    let count = tally::count_of(would::begun_count(kind), out);
+    let count = tally::count_of(Some(would::begun_count(kind)), out);
     Counted {
         out: out,
         tally: tally::raise(t, count),
@@ -82,7 +82,7 @@ pub fn step(
         return full(t);
     }
     let out = desks::step(table, nodes, answers, clients, tray, client);
-    let count = tally::count_of(Count::NoCount, out);
+    let count = tally::count_of(None, out);
     Counted {
         out: out,
         tally: tally::raise(t, count),

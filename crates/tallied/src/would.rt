@@ -34,7 +34,7 @@ fn begin_would(
     range: Range,
     client: u32,
     asked: &[u32],
-) -> Count
+) -> Option<Count>
     requires { (reads ≤ kind) × (kind ≤ deletes) }
     ensures { result ≡ would_raise (mem table.now nodes.now answers.now clients.now) (begin client (request_of kind counts range asked.now)) }
 {
@@ -42,9 +42,9 @@ fn begin_would(
         table, nodes, answers, clients, kind, counts, range, client, asked,
     );
     if checked.code != 0 {
-        return Count::NoCount;
+        return None;
     }
-    begun_count(kind)
+    Some(begun_count(kind))
 }
 
 fn step_would(
@@ -54,12 +54,12 @@ fn step_would(
     clients: &[u32],
     tray: &[u32],
     client: u32,
-) -> Count
+) -> Option<Count>
     ensures { result ≡ would_raise (mem table.now nodes.now answers.now clients.now) (step client tray.now) }
 {
     let checked = checks::step_check(table, nodes, answers, clients, tray, client);
     if checked.code != 0 {
-        return Count::NoCount;
+        return None;
     }
     let d = client as usize;
     let held = checked.held;
@@ -75,37 +75,37 @@ fn abandon_would(
     answers: &[u32],
     clients: &[u32],
     client: u32,
-) -> Count
+) -> Option<Count>
     ensures { result ≡ would_raise (mem table.now nodes.now answers.now clients.now) (abandon client) }
 {
     let checked = checks::abandon_check(table, nodes, answers, clients, client);
     if checked.code != 0 {
-        return Count::NoCount;
+        return None;
     }
     let d = client as usize;
     let held = checked.held;
     if held.kind == Hall::READS {
-        return Count::ReadAbandoned;
+        return Some(Count::ReadAbandoned);
     }
     writing::would::abandon_would(nodes, clients, d, held)
 }
 
 // What an accepted abandoning raises that reports no end, by the kind at the desk. Any contents, any desk: one that is not there is no matter, its
 // abandoning is refused.
-pub fn abandoned_count(clients: &[u32], client: u32) -> Count
-    ensures { client < max_clients → clients_least current (shape_in clients.now) ≤ length clients.now → result ≡ abandoned_count (work_at (shape_in clients.now) (client_in current clients.now client)) }
+pub fn abandoned_count(clients: &[u32], client: u32) -> Option<Count>
+    ensures { client < max_clients → clients_least current (shape_in clients.now) ≤ length clients.now → result ≡ Some (abandoned_count (work_at (shape_in clients.now) (client_in current clients.now client))) }
 {
     if Hall::CLIENTS <= client {
-        return Count::NoCount;
+        return None;
     }
     if clients.len() < Hall::CLIENTS_LEAST {
-        return Count::NoCount;
+        return None;
     }
     let at = Hall::HEADER + client as usize * Hall::CLIENT_WIDTH + Hall::KIND_OFFSET;
     if clients[at] == Hall::READS {
-        return Count::ReadAbandoned;
+        return Some(Count::ReadAbandoned);
     }
-    Count::WriteAbandoned
+    Some(Count::WriteAbandoned)
 }
 
 // ---- Whether that count stands at its largest: 15, where nothing else turns the call down.

@@ -3,8 +3,8 @@
 #![tactic(auto)]
 
 ghost use Rattle.std.specs.Prelude.{◌≡◌, false};
-ghost use Rattle.rules.specs.declared.Count.{Count};
-ghost use Rattle.tally.specs.TallyContracts.{some_full};
+ghost use Rattle.std.specs.Borrow.{sem};
+ghost use Rattle.tally.specs.TallyContracts.{some_full, LendsCount};
 ghost use Rattle.rules.specs.Tally.{count_in, is_full, raised, count_of};
 
 use hall::Hall;
@@ -12,101 +12,79 @@ use rules::{Count, Outcome, Tally};
 
 const LARGEST: u32 = Hall::LARGEST_COUNT;
 
-// The count that a call raises that came to this outcome; c where it is accepted and ends nothing.
-pub fn count_of(c: Count, out: Outcome) -> Count
+// The count that a call raises that came to this outcome, or none; c where it is accepted and ends nothing.
+#[tactic(auto, unfolding(rules::specs::Tally::count_of))]
+pub fn count_of(c: Option<Count>, out: Outcome) -> Option<Count>
     ensures { result ≡ count_of c out }
 {
     match out {
-        Outcome::Refused(n) => Count::NoCount,
+        Outcome::Refused(_) => None,
         Outcome::Accepted => c,
-        Outcome::Answered { count, cached } => {
-            if cached {
-                return Count::FromFile;
-            }
-            Count::FromTable
-        }
-        Outcome::Long => Count::EndedLong,
-        Outcome::Ended { changed } => {
-            if changed {
-                return Count::EndedChanged;
-            }
-            Count::EndedUnchanged
-        }
-        Outcome::Full => Count::EndedUnchanged,
+        Outcome::Answered { cached: true, .. } => Some(Count::FromFile),
+        Outcome::Answered { cached: false, .. } => Some(Count::FromTable),
+        Outcome::Long => Some(Count::EndedLong),
+        Outcome::Ended { changed: true } => Some(Count::EndedChanged),
+        Outcome::Ended { changed: false } | Outcome::Full => Some(Count::EndedUnchanged),
     }
 }
 
-// The number that stands at a count; 0 at none.
-fn count_in(t: Tally, c: Count) -> u32
-    ensures { result ≡ count_in t c }
+// A count of a tally, at its place: to be read there, or raised.
+#[tactic(auto, unfolding(rules::specs::Tally::count_in))]
+fn count_in(t: &mut Tally, c: Count) -> &mut u32
+    ensures* lent { sem 𝓛 (LendsCount t.entry c result) }
+    ensures value { result.now ≡ count_in t.old c }
 {
     match c {
-        Count::NoCount => 0,
-        Count::ReadBegun => t.reads_begun,
-        Count::FromFile => t.from_file,
-        Count::FromTable => t.from_table,
-        Count::EndedLong => t.ended_long,
-        Count::ReadAbandoned => t.reads_abandoned,
-        Count::WriteBegun => t.writes_begun,
-        Count::EndedChanged => t.ended_changed,
-        Count::EndedUnchanged => t.ended_unchanged,
-        Count::WriteAbandoned => t.writes_abandoned,
+        Count::ReadBegun => &mut t.reads_begun,
+        Count::FromFile => &mut t.from_file,
+        Count::FromTable => &mut t.from_table,
+        Count::EndedLong => &mut t.ended_long,
+        Count::ReadAbandoned => &mut t.reads_abandoned,
+        Count::WriteBegun => &mut t.writes_begun,
+        Count::EndedChanged => &mut t.ended_changed,
+        Count::EndedUnchanged => &mut t.ended_unchanged,
+        Count::WriteAbandoned => &mut t.writes_abandoned,
     }
 }
 
-// Whether the count stands at its largest.
-pub fn is_full(t: Tally, c: Count) -> bool
+// Whether the count stands at its largest; none does not.
+#[tactic(auto, unfolding(rules::specs::Tally::is_full))]
+pub fn is_full(mut t: Tally, c: Option<Count>) -> bool
     ensures { result ≡ is_full t c }
 {
-    count_in(t, c) == LARGEST
+    match c {
+        None => false,
+        Some(c) => *count_in(&mut t, c) == LARGEST,
+    }
 }
 
 // Whether some count does: if none does, no call can be turned down for one, and none need be asked which it would raise.
+#[tactic(auto, unfolding(crate::specs::TallyContracts::some_full, rules::specs::Tally::count_in))]
 pub fn some_full(t: Tally) -> bool
     ensures { result ≡ some_full t }
 {
-    let read = (t.from_file == LARGEST) | (t.from_table == LARGEST) | (t.ended_long == LARGEST);
-    let left = (t.reads_abandoned == LARGEST) | (t.writes_abandoned == LARGEST);
-    let wrote = (t.ended_changed == LARGEST) | (t.ended_unchanged == LARGEST);
-    (t.reads_begun == LARGEST) | (t.writes_begun == LARGEST) | read | wrote | left
+    let counts = [
+        t.reads_begun,
+        t.from_file,
+        t.from_table,
+        t.ended_long,
+        t.reads_abandoned,
+        t.writes_begun,
+        t.ended_changed,
+        t.ended_unchanged,
+        t.writes_abandoned,
+    ];
+    counts.contains(&LARGEST)
 }
 
-// One more at a count that does not stand at its largest.
-pub fn raise(t: Tally, c: Count) -> Tally
+// One more at a count that does not stand at its largest; none raises nothing.
+#[tactic(auto, using(crate::proofs::TallyLaws::raised_is, rules::proofs::TallyLaws::raised_none), unfolding(rules::specs::Tally::is_full))]
+pub fn raise(mut t: Tally, c: Option<Count>) -> Tally
     requires { is_full t c ≡ false }
     ensures { result ≡ raised t c }
 {
-    let n = count_in(t, c) + 1;
-    let mut u = t;
-    match c {
-        Count::NoCount => {}
-        Count::ReadBegun => {
-            u.reads_begun = n;
-        }
-        Count::FromFile => {
-            u.from_file = n;
-        }
-        Count::FromTable => {
-            u.from_table = n;
-        }
-        Count::EndedLong => {
-            u.ended_long = n;
-        }
-        Count::ReadAbandoned => {
-            u.reads_abandoned = n;
-        }
-        Count::WriteBegun => {
-            u.writes_begun = n;
-        }
-        Count::EndedChanged => {
-            u.ended_changed = n;
-        }
-        Count::EndedUnchanged => {
-            u.ended_unchanged = n;
-        }
-        Count::WriteAbandoned => {
-            u.writes_abandoned = n;
-        }
+    if let Some(c) = c {
+        *count_in(&mut t, c) += 1;
     }
-    u
+    t
 }

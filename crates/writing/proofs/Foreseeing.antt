@@ -3,7 +3,8 @@
 use mathlib.Core.Path.{◌≡◌, refl, sym, ◌∙◌}
 use mathlib.Core.Bool.{Bool, true, false, cond, true≢false}
 use mathlib.Core.List.{List, [], ◌∷◌}
-use mathlib.Core.Option.{Option, none, some}
+use mathlib.Core.Option.{Option as Maybe, none, some}
+use Rattle.std.specs.Prelude.{Option, None, Some}
 use Prim.Native.Nat.{ℕ, ◌+◌, ◌-◌, ◌≤◌, ◌<◌}
 use native.Mathlib.Omega.{arith}
 use lib.Dec.{eqb, ltb}
@@ -12,7 +13,7 @@ use borrow.Author.Tests.{eq-eqb, ne_eqb, le-ltb}
 use Rattle.rules.specs.declared.Outcome.{Outcome}
 use Rattle.rules.specs.declared.Outcome.TheVariants.{Accepted, Full, Ended}
 use Rattle.rules.specs.declared.Count.{Count}
-use Rattle.rules.specs.declared.Count.TheVariants.{NoCount, EndedChanged, EndedUnchanged, WriteAbandoned}
+use Rattle.rules.specs.declared.Count.TheVariants.{EndedChanged, EndedUnchanged, WriteAbandoned}
 use Rattle.rules.specs.Table.{Change}
 use Rattle.rules.specs.Nodes.{Words, Store, announced, retired}
 use Rattle.rules.specs.Client.{Client, did_change, found_full}
@@ -27,12 +28,12 @@ use Rattle.clients.specs.ClientContracts.{written_at}
 use Rattle.writing.specs.WriteContracts.{step_at, labels_at, count_at, step_of, abandon_of, is_found}
 
 -- what a step's outcome raises
-abbrev raises : StepResult → Count
-raises x = count_of NoCount x.out
+abbrev raises : StepResult → Option Count
+raises x = count_of None x.out
 
 -- ---- a write's end
 -- it is never accepted alone, so it raises the same whatever that would raise
-end_any : (x c : Count) (k : Client) → count_of x (end_of k) ≡ count_of c (end_of k)
+end_any : (x c : Option Count) (k : Client) → count_of x (end_of k) ≡ count_of c (end_of k)
 unfolding end_of count_of
 end_any x c k = go (found_full k) (did_change k)
   where
@@ -42,43 +43,43 @@ end_any x c k = go (found_full k) (did_change k)
     go false false = refl
 
 module _ (k : Client) (b : Bool) (e : b ≡ found_full k) where
-  pub full_raises : b ≡ true → EndedUnchanged ≡ count_of NoCount (end_of k)
+  pub full_raises : b ≡ true → Some EndedUnchanged ≡ count_of None (end_of k)
   unfolding end_of count_of
   full_raises h = rw (← e, h)
 
   module _ (h : b ≡ false) (x : Bool) (f : x ≡ did_change k) where
-    pub changed_raises : x ≡ true → EndedChanged ≡ count_of NoCount (end_of k)
+    pub changed_raises : x ≡ true → Some EndedChanged ≡ count_of None (end_of k)
     unfolding end_of count_of
     changed_raises g = rw (← e, h, ← f, g)
 
-    pub unchanged_raises : x ≡ false → EndedUnchanged ≡ count_of NoCount (end_of k)
+    pub unchanged_raises : x ≡ false → Some EndedUnchanged ≡ count_of None (end_of k)
     unfolding end_of count_of
     unchanged_raises g = rw (← e, h, ← f, g)
 
 -- ---- a step
 module _ (m : Mem) (y : List ℕ) (d : ℕ) where
-  announce_none : (o : Option Store) → NoCount ≡ raises (announce_result m y d o)
+  announce_none : (o : Maybe Store) → None ≡ raises (announce_result m y d o)
   unfolding announce_result count_of
   announce_none none = refl
   announce_none (some s) = refl
 
-  raise_none : (o : Option Store) → NoCount ≡ raises (raise_result m y d false o)
+  raise_none : (o : Maybe Store) → None ≡ raises (raise_result m y d false o)
   unfolding raise_result count_of
   raise_none none = refl
   raise_none (some s) = refl
 
-  step_none : (a b : Bool) (o p : Option Store) (w : Change) → NoCount ≡ raises (cond a (announce_result m y d o) (cond b (write_table_result m y d w) (raise_result m y d false p)))
+  step_none : (a b : Bool) (o p : Maybe Store) (w : Change) → None ≡ raises (cond a (announce_result m y d o) (cond b (write_table_result m y d w) (raise_result m y d false p)))
   unfolding write_table_result count_of
   step_none true b o p w = announce_none o
   step_none false true o p w = refl
   step_none false false o p w = raise_none p
 
-  last_not : (o : Option Store) → is_found o ≡ false → NoCount ≡ raises (raise_result m y d true o)
+  last_not : (o : Maybe Store) → is_found o ≡ false → None ≡ raises (raise_result m y d true o)
   unfolding raise_result count_of is_found
   last_not none h = refl
   last_not (some s) h = absurd (true≢false h)
 
-  last_well : (o : Option Store) → is_found o ≡ true → count_of NoCount (end_of (client m d)) ≡ raises (raise_result m y d true o)
+  last_well : (o : Maybe Store) → is_found o ≡ true → count_of None (end_of (client m d)) ≡ raises (raise_result m y d true o)
   unfolding raise_result is_found
   last_well none h = absurd (true≢false (sym h))
   last_well (some s) h = refl
@@ -89,7 +90,7 @@ module _ (lift must b : Bool) (c : lift ≡ must) (ps qs : List Words) (e : ps �
   said z = rw (← c, ← e) (sym g ∙ z)
 
 module _ (s n : List ℕ) (d : ℕ) where
-  pub going_raises : (step_at s d ≡ count_at s d + count_at s d → ⊥) → (t a y : List ℕ) → NoCount ≡ raises (step_of (mem t n a s) y d)
+  pub going_raises : (step_at s d ≡ count_at s d + count_at s d → ⊥) → (t a y : List ℕ) → None ≡ raises (step_of (mem t n a s) y d)
   unfolding write_result
   going_raises h t a y =
       rw (ne_eqb (step_at s d) (count_at s d + count_at s d) h)
@@ -105,23 +106,23 @@ module _ (s n : List ℕ) (d : ℕ) where
     unfolding write_result client
     raising = rw (le-ltb (step_at s d) (count_at s d) (omega arith), ne_eqb (step_at s d) (count_at s d) (λ x. omega arith), eq-eqb (step_at s d) (count_at s d + count_at s d) l)
 
-    pub last_refused : b ≡ false → NoCount ≡ raises (step_of (mem t n a s) y d)
+    pub last_refused : b ≡ false → None ≡ raises (step_of (mem t n a s) y d)
     last_refused z = rw raising (last_not (mem t n a s) y d _ (said lift _ b c ps _ e n g z))
 
-    pub last_raises : b ≡ true → (r : Count) → r ≡ count_of NoCount (end_of (client_in current s d)) → r ≡ raises (step_of (mem t n a s) y d)
+    pub last_raises : b ≡ true → (r : Option Count) → r ≡ count_of None (end_of (client_in current s d)) → r ≡ raises (step_of (mem t n a s) y d)
     last_raises z r f = f ∙ unfold client in rw raising (last_well (mem t n a s) y d _ (said lift _ b c ps _ e n g z))
 
 -- ---- an abandoning
-abbrev given : Result → Count
-given x = count_of WriteAbandoned x.out
+abbrev given : Result → Option Count
+given x = count_of (Some WriteAbandoned) x.out
 
 module _ (m : Mem) (d : ℕ) (x : Outcome) where
-  off_not : (o : Option Store) → is_found o ≡ false → NoCount ≡ given (retire_result m d x o)
+  off_not : (o : Maybe Store) → is_found o ≡ false → None ≡ given (retire_result m d x o)
   unfolding retire_result count_of is_found
   off_not none h = refl
   off_not (some s) h = absurd (true≢false h)
 
-  off_well : (o : Option Store) → is_found o ≡ true → count_of WriteAbandoned x ≡ given (retire_result m d x o)
+  off_well : (o : Maybe Store) → is_found o ≡ true → count_of (Some WriteAbandoned) x ≡ given (retire_result m d x o)
   unfolding retire_result is_found
   off_well none h = absurd (true≢false (sym h))
   off_well (some s) h = refl
@@ -129,10 +130,10 @@ module _ (m : Mem) (d : ℕ) (x : Outcome) where
 module _ (s n : List ℕ) (d : ℕ) (lift b : Bool) (ps : List Words) (g : b ≡ is_found (retired current lift ps (store_in current n))) where
   -- before the table step
   module _ (c : lift ≡ false) (e : ps ≡ announced_labels (written_at s d) (step_at s d)) (l : step_at s d ≤ count_at s d) (t a : List ℕ) where
-    pub back_refused : b ≡ false → NoCount ≡ given (abandon_of (mem t n a s) d)
+    pub back_refused : b ≡ false → None ≡ given (abandon_of (mem t n a s) d)
     back_refused z = rw (abandon_before (mem t n a s) d (written_at s d) (step_at s d) l) (off_not (mem t n a s) d Accepted _ (said lift false b c ps _ e n g z))
 
-    pub back_raises : b ≡ true → WriteAbandoned ≡ given (abandon_of (mem t n a s) d)
+    pub back_raises : b ≡ true → Some WriteAbandoned ≡ given (abandon_of (mem t n a s) d)
     unfolding count_of
     back_raises z = rw (abandon_before (mem t n a s) d (written_at s d) (step_at s d) l) (off_well (mem t n a s) d Accepted _ (said lift false b c ps _ e n g z))
 
@@ -143,8 +144,8 @@ module _ (s n : List ℕ) (d : ℕ) (lift b : Bool) (ps : List Words) (g : b ≡
     unfolding client
     left = abandon_past (mem t n a s) d (written_at s d) (step_at s d) l
 
-    pub left_refused : b ≡ false → NoCount ≡ given (abandon_of (mem t n a s) d)
+    pub left_refused : b ≡ false → None ≡ given (abandon_of (mem t n a s) d)
     left_refused z = rw left (off_not (mem t n a s) d _ _ (said lift _ b c ps _ e n g z))
 
-    pub left_raises : b ≡ true → (r : Count) → r ≡ count_of NoCount (end_of (client_in current s d)) → r ≡ given (abandon_of (mem t n a s) d)
-    left_raises z r f = f ∙ end_any NoCount WriteAbandoned (client_in current s d) ∙ rw left (off_well (mem t n a s) d _ _ (said lift _ b c ps _ e n g z))
+    pub left_raises : b ≡ true → (r : Option Count) → r ≡ count_of None (end_of (client_in current s d)) → r ≡ given (abandon_of (mem t n a s) d)
+    left_raises z r f = f ∙ end_any None (Some WriteAbandoned) (client_in current s d) ∙ rw left (off_well (mem t n a s) d _ _ (said lift _ b c ps _ e n g z))

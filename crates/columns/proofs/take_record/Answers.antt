@@ -1,21 +1,31 @@
 -- `columns::take_record` meets its contract. The invariant is `Taking`: the values so far, and no wildcard among them. Assumes nothing.
-use Rattle.std.proofs.Common.{rules}
-use Rattle.columns.proofs.TakeLoop.{taking_none, taking_more, taking_past, taking_stops, taking_all}
+use Rattle.std.proofs.Common.{arith}
+use Rattle.query.specs.declared.Column.TheVariants.{Is}
+use Rattle.columns.proofs.PairLaws.{next_column, columns_done}
+use Rattle.columns.proofs.TakeLoop.{taking_none, taking_more, taking_past, taking_stops, taking_named, taking_all}
 use Rattle.columns.proofs.take_record.Goals as goal
 use Rattle.columns.proofs.take_record.Goals.{then-i-lt-COLUMN_SLOTS, else-i-lt-COLUMN_SLOTS}
 
-pub loop-from-init : goal.loop-from-init
-loop-from-init c = taking_none _
+pub loop-i-init : goal.loop-i-init
+loop-i-init c = taking_none _
 
-pub returns-in_default : goal.returns-in_default
-returns-in_default c =
-    taking_stops _ _ c.loop-from.i c.loop-from.from c.loop-from.invariant (search rules) _ c.column_of-col.ensures c.in_default.is
+pub returns-in_default-clause-code : goal.returns-in_default-clause-code
+returns-in_default-clause-code c =
+    let l = c.loop-i in
+    rw (taking_stops _ _ l.i l.invariant (next_column _ _ c.as_chunks.ensures.front l.i _ (omega arith) (cc)))
 
-pub loop-from-preserved : goal.loop-from-preserved
-loop-from-preserved c = elim c.if-i-lt-COLUMN_SLOTS.branch [
-  | then-i-lt-COLUMN_SLOTS w ↦ rw w.values-is (taking_more _ _ c.loop-from.i c.loop-from.from c.loop-from.invariant (search rules) _ c.column_of-col.ensures _ c.in-Is.is w.if-i-lt-COLUMN_SLOTS.true)
-  | else-i-lt-COLUMN_SLOTS w ↦ rw w.values-is (taking_past _ _ c.loop-from.i c.loop-from.from c.loop-from.invariant (search rules) _ c.column_of-col.ensures _ c.in-Is.is w.if-i-lt-COLUMN_SLOTS.false)
-]
+pub loop-i-preserved : goal.loop-i-preserved
+loop-i-preserved c =
+    let l = c.loop-i in
+    let h = next_column _ _ c.as_chunks.ensures.front l.i (Is c.in-Is.v) (omega arith) (cc) in
+    elim c.if-i-lt-COLUMN_SLOTS.branch [
+      | then-i-lt-COLUMN_SLOTS w ↦ rw w.values-is (taking_more _ _ l.i l.invariant c.in-Is.v h w.if-i-lt-COLUMN_SLOTS.true)
+      | else-i-lt-COLUMN_SLOTS w ↦ rw w.values-is (taking_past _ _ l.i l.invariant c.in-Is.v h w.if-i-lt-COLUMN_SLOTS.false)
+    ]
 
-pub returns : goal.returns
-returns c = taking_all _ _ c.loop-from.i c.loop-from.from c.loop-from.invariant (search rules)
+pub returns-clause-code : goal.returns-clause-code
+returns-clause-code c =
+    rw (taking_named _ _ c.loop-i.i c.loop-i.invariant (columns_done _ _ c.as_chunks.ensures.front _ (omega arith)))
+
+pub returns-clause-values : goal.returns-clause-values
+returns-clause-values c = taking_all _ _ c.loop-i.i c.loop-i.invariant (columns_done _ _ c.as_chunks.ensures.front _ (omega arith))

@@ -1,18 +1,17 @@
--- `columns::bounds::finds_none` meets its contract. The invariant: nothing is found exactly if the range or the columns passed say so, or what is
--- left of the query. Assumes nothing.
-use Rattle.std.proofs.Common.{sym, ◌∙◌, rules}
-use Rattle.columns.proofs.BoundLaws.{none_first, none_on, none_end}
+-- `columns::bounds::finds_none` meets its contract: one column after the other is asked, and then the range. Assumes nothing.
+use Rattle.std.proofs.Common.{rules}
+use Rattle.std.proofs.lemmas.Iterator.{YieldsList-from_slice}
+use Rattle.std.proofs.lemmas.Iterator.Search.{any_from_yields_List}
+use Rattle.query.specs.Query.{is_zero}
+use Rattle.columns.proofs.BoundLaws.{zero_named, zero_high}
 use Rattle.columns.proofs.bounds.finds_none.Goals as goal
 
-pub loop-i-init : goal.loop-i-init
-loop-i-init c = none_first _ _
+pub returns-then-any : goal.returns-then-any
+returns-then-any c =
+    let e = any_from_yields_List is_zero _ _ c.any.result c.any.ensures.ran (YieldsList-from_slice c.columns.result.now cc) (λ x b q k. search rules) in
+    zero_named c.args.query.now c.args.highest _ (rw c.columns.ensures.is at e) c.if-any.true
 
-pub loop-i-preserved : goal.loop-i-preserved
-loop-i-preserved c =
-    let a = c.args in
-    c.loop-i.invariant ∙ none_on a.cols a.k c.loop-i.i c.loop-i.none _ _ c.names_zero-none.ensures (search rules) (search rules)
-
-pub returns : goal.returns
-returns c =
-    let a = c.args in
-    sym (c.loop-i.invariant ∙ none_end a.cols a.k c.loop-i.i c.loop-i.none c.loop-i-test.false)
+pub returns-else-any : goal.returns-else-any
+returns-else-any c =
+    let e = any_from_yields_List is_zero _ _ c.any.result c.any.ensures.ran (YieldsList-from_slice c.columns.result.now cc) (λ x b q k. search rules) in
+    zero_high c.args.query.now c.args.highest _ (rw c.columns.ensures.is at e) c.if-any.false

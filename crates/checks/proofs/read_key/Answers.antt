@@ -1,0 +1,9 @@
+-- `checks::read_key` meets its contract: a range that stands beside its query is on one of the four columns. Assumes nothing.
+use Rattle.std.proofs.Common.{sym, arith}
+use Rattle.checks.proofs.BeginKeys.{range_near}
+use Rattle.checks.proofs.read_key.Goals as goal
+
+pub ask_key-requires : goal.ask_key-requires
+ask_key-requires c =
+    let m = c.in_ok-k.ensures.ok in
+    (m.1, range_near c.args.k c.args.asked.now c.args.counts c.args.range (sym (c.in_ok-range_check.ensures c.args.counts)) (omega (arith, m.0, m.1)))

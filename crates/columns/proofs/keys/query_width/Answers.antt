@@ -1,0 +1,12 @@
+-- `keys::query_width` meets its contract: with a range and without. Assumes nothing.
+use Rattle.query.specs.Range.{is_ranged}
+use Rattle.columns.specs.KeyContracts.{query_width}
+use Rattle.columns.proofs.keys.query_width.Goals as goal
+
+pub returns-in-Between : goal.returns-in-Between
+unfolding query_width is_ranged
+returns-in-Between c = rw c.in-Between.is
+
+pub returns-in-None : goal.returns-in-None
+unfolding query_width is_ranged
+returns-in-None c = rw c.in-None.is
