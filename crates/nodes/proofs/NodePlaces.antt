@@ -1,6 +1,8 @@
 -- Laws of the place of the first that passes a test: as the library finds it, and in a list with one altered, taken out or added. Leans on the
 -- definitions of lists and on the laws of lists and searches. Assumes nothing.
-use Rattle.std.proofs.Common.{◌≡◌, refl, sym, ap, ◌∙◌, Bool, true, false, cond, List, [], ◌∷◌, ◌++◌, ℕ, suc, ◌+◌, ◌-◌, ◌≤◌, ◌<◌, arith, length, get_or, set, position, Some, None, add-zero}
+use Rattle.std.proofs.Common.{◌≡◌, refl, sym, ap, ◌∙◌, Bool, true, false, cond, List, [], ◌∷◌, ◌++◌, ℕ, suc, ◌+◌, ◌-◌, ◌≤◌, ◌<◌, arith, length, get_or, set, position, Some, None, add-zero, fold, max, ◌||◌}
+use mathlib.Core.Bool.{or-false, or_assoc}
+use Rattle.std.proofs.lemmas.Bool.Decides.{nat_tests}
 use Prim.Native.Nat.compare
 use lib.Dec.{ltb}
 use borrow.Author.Tests.{lt-ltb, ltb-true, ltb-false, eq-eqb}
@@ -63,3 +65,12 @@ module _ {A : Type 0} (q : A → Bool) where
           let g : i ≤ j = ltb-false j i f in
           let m : length (without i l) ≡ length l - 1 = length_without i l h in
           rw (without_after i l j d g (omega arith)) (place_before q l d (j + 1) (omega arith))
+
+-- ---- the largest of a and of what f tells of each
+above_either : (b x y : ℕ) → ltb b (max x y) ≡ (ltb b x || ltb b y)
+above_either b x y = grind (arith, nat_tests)
+
+pub above_largest : {A : Type 0} (f : A → ℕ) (b a : ℕ) (l : List A) → ltb b (fold (λ h x. max h (f x)) a l) ≡ (ltb b a || list_any (λ x. ltb b (f x)) l)
+above_largest f b a [] = sym (or-false (ltb b a))
+above_largest f b a (x ∷ l) =
+    above_largest f b (max a (f x)) l ∙ rw (above_either b a (f x)) (or_assoc (ltb b a) (ltb b (f x)) (list_any (λ y. ltb b (f y)) l))
