@@ -1,9 +1,1 @@
-pub mod TableLists
 pub mod TableMemory
-pub mod Passing
-pub mod Skipping
-pub mod Counting
-pub mod Listing
-pub mod Stretches
-pub mod Seeking
-pub mod Deleting
