@@ -98,8 +98,8 @@ fn seek(table: &[u32], rec: &[u32]) -> Option<usize>
         match words::compare(x, rec) {
             Ordering::Equal => return None,
             // While no greater one was met, the spot is behind all that were.
-            Ordering::Less if spot == i => spot += 1,
-            Ordering::Less | Ordering::Greater => {}
+            Ordering::Less => spot += usize::from(spot == i),
+            Ordering::Greater => {}
         }
     }
     Some(spot)
@@ -127,6 +127,7 @@ pub fn insert(table: &mut [u32], rec: &[u32]) -> Inserted
 }
 
 // Copies a record to where it is to stand; while nothing has gone it stands there.
+#[tactic(auto, using(crate::proofs::Deleting::settled))]
 fn settle(table: &mut [u32], from: usize, to: usize, k: usize)
     requires { (to ≤ from) × (from + k ≤ length table.old) }
     ensures { table.new ≡ written table.old to (take k (drop from table.old)) }
