@@ -10,13 +10,14 @@ use Rattle.lists.specs.Lists.{header, same, rows, entries_in}
 use Rattle.laws.proofs.ListLaws.{eq_same, ne_same}
 use Rattle.laws.proofs.RowLaws.{rows_front}
 use Rattle.laws.proofs.TestLaws.{by_test}
+use Rattle.laws.proofs.WalkLaws.{any_is}
 use Rattle.rules.specs.Nodes.{Words, Node, pending, revision, label_in, has_label, is_free, is_high, is_worn}
 use Rattle.query.specs.Encoding.{label_width}
 use Rattle.query.specs.Shape.{Shape}
 use Rattle.rules.specs.Layout.{worn_above, floor_offset, node_count_offset, pending_offset, revision_offset, node_width}
 use Rattle.rules.specs.Memory.{current, store_in}
 use Rattle.nodes.specs.NodeContracts.{Fit}
-use Rattle.nodes.proofs.NodePlaces.{any_place, above_largest}
+use Rattle.nodes.proofs.NodePlaces.{above_largest}
 use Rattle.nodes.proofs.NodeStores.{five, floor_in, node_word}
 
 -- ---- the nodes, as the library cuts them out of the memory
@@ -110,4 +111,4 @@ pub worn_highest : (sh : Shape) (s : List ℕ) (h : ℕ) → h ≡ fold (λ x n.
 unfolding is_worn is_high revision
 worn_highest sh s h e =
     rw (e, floor_in s) (above_largest revision (worn_above current sh) (get_or s floor_offset 0) (store_in current s).nodes
-    ∙ ap (λ b. ltb (worn_above current sh) (get_or s floor_offset 0) || b) (any_place (is_high current sh) (store_in current s).nodes))
+    ∙ ap (λ b. ltb (worn_above current sh) (get_or s floor_offset 0) || b) (any_is (is_high current sh) (store_in current s).nodes))
