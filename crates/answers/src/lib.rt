@@ -49,7 +49,7 @@ fn entry(answers: &[u32], i: usize) -> &[u32]
 }
 
 // Whether the entry e answers x's query, with what x wants and its range: the key has all three.
-#[tactic(auto, using(laws::proofs::WalkLaws::same_is), unfolding(rules::specs::Answers::has_key_of, rules::specs::Answers::key_in))]
+#[tactic(auto, using(words::proofs::CompareLaws::eq_is_same), unfolding(rules::specs::Answers::has_key_of, rules::specs::Answers::key_in))]
 fn has_key(e: &[u32], x: &[u32]) -> bool
     requires { (key_width ≤ length e.now) × (key_width ≤ length x.now) }
     ensures { result ≡ has_key_of x.now e.now }

@@ -1,15 +1,14 @@
--- Laws of the library's walks over a list, in the terms of lists: chunks of entries one after another, `position`, `any`, `all` over two lists at
--- once, `==` of slices. Leans on the definitions of lists and on the library. Assumes nothing.
+-- Laws of the library's walks over a list, in the terms of lists: chunks of entries one after another, `position`, `any`, and `all` over two lists
+-- at once. Leans on the definitions of lists and on the library. Assumes nothing.
 use mathlib.Core.Path.{◌≡◌, refl, sym, ap, ◌∙◌}
-use mathlib.Core.Bool.{Bool, true, false, cond, ◌&&◌, ◌||◌}
+use mathlib.Core.Bool.{Bool, true, false, cond, ◌||◌}
 use mathlib.Core.List.{List, [], ◌∷◌, ◌++◌}
 use Prim.Native.Nat.{ℕ, suc, ◌<◌}
 use native.Mathlib.Omega.{arith}
-use lib.Dec.{eqb, ltb}
+use lib.Dec.{ltb}
 use lib.ListN.{length, get_or, take, drop, length-append}
 use lib.Seq.{take_at, drop_at}
 use borrow.Author.Tests.{lt-ltb}
-use Rattle.std.specs.Cmp.Lexicographic.{pointwise}
 use Rattle.std.specs.List.{list_all, list_any, zip, position_or_len}
 use Rattle.std.specs.Slice.Iter.{chunks_exact_rest, chunks_exact_size, chunks_exact_steps}
 use Rattle.std.specs.declared.slice.ChunksExact.{ChunksExact}
@@ -18,7 +17,7 @@ use Rattle.std.proofs.lemmas.Iterator.{YieldsList}
 use Rattle.std.proofs.lemmas.List.Recursion.{is_position_or_len, and_at, and_from_places}
 use Rattle.std.proofs.lemmas.Slice.Zip.{length-zip, get_or-zip}
 use Rattle.std.proofs.lemmas.Bool.Decides.{nat_tests}
-use Rattle.lists.specs.Lists.{same, flat, place, all_below}
+use Rattle.lists.specs.Lists.{flat, place, all_below}
 use Rattle.laws.proofs.TestLaws.{same_test}
 use Rattle.laws.proofs.ListLaws.{all_below_law, below_at}
 use Rattle.laws.proofs.RowLaws.{Wide}
@@ -63,11 +62,3 @@ all_zip t a b p n la lb h =
     same_test _ _
     (λ e. all_below_law n p (λ j k. h j k ∙ ap t (sym (get_or-zip a b j (0, 0) (omega arith) (omega arith))) ∙ and_at (list_all t) t refl (λ _ _. refl) (zip a b) j (0, 0) (omega (arith, length-zip a b)) e))
     (λ e. and_from_places (list_all t) t refl (λ _ _. refl) (zip a b) (0, 0) (λ j k. let m : j < n = omega (arith, length-zip a b) in ap t (get_or-zip a b j (0, 0) (omega arith) (omega arith)) ∙ sym (h j m) ∙ below_at n p j e m))
-
--- ---- `==` of two slices
-pub same_is : (a b : List ℕ) → same a b ≡ pointwise eqb a b
-unfolding same
-same_is [] [] = refl
-same_is [] (y ∷ b) = refl
-same_is (x ∷ a) [] = refl
-same_is (x ∷ a) (y ∷ b) = ap (λ r. eqb x y && r) (same_is a b)
