@@ -1,27 +1,25 @@
 -- Laws of a call that is lent a tally, by value: what it leaves where 15 applies and where it does not, one law each for every call; and which count
 -- it raises, by what it leaves without a tally. Leans on the rules' Tally and PassedChecks. Assumes nothing.
-use mathlib.Core.Path.{◌≡◌, sym, ap, subst, ◌∙◌}
+use mathlib.Core.Path.{◌≡◌, ap, subst, ◌∙◌}
 use mathlib.Core.Bool.{Bool, true, false}
 use mathlib.Core.List.{List, []}
 use Rattle.std.specs.Prelude.{Option, None, Some}
-use Prim.Native.Nat.{ℕ, ◌≤◌, ◌<◌}
+use Prim.Native.Nat.{ℕ}
 use lib.Dec.{eqb}
-use lib.ListN.{length}
 use borrow.Author.Tests.{eqb-true, eq-eqb, ne_eqb}
 use Rattle.laws.proofs.TestLaws.{by_test}
-use Rattle.query.specs.declared.Range.{Range}
 use Rattle.query.specs.Shape.{Shape}
 use Rattle.rules.specs.declared.Outcome.{Outcome}
 use Rattle.rules.specs.declared.Outcome.TheVariants.{Refused}
 use Rattle.rules.specs.declared.Tally.{Tally}
 use Rattle.rules.specs.declared.Count.{Count}
-use Rattle.rules.specs.declared.Count.TheVariants.{ReadBegun, ReadAbandoned, WriteBegun, WriteAbandoned}
-use Rattle.rules.specs.Layout.{refused_tally_full, reads, inserts, max_clients, clients_least}
-use Rattle.rules.specs.Work.{Request, is_write, work_in}
+use Rattle.rules.specs.declared.Count.TheVariants.{ReadAbandoned, WriteAbandoned}
+use Rattle.rules.specs.Layout.{refused_tally_full, reads}
+use Rattle.rules.specs.Work.{Request, work_in}
 use Rattle.rules.specs.Client.{Client, kind, work_at}
-use Rattle.rules.specs.Memory.{Mem, client_in}
+use Rattle.rules.specs.Memory.{Mem}
 use Rattle.rules.specs.Outcome.{Result, StepResult, result_with}
-use Rattle.rules.specs.Refusals.{form, shape, client, begin_code, step_code, abandon_code}
+use Rattle.rules.specs.Refusals.{client, begin_code, step_code, abandon_code}
 use Rattle.rules.specs.Calls.{unless, begin_result, step_result, abandon_result}
 use Rattle.rules.specs.History.{Call, begin, step, abandon, untrayed, call_result, tray_of}
 use Rattle.rules.specs.Tally.{count_of, begun_count, abandoned_count, accepted_count, would_raise, is_full, raised, is_full_for, is_tally_full, made_result, tally_after}
