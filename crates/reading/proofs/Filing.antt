@@ -8,10 +8,12 @@ use native.Mathlib.Omega.{arith}
 use lib.Dec.{ltb}
 use lib.ListN.{length, get_or}
 use borrow.Author.Tests.{lt-ltb, le-ltb}
+use Rattle.std.specs.Prelude.{Option, Some, None}
+use Rattle.std.proofs.lemmas.Option.{none-some}
 use Rattle.lists.specs.Lists.{written}
 use Rattle.rules.specs.declared.Outcome.{Outcome}
 use Rattle.rules.specs.declared.Outcome.TheVariants.{Accepted, Answered}
-use Rattle.rules.specs.Answers.{length_in, list_in, value_in, fetch_place, filed, is_long}
+use Rattle.rules.specs.Answers.{Entry, length_in, list_in, value_in, fetch_place, filed, is_long}
 use Rattle.rules.specs.Client.{Client, saw_pending, entry_of, idle, stepped}
 use Rattle.rules.specs.Memory.{current, mem, client_in, with_client, answers_in, with_answers}
 use Rattle.rules.specs.Outcome.{result_with}
@@ -22,57 +24,54 @@ use Rattle.rules.specs.Steps.{now_at, answered, fetch_result, file_result, read_
 use Rattle.clients.specs.declared.Held.{Held}
 use Rattle.clients.specs.ClientContracts.{Reader, asked_at}
 use Rattle.answers.specs.AnswerContracts as answers
-use Rattle.answers.proofs.AnswerScan.{count_is}
+use Rattle.answers.specs.AnswerContracts.{fetched}
+use Rattle.answers.proofs.AnswerScan.{count_is, fetched_some, fetched_none}
 use Rattle.reading.specs.ReadContracts.{looks, made, found_for}
 use Rattle.reading.proofs.ReadClient.{fetch_is, file_is}
 
 -- ---- the fetch
 -- a search that is made only where no mark was seen
-closed : (b : Bool) (count place r : ℕ) → r ≡ cond b count place → count ≤ r → not b && ltb place count ≡ false
-closed true count place r e h = refl
-closed false count place r e h = le-ltb place count (omega arith)
+module _ (n : ℕ) (x : Entry) (es : List Entry) where
+  closed : (b : Bool) → cond b None (fetched n x es) ≡ None → not b && ltb (fetch_place n x es) (length es) ≡ false
+  closed true e = refl
+  closed false e = le-ltb (fetch_place n x es) (length es) (fetched_none n x es e)
 
-opened : (b : Bool) (count place r : ℕ) → r ≡ cond b count place → r < count → (not b && ltb place count ≡ true) × (place ≡ r)
-opened true count place r e h = absurd (omega arith)
-opened false count place r e h = (lt-ltb place count (omega arith), sym e)
+  opened : (b : Bool) (j : ℕ) → cond b None (fetched n x es) ≡ Some j → (b ≡ false) × ((fetch_place n x es ≡ j) × (fetch_place n x es < length es))
+  opened true j e = absurd (none-some j e)
+  opened false j e = (refl, fetched_some n x es j e)
 
-module _ {h : Held} {clients : List ℕ} {d : ℕ} (r : Reader h clients d) (p : made clients d ≡ looks clients d) (s tray : List ℕ) (i : ℕ) (e : i ≡ found_for s (client_in current clients d) h.steps) where
-  found : i ≡ cond (saw_pending (client_in current clients d)) (length (answers_in current s)) (fetch_place (looks clients d) (entry_of (client_in current clients d)) (answers_in current s))
+-- the answer that was found is there
+pub found_there : (s : List ℕ) (c : Client) (n j : ℕ) → found_for s c n ≡ Some j → j < get_or s answer_count_offset 0
+unfolding found_for
+found_there s c n j e =
+    let o = opened n (entry_of c) (answers_in current s) (saw_pending c) j e in
+    let l = count_is s in
+    omega (arith, o.1.0, o.1.1)
+
+module _ {h : Held} {clients : List ℕ} {d : ℕ} (r : Reader h clients d) (p : made clients d ≡ looks clients d) (s tray : List ℕ) (i : Option ℕ) (e : i ≡ found_for s (client_in current clients d) h.steps) where
+  found : i ≡ cond (saw_pending (client_in current clients d)) None (fetched (looks clients d) (entry_of (client_in current clients d)) (answers_in current s))
   unfolding found_for
-  found = e ∙ rw (← count_is s, r.held.steps, p)
+  found = e ∙ rw (r.held.steps, p)
 
-  pub fetch_not : get_or s answer_count_offset 0 ≤ i → (clients' : List ℕ) → clients' ≡ with_client current clients d (stepped (client_in current clients d)) → (t n : List ℕ)
+  pub fetch_not : i ≡ None → (clients' : List ℕ) → clients' ≡ with_client current clients d (stepped (client_in current clients d)) → (t n : List ℕ)
       → result_with Accepted (mem t n s clients') tray ≡ read_result (mem t n s clients) tray d (asked_at clients d) (made clients d)
   unfolding fetch_result now_at client
   fetch_not g clients' u t n =
-      let l = count_is s in
-      rw (fetch_is (mem t n s clients) tray d (asked_at clients d) (made clients d) p, closed (saw_pending (client_in current clients d)) (length (answers_in current s)) (fetch_place (looks clients d) (entry_of (client_in current clients d)) (answers_in current s)) i found (omega arith), u)
+      rw (fetch_is (mem t n s clients) tray d (asked_at clients d) (made clients d) p, closed _ _ _ _ (sym found ∙ g), u)
 
-  pub fetch_given : i < get_or s answer_count_offset 0 → (count : ℕ) (tray' clients' : List ℕ) → answers.Gave h.columns (get_or (answers_in current s) i []) tray count tray' → clients' ≡ with_client current clients d idle → (t n : List ℕ)
+  pub fetch_given : (j : ℕ) → i ≡ Some j → (count : ℕ) (tray' clients' : List ℕ) → answers.Gave h.query.k (get_or (answers_in current s) j []) tray count tray' → clients' ≡ with_client current clients d idle → (t n : List ℕ)
       → result_with (Answered count true) (mem t n s clients') tray' ≡ read_result (mem t n s clients) tray d (asked_at clients d) (made clients d)
   unfolding fetch_result answered value_in now_at client
-  fetch_given g count tray' clients' w u t n =
-      let l = count_is s in
-      let o = opened (saw_pending (client_in current clients d)) (length (answers_in current s)) (fetch_place (looks clients d) (entry_of (client_in current clients d)) (answers_in current s)) i found (omega arith) in
-      rw (fetch_is (mem t n s clients) tray d (asked_at clients d) (made clients d) p, o.0, o.1, u, w.count, w.list, r.held.columns)
-
--- ---- the search
-module _ (s clients : List ℕ) (d n i : ℕ) where
-  pub found_pending : (b : Bool) → b ≡ saw_pending (client_in current clients d) → b ≡ true → i ≡ get_or s answer_count_offset 0 → i ≡ found_for s (client_in current clients d) n
-  unfolding found_for
-  found_pending b e h g = rw (← e, h) g
-
-  pub found_search : (b : Bool) (x : List ℕ) → b ≡ saw_pending (client_in current clients d) → b ≡ false
-      → x ≡ entry_of (client_in current clients d) → i ≡ fetch_place n x (answers_in current s) → i ≡ found_for s (client_in current clients d) n
-  unfolding found_for
-  found_search b x e h f g = rw (← e, h, ← f) g
+  fetch_given j g count tray' clients' w u t n =
+      let o = opened _ _ _ _ j (sym found ∙ g) in
+      rw (fetch_is (mem t n s clients) tray d (asked_at clients d) (made clients d) p, o.0, lt-ltb _ _ o.1.1, o.1.0, u, w.count, w.list, r.held.columns)
 
 -- ---- the file step: o, tray', clients' are what giving the client's own list or count returns and leaves
 module _ {h : Held} {clients : List ℕ} {d : ℕ} (r : Reader h clients d) (p : made clients d ≡ looks clients d + 2) where
   pub file_left : (s tray x s' tray' clients' : List ℕ) (o : Outcome) → x ≡ entry_of (client_in current clients d)
       → s' ≡ with_answers current s (filed x (answers_in current s))
       → o ≡ Answered (length_in (entry_of (client_in current clients d))) false
-      → tray' ≡ written tray 0 (list_in (shape_of h.columns) (entry_of (client_in current clients d))) → clients' ≡ with_client current clients d idle → (t n : List ℕ)
+      → tray' ≡ written tray 0 (list_in (shape_of h.query.k) (entry_of (client_in current clients d))) → clients' ≡ with_client current clients d idle → (t n : List ℕ)
       → result_with o (mem t n s' clients') tray' ≡ read_result (mem t n s clients) tray d (asked_at clients d) (made clients d)
   unfolding file_result answered value_in now_at client
   file_left s tray x s' tray' clients' o f e a g u t n =

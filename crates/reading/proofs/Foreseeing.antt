@@ -5,14 +5,12 @@ use mathlib.Core.Bool.{Bool, true, false, not}
 use mathlib.Core.List.{List}
 use mathlib.Core.Option.{Option as Maybe, none, some}
 use Rattle.std.specs.Prelude.{Option, None, Some}
+use Rattle.std.specs.Bool.{then_some}
 use Prim.Native.Nat.{ℕ, ◌+◌, ◌≤◌, ◌<◌}
 use lib.Dec.{ltb, leb}
-use lib.ListN.{length, get_or, take}
-use borrow.Author.Tests.{ltb-true, ltb-false, le-leb, lt-leb}
+use lib.ListN.{length}
+use borrow.Author.Tests.{ltb-true, ltb-false, le-leb, lt-leb, not-true, not-false}
 use Rattle.laws.proofs.TestLaws.{by_test}
-use Rattle.query.specs.declared.Column.{Column}
-use Rattle.query.specs.declared.Range.{Range}
-use Rattle.columns.specs.ColumnContracts.{four}
 use Rattle.rules.specs.declared.Count.{Count}
 use Rattle.rules.specs.declared.Count.TheVariants.{FromFile, FromTable, EndedLong}
 use Rattle.rules.specs.Layout.{max_list, answer_count_offset}
@@ -25,12 +23,12 @@ use Rattle.rules.specs.Refusals.{client}
 use Rattle.rules.specs.Steps.{answered, look_result, file_result, table_result, read_result}
 use Rattle.rules.specs.Tally.{count_of}
 use Rattle.clients.specs.declared.Held.{Held}
-use Rattle.clients.specs.ClientContracts.{Reader, asked_at, held_query}
+use Rattle.clients.specs.ClientContracts.{Reader, asked_at}
 use Rattle.clients.proofs.HeldLaws.{reader_counts}
-use Rattle.reading.specs.ReadContracts.{looks, made, found_for}
-use Rattle.reading.proofs.ReadClient.{read_columns, look_is, file_is}
+use Rattle.reading.specs.ReadContracts.{looks, made, found_for, asked_for}
+use Rattle.reading.proofs.ReadClient.{look_is, file_is}
 use Rattle.reading.proofs.Filing.{fetch_not, fetch_given}
-use Rattle.reading.proofs.Listing.{list_for, value_list, table_at}
+use Rattle.reading.proofs.Listing.{value_list, table_at}
 
 -- what a step's outcome raises
 abbrev raises : StepResult → Option Count
@@ -58,35 +56,33 @@ module _ {h : Held} {clients : List ℕ} {d : ℕ} (r : Reader h clients d) wher
   file_raises p t n a y = rw (file_is (mem t n a clients) y d (asked_at clients d) (made clients d) p)
 
   -- i: the place of the filed answer that was found
-  module _ (p : made clients d ≡ looks clients d) (s : List ℕ) (i : ℕ) (e : i ≡ found_for s (client_in current clients d) h.steps) (t n y : List ℕ) where
-    pub none_raises : get_or s answer_count_offset 0 ≤ i → None ≡ due (mem t n s clients) y
+  module _ (p : made clients d ≡ looks clients d) (s : List ℕ) (i : Option ℕ) (e : i ≡ found_for s (client_in current clients d) h.steps) (t n y : List ℕ) where
+    pub none_raises : i ≡ None → None ≡ due (mem t n s clients) y
     unfolding count_of
     none_raises g = ap raises (fetch_not r p s y i e g _ refl t n)
 
-    pub filed_raises : i < get_or s answer_count_offset 0 → Some FromFile ≡ due (mem t n s clients) y
+    pub filed_raises : (j : ℕ) → i ≡ Some j → Some FromFile ≡ due (mem t n s clients) y
     unfolding count_of
-    filed_raises g = ap raises (fetch_given r p s y i e g _ _ _ (record { count = refl; list = refl }) refl t n)
+    filed_raises j g = ap raises (fetch_given r p s y i e j g _ _ _ (record { count = refl; list = refl }) refl t n)
 
   -- ---- the table step
   -- a count is never too long
-  pub count_short : h.counts ≡ true → (v : Value) → false ≡ not (may_answer (asked_at clients d) v)
+  pub count_short : not h.counts ≡ false → (v : Value) → not h.counts ≡ not (may_answer (asked_at clients d) v)
   unfolding may_answer
-  count_short w v = rw (sym (reader_counts r) ∙ w)
+  count_short w v = let c = not-false h.counts w in rw (c, sym (reader_counts r) ∙ c)
 
-  -- n: how many records there are, by the columns that the code made
-  pub list_long : (s : List ℕ) (cols : List Column) (x : Range) (n : ℕ) → h.counts ≡ false → cols ≡ four (held_query h) → x ≡ range_at (client_in current clients d)
-      → n ≡ length (list_within x (take h.columns cols) (records_in h.columns s))
-      → ltb max_list n ≡ not (may_answer (asked_at clients d) (value_of (asked_at clients d) (records_in h.columns s)))
+  -- n: how many records there are
+  pub list_long : (s : List ℕ) (n : ℕ) → not h.counts ≡ true → n ≡ length (asked_for h.query.k s clients d)
+      → ltb max_list n ≡ not (may_answer (asked_at clients d) (value_of (asked_at clients d) (records_in h.query.k s)))
   unfolding may_answer
-  list_long s cols x n w e is g =
-      let m : length (list_for (range_at (client_in current clients d)) s clients d h.columns) ≡ n = sym (g ∙ rw (is, read_columns r cols e)) in
-      let c : (asked_at clients d).counts ≡ false = sym (reader_counts r) ∙ w in
-      rw (value_list s clients d h.columns (range_at (client_in current clients d)) refl c, c, m) (long_test n)
+  list_long s n w g =
+      let c : (asked_at clients d).counts ≡ false = sym (reader_counts r) ∙ not-true h.counts w in
+      rw (value_list s clients d h.query.k c, c, ← g) (long_test n)
 
   -- b: whether the list is too long
-  module _ (p : made clients d ≡ looks clients d + 1) (s : List ℕ) (b : Bool) (e : b ≡ not (may_answer (asked_at clients d) (value_of (asked_at clients d) (records_in h.columns s)))) (n a y : List ℕ) where
+  module _ (p : made clients d ≡ looks clients d + 1) (s : List ℕ) (b : Bool) (e : b ≡ not (may_answer (asked_at clients d) (value_of (asked_at clients d) (records_in h.query.k s)))) (n a y : List ℕ) where
     taken : read_result (mem s n a clients) y d (asked_at clients d) (made clients d)
-        ≡ table_result (mem s n a clients) y d (asked_at clients d) (value_of (asked_at clients d) (records_in h.columns s))
+        ≡ table_result (mem s n a clients) y d (asked_at clients d) (value_of (asked_at clients d) (records_in h.query.k s))
     taken = table_at r s _ refl p y n a
 
     pub long_raises : b ≡ true → Some EndedLong ≡ due (mem s n a clients) y
@@ -94,11 +90,7 @@ module _ {h : Held} {clients : List ℕ} {d : ℕ} (r : Reader h clients d) wher
     long_raises q = rw (taken, ← e, q)
 
     -- c: whether a look saw a mark
-    module _ (q : b ≡ false) (c : Bool) (f : c ≡ saw_pending (client_in current clients d)) where
-      pub given_raises : c ≡ true → Some FromTable ≡ due (mem s n a clients) y
-      unfolding table_result answered client count_of
-      given_raises z = rw (taken, ← e, q, ← f, z)
-
-      pub held_raises : c ≡ false → None ≡ due (mem s n a clients) y
-      unfolding table_result client count_of
-      held_raises z = rw (taken, ← e, q, ← f, z)
+    pub taken_raises : b ≡ false → (c : Bool) → c ≡ saw_pending (client_in current clients d) → then_some c FromTable ≡ due (mem s n a clients) y
+    unfolding table_result answered client count_of
+    taken_raises q true f = rw (taken, ← e, q, ← f)
+    taken_raises q false f = rw (taken, ← e, q, ← f)

@@ -1,6 +1,6 @@
 -- What a step's refusals have ruled out once none applies, for the caller: the premises of a read's step, and that the step is the read's.
 -- Leans on rules and on clients. Assumes nothing.
-use mathlib.Core.Path.{◌≡◌, sym, ◌∙◌}
+use mathlib.Core.Path.{◌≡◌, sym, ap, ◌∙◌}
 use mathlib.Core.List.{List}
 use Prim.Native.Nat.{ℕ}
 use native.Mathlib.Omega.{arith}
@@ -13,12 +13,14 @@ use Rattle.rules.specs.Refusals.{shape, client, step_code}
 use Rattle.rules.specs.Steps.{read_result, progress_of, progress}
 use Rattle.rules.specs.Calls.{step_result}
 use Rattle.rules.proofs.PassedChecks.{AtWork, step_passed}
+use Rattle.hall.specs.declared.kind.Kind.TheVariants.{Read}
+use Rattle.hall.specs.Kind.{kind_number}
 use Rattle.clients.specs.declared.Held.{Held}
 use Rattle.clients.specs.ClientContracts.{IsHeld, Reader, asked_at}
 use Rattle.reading.specs.ReadContracts.{Steps}
 
 -- h: what was read of the client
-module _ (tb nd an cl : List ℕ) (d : ℕ) {h : Held} (i : IsHeld h cl d) (x : h.kind ≡ reads) where
+module _ (tb nd an cl : List ℕ) (d : ℕ) {h : Held} (i : IsHeld h cl d) (x : h.kind ≡ Read) where
   -- the memories of the call
   abbrev m : Mem
   m = mem tb nd an cl
@@ -26,7 +28,7 @@ module _ (tb nd an cl : List ℕ) (d : ℕ) {h : Held} (i : IsHeld h cl d) (x : 
   -- it is at work on what it asks
   pub asks : work_at (shape m) (client m d) ≡ asking (asked_at cl d)
   unfolding work_at work_in ask_at client
-  asks = rw (eq-eqb (kind (client_in current cl d)) reads (sym i.kind ∙ x))
+  asks = rw (eq-eqb (kind (client_in current cl d)) reads (sym i.kind ∙ ap kind_number x))
 
   -- and sound and busy, where the call's refusals have passed
   pub reader_at : AtWork m d → Reader h cl d

@@ -1,18 +1,16 @@
 -- What a reading client is known to hold, and which step is due. Leans on rules and on the laws of clients. Assumes nothing.
 use mathlib.Core.Path.{◌≡◌, ap, ◌∙◌}
 use mathlib.Core.List.{List, []}
-use Prim.Native.Nat.{ℕ, ◌+◌, ◌<◌}
+use Prim.Native.Nat.{ℕ, ◌+◌, ◌-◌, ◌≤◌, ◌<◌}
 use native.Mathlib.Omega.{arith}
-use lib.ListN.{length, get_or, take}
+use lib.ListN.{length, get_or}
 use borrow.Author.Tests.{lt-ltb, le-ltb, eq-eqb, ne_eqb}
-use Rattle.query.specs.declared.Column.{Column}
+use Rattle.query.specs.Query.{Query, read_count}
 use Rattle.query.specs.declared.Range.{Range}
 use Rattle.query.proofs.EncodingLaws.{columns_length}
-use Rattle.columns.specs.ColumnContracts.{four}
-use Rattle.columns.proofs.ColumnLoops.{four_back}
-use Rattle.rules.specs.Work.{Ask, value_of, read_labels, ask_in, work_fault, steps_in_all}
+use Rattle.rules.specs.Work.{Ask, list_within, value_of, read_labels, ask_in, work_fault, steps_in_all}
 use Rattle.rules.proofs.WorkLaws.{fault_none}
-use Rattle.table.specs.TableContracts.{RangeFits}
+use Rattle.table.specs.TableContracts.{Fit, RangeFits}
 use Rattle.rules.specs.Nodes.{ensured}
 use Rattle.rules.specs.Answers.{fetch_place}
 use Rattle.rules.specs.Client.{entry_of, query_at, range_at, ask_at}
@@ -21,8 +19,8 @@ use Rattle.rules.specs.Refusals.{form, columns, client}
 use Rattle.rules.specs.Steps.{look_result, fetch_result, table_result, file_result, read_result}
 use Rattle.clients.specs.declared.Held.{Held}
 use Rattle.clients.specs.ClientContracts.{Reader, asked_at, held_query}
-use Rattle.clients.proofs.HeldLaws.{at_query}
-use Rattle.reading.specs.ReadContracts.{looks, made}
+use Rattle.clients.proofs.HeldLaws.{at_query, reader_looks}
+use Rattle.reading.specs.ReadContracts.{looks, made, asked_for}
 
 -- ---- what a reader holds
 module _ {h : Held} {clients : List ℕ} {d : ℕ} (r : Reader h clients d) where
@@ -30,16 +28,40 @@ module _ {h : Held} {clients : List ℕ} {d : ℕ} (r : Reader h clients d) wher
   unfolding steps_in_all
   few_steps = r.busy.going
 
-  -- the columns that the code makes of what was read
-  pub read_columns : (cols : List Column) → cols ≡ four (held_query h) → take h.columns cols ≡ query_at (shape_in clients) (client_in current clients d)
-  read_columns cols e = ap (take h.columns) e ∙ four_back h.columns (held_query h) (columns_length h.columns h.marks h.values) ∙ at_query r
+  -- q: the query that the code makes of what was read, g: the range that it reads
+  module _ (q : Query) (e : q ≡ held_query h) where
+    query_width : length q ≡ h.query.k
+    query_width = ap length e ∙ columns_length h.query.k h.query.marks h.query.values
 
-  -- and the range beside them is one that a begin takes
-  pub read_range : (cols : List Column) → cols ≡ four (held_query h) → (g : Range) → g ≡ range_at (client_in current clients d) → RangeFits h.columns (take h.columns cols) g
-  unfolding work_fault ask_at ask_in query_at range_at
-  read_range cols e g a =
-      let f = fault_none (asked_at clients d) r.busy.fault in
-      record { there = rw (read_columns cols e, a, r.held.columns) f.0; ordered = rw a f.1 }
+    pub table_fits : (s : List ℕ) → Fit h.query.k s → Fit (length q) s
+    table_fits s f = rw query_width f
+
+    module _ (g : Range) (a : g ≡ range_at (client_in current clients d)) where
+      -- they are such as a begin takes
+      pub range_fits : RangeFits (length q) q g
+      unfolding work_fault ask_at ask_in query_at range_at
+      range_fits =
+          let f = fault_none (asked_at clients d) r.busy.fault in
+          record { there = rw (query_width, e ∙ at_query r, a, r.held.columns) f.0; ordered = rw a f.1 }
+
+      -- and what they take of a table is what the client asks for
+      pub takes : (s : List ℕ) → list_within g q (records_in (length q) s) ≡ asked_for h.query.k s clients d
+      takes s = rw (query_width, e ∙ at_query r, a)
+
+  -- ---- which step is due, where n looks are counted and x steps were made since
+  module _ (n : ℕ) (e : n ≡ read_count (held_query h)) where
+    pub look_due : (n ≤ h.steps → ⊥) → made clients d < looks clients d
+    look_due z = let l = reader_looks r in omega (arith, r.held.steps)
+
+    module _ (x : ℕ) (i : (n ≤ h.steps) × (x ≡ h.steps - n)) where
+      pub fetch_due : x ≡ 0 → made clients d ≡ looks clients d
+      fetch_due z = let l = reader_looks r in omega (arith, r.held.steps, i.0, i.1)
+
+      pub table_due : x ≡ 1 → made clients d ≡ looks clients d + 1
+      table_due z = let l = reader_looks r in omega (arith, r.held.steps, i.0, i.1)
+
+      pub file_due : (x ≡ 0 → ⊥) → (x ≡ 1 → ⊥) → made clients d ≡ looks clients d + 2
+      file_due y z = let l = reader_looks r in omega (arith, r.held.steps, few_steps, i.0, i.1, y, z)
 
 -- ---- which step it is
 module _ (m : Mem) (y : List ℕ) (d : ℕ) (x : Ask) (i : ℕ) where

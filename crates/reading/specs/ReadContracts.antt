@@ -1,12 +1,13 @@
 -- What the steps of a read take for granted: what a step's refusals have ruled out, memory by memory, and which step it is.
 -- Leans on rules and on the crates of the memories. Definitions only. Assumes nothing.
-use Rattle.std.specs.Prelude.{◌≡◌, true, false, cond, List, ℕ, ◌+◌, ◌≤◌, ◌<◌, length, get_or}
+use Rattle.std.specs.Prelude.{◌≡◌, true, false, cond, List, ℕ, ◌+◌, ◌≤◌, ◌<◌, length, Option, None}
+use Rattle.query.specs.Query.{Record}
 use Rattle.query.specs.Shape.{max_columns}
-use Rattle.rules.specs.Layout.{tray_least, look_room, answer_count_offset}
-use Rattle.rules.specs.Work.{read_labels}
-use Rattle.rules.specs.Answers.{fetch_place, is_long, some_long}
-use Rattle.rules.specs.Client.{Client, steps, saw_pending, entry_of}
-use Rattle.rules.specs.Memory.{current, client_in, answers_in}
+use Rattle.rules.specs.Layout.{tray_least, look_room}
+use Rattle.rules.specs.Work.{read_labels, list_within}
+use Rattle.rules.specs.Answers.{is_long, some_long}
+use Rattle.rules.specs.Client.{Client, steps, saw_pending, entry_of, query_at, range_at}
+use Rattle.rules.specs.Memory.{current, shape_in, client_in, answers_in, records_in}
 use Rattle.nodes.specs.NodeContracts as nodes
 use Rattle.answers.specs.AnswerContracts as answers
 use Rattle.clients.specs.declared.Held.{Held}
@@ -33,8 +34,9 @@ pub record Finds (filed clients : List ℕ) (d n : ℕ) : Type 0 where
   pub client : client_contracts.Fit clients d
   pub few : n ≤ look_room
 
-unfoldable pub found_for : List ℕ → Client → ℕ → ℕ
-found_for s c n = cond (saw_pending c) (get_or s answer_count_offset 0) (fetch_place n (entry_of c) (answers_in current s))
+-- none where a mark was seen, else what it finds
+unfoldable pub found_for : List ℕ → Client → ℕ → Option ℕ
+found_for s c n = cond (saw_pending c) None (answers.fetched n (entry_of c) (answers_in current s))
 
 pub record Fetches (filed clients tray : List ℕ) (d : ℕ) (h : Held) : Type 0 where
   pub read : Reader h clients d
@@ -43,9 +45,14 @@ pub record Fetches (filed clients tray : List ℕ) (d : ℕ) (h : Held) : Type 0
   pub room : tray_least ≤ length tray
   pub step : made clients d ≡ looks clients d
 
+-- the records of a table of k columns that client d asks for: in its query's subspace, within its range
+abbrev pub asked_for : ℕ → List ℕ → List ℕ → ℕ → List Record
+asked_for k records clients d =
+    list_within (range_at (client_in current clients d)) (query_at (shape_in clients) (client_in current clients d)) (records_in k records)
+
 pub record Gathers (records clients : List ℕ) (d : ℕ) (h : Held) : Type 0 where
   pub read : Reader h clients d
-  pub fit : table.Fit h.columns records
+  pub fit : table.Fit h.query.k records
 
 -- what the client holds, given
 pub record Gives (clients tray : List ℕ) (d k : ℕ) : Type 0 where
@@ -56,13 +63,13 @@ pub record Gives (clients tray : List ℕ) (d k : ℕ) : Type 0 where
 
 pub record Counts (records clients : List ℕ) (d : ℕ) (h : Held) : Type 0 where
   pub read : Reader h clients d
-  pub fit : table.Fit h.columns records
+  pub fit : table.Fit h.query.k records
   pub counts : h.counts ≡ true
   pub step : made clients d ≡ looks clients d + 1
 
 pub record Lists (records clients tray : List ℕ) (d : ℕ) (h : Held) : Type 0 where
   pub read : Reader h clients d
-  pub fit : table.Fit h.columns records
+  pub fit : table.Fit h.query.k records
   pub room : tray_least ≤ length tray
   pub step : made clients d ≡ looks clients d + 1
 
@@ -75,7 +82,7 @@ pub record Files (filed clients tray : List ℕ) (d : ℕ) (h : Held) : Type 0 w
 -- any of them
 pub record Steps (records ns filed clients tray : List ℕ) (d : ℕ) (h : Held) : Type 0 where
   pub read : Reader h clients d
-  pub listed : table.Fit h.columns records
+  pub listed : table.Fit h.query.k records
   pub nodes : nodes.Fit ns
   pub fit : answers.Fit filed
   pub short : some_long (answers_in current filed) ≡ false
@@ -89,10 +96,10 @@ pub record ForeseesFetch (filed clients : List ℕ) (d : ℕ) (h : Held) : Type 
 
 pub record ForeseesTable (records clients : List ℕ) (d : ℕ) (h : Held) : Type 0 where
   pub read : Reader h clients d
-  pub fit : table.Fit h.columns records
+  pub fit : table.Fit h.query.k records
   pub step : made clients d ≡ looks clients d + 1
 
 pub record Foresees (records filed clients : List ℕ) (d : ℕ) (h : Held) : Type 0 where
   pub read : Reader h clients d
-  pub listed : table.Fit h.columns records
+  pub listed : table.Fit h.query.k records
   pub fit : answers.Fit filed

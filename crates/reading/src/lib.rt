@@ -3,54 +3,48 @@
 // takes for granted in specs/ReadContracts.antt.
 #![tactic(auto)]
 
-ghost use Rattle.std.specs.Prelude.{◌≡◌, false, List, ℕ, ◌+◌, take};
+ghost use Rattle.std.specs.Prelude.{◌≡◌, false, List, ℕ, ◌+◌, length, take};
 ghost use Rattle.lists.specs.Lists.{written, flat};
 ghost use Rattle.query.specs.Shape.{shape_of};
 ghost use Rattle.rules.specs.declared.Outcome.TheVariants.{Answered};
 ghost use Rattle.rules.specs.Layout.{max_list, client_offset, held_list_offset};
 ghost use Rattle.rules.specs.Answers.{length_in, list_in};
-ghost use Rattle.rules.specs.Work.{list_within};
-ghost use Rattle.rules.specs.Client.{entry_of, idle, query_at, range_at};
-ghost use Rattle.rules.specs.Memory.{current, mem, shape_in, client_in, with_client, records_in};
+ghost use Rattle.rules.specs.Client.{entry_of, idle};
+ghost use Rattle.rules.specs.Memory.{current, mem, client_in, with_client};
 ghost use Rattle.rules.specs.Outcome.{result_with};
 ghost use Rattle.rules.specs.Steps.{read_result};
+ghost use Rattle.hall.specs.Refusal.{outcome_of};
 ghost use Rattle.clients.specs.ClientContracts.{asked_at};
 ghost use Rattle.table.specs.TableContracts.{gathered};
-ghost use Rattle.reading.specs.ReadContracts.{made, Looks, Finds, found_for, Fetches, Gathers, Counts, Lists, Files, Steps, Gives};
+ghost use Rattle.reading.specs.ReadContracts.{made, asked_for, Looks, Finds, found_for, Fetches, Gathers, Counts, Lists, Files, Steps, Gives};
 
 use clients::Held;
-use hall::Hall;
+use hall::{Hall, Refusal};
 use nodes::Sight;
 use rules::Outcome;
 
 pub mod would; // would.rt: which count of a tally the step that is due would raise
 
-// The most records that a read lists.
-const LIST: usize = Hall::LIST as usize;
-
 // A look: the next node's revision is noted, and whether writes are pending there.
-fn look_step(nodes: &mut [u32], clients: &mut [u32], d: usize, h: Held) -> Outcome
+fn look_step(nodes: &mut [u32], clients: &mut [u32], d: usize, h: Held) -> Result<Outcome, Refusal>
     requires { Looks nodes.old clients.old d h }
-    ensures { (t a y : List ℕ) → result_with result (mem t nodes.new a clients.new) y ≡ read_result (mem t nodes.old a clients.old) y d (asked_at clients.old d) (made clients.old d) }
+    ensures { (t a y : List ℕ) → result_with (outcome_of result) (mem t nodes.new a clients.new) y ≡ read_result (mem t nodes.old a clients.old) y d (asked_at clients.old d) (made clients.old d) }
 {
-    let values = h.values;
-    let label = columns::labels::read_label(h.columns, h.marks, values, h.steps);
-    let sight = nodes::look(nodes, &label);
-    let Sight::Seen { revision, pending } = sight else {
-        return Outcome::Refused(Hall::REFUSED_UNSOUND);
-    };
+    let label = h.query.read_label(h.steps);
+    let Sight { revision, pending } = nodes::look(nodes, &label)?;
     clients::note(clients, d, h.steps, revision, pending);
-    Outcome::Accepted
+    Ok(Outcome::Accepted)
 }
 
-// The place of the filed answer to answer with, or their count where there is none. Where a look saw a mark none may serve, and no search is
-// made. A read that comes to its fetch has made one step for each of its nodes: n.
-fn find_filed(answers: &[u32], clients: &[u32], d: usize, n: usize) -> usize
+// The place of the filed answer to answer with. Where a look saw a mark none may serve, and no search is made. A read that comes to its fetch has
+// made one step for each of its nodes: n.
+#[tactic(auto, unfolding(crate::specs::ReadContracts::found_for))]
+fn find_filed(answers: &[u32], clients: &[u32], d: usize, n: usize) -> Option<usize>
     requires { Finds answers.now clients.now d n }
     ensures { result ≡ found_for answers.now (client_in current clients.now d) n }
 {
     if clients::saw_pending(clients, d) {
-        return answers[Hall::ANSWER_COUNT_OFFSET] as usize;
+        return None;
     }
     answers::fetch(answers, clients::entry(clients, d), n)
 }
@@ -60,33 +54,37 @@ fn fetch_step(answers: &[u32], clients: &mut [u32], tray: &mut [u32], d: usize, 
     requires { Fetches answers.now clients.old tray.old d h }
     ensures { (t n : List ℕ) → result_with result (mem t n answers.now clients.new) tray.new ≡ read_result (mem t n answers.now clients.old) tray.old d (asked_at clients.old d) (made clients.old d) }
 {
-    let i = find_filed(answers, clients, d, h.steps);
-    if answers[Hall::ANSWER_COUNT_OFFSET] as usize <= i {
+    let Some(i) = find_filed(answers, clients, d, h.steps) else {
         clients::advance(clients, d);
         return Outcome::Accepted;
-    }
-    let count = answers::give(answers, i, h.columns, tray);
+    };
+    let count = answers::give(answers, i, h.query.k, tray);
     clients::set_idle(clients, d);
     Outcome::Answered {
-        count: count,
+        count,
         cached: true,
     }
 }
 
-// Writes the query's list, of which the records within the client's range, at most 32, into the client's place for it, and says how many there
-// are, or 33 of more than 32.
-fn gather_list(table: &[u32], clients: &mut [u32], d: usize, h: Held) -> usize
+// Writes the list that client d asks for, at most 32 records of it, into the client's place for it, and says how many there are, if there are no
+// more.
+fn gather_list(table: &[u32], clients: &mut [u32], d: usize, h: Held) -> Option<usize>
     requires { Gathers table.now clients.old d h }
-    ensures value { result ≡ gathered (list_within (range_at (client_in current clients.old d)) (query_at (shape_in clients.old) (client_in current clients.old d)) (records_in h.columns table.now)) }
-    ensures clients_after { clients.new ≡ written clients.old (client_offset current d + held_list_offset (shape_of h.columns)) (flat (take max_list (list_within (range_at (client_in current clients.old d)) (query_at (shape_in clients.old) (client_in current clients.old d)) (records_in h.columns table.now)))) }
+    ensures value { result ≡ gathered (asked_for h.query.k table.now clients.old d) }
+    ensures clients_after { clients.new ≡ written clients.old (client_offset current d + held_list_offset (shape_of h.query.k)) (flat (take max_list (asked_for h.query.k table.now clients.old d))) }
 {
-    let k = h.columns;
-    let values = h.values;
-    let cols = columns::keys::columns_in(k, h.marks, &values);
     let range = clients::range(clients, d);
-    let at = clients::list_at(d, k);
-    let end = at + Hall::LIST_WIDTH;
-    table::gather(table, k, cols, range, &mut clients[at..end])
+    let at = clients::list_at(d, h.query.k);
+    let place = &mut clients[at..at + Hall::LIST_WIDTH];
+    table::gather(table, &h.query.query(), range, place)
+}
+
+// How many records client d asks for, be they more than a read lists.
+fn count_records(table: &[u32], clients: &[u32], d: usize, h: Held) -> usize
+    requires { Gathers table.now clients.now d h }
+    ensures { result ≡ length (asked_for h.query.k table.now clients.now d) }
+{
+    table::count(table, &h.query.query(), clients::range(clients, d))
 }
 
 // Answers with what the client holds: a list goes to the tray's start, and the client is idle.
@@ -99,7 +97,7 @@ fn answer_held(clients: &mut [u32], tray: &mut [u32], d: usize, k: usize) -> Out
     let count = answers::give_list(clients::entry(clients, d), k, tray);
     clients::set_idle(clients, d);
     Outcome::Answered {
-        count: count,
+        count,
         cached: false,
     }
 }
@@ -110,17 +108,12 @@ fn count_step(table: &[u32], clients: &mut [u32], d: usize, h: Held) -> Outcome
     requires { Counts table.now clients.old d h }
     ensures { (n a y : List ℕ) → result_with result (mem table.now n a clients.new) y ≡ read_result (mem table.now n a clients.old) y d (asked_at clients.old d) (made clients.old d) }
 {
-    let k = h.columns;
-    let values = h.values;
-    let cols = columns::keys::columns_in(k, h.marks, &values);
-    let range = clients::range(clients, d);
-    let n = table::count(table, k, cols, range);
+    let n = count_records(table, clients, d, h);
     let saw = clients::saw_pending(clients, d);
     if saw {
         clients::set_idle(clients, d);
-        let count = n as u32;
         return Outcome::Answered {
-            count: count,
+            count: n as u32,
             cached: false,
         };
     }
@@ -138,16 +131,15 @@ fn table_step(table: &[u32], clients: &mut [u32], tray: &mut [u32], d: usize, h:
         return count_step(table, clients, d, h);
     }
     let saw = clients::saw_pending(clients, d);
-    let n = gather_list(table, clients, d, h);
-    if LIST < n {
+    let Some(n) = gather_list(table, clients, d, h) else {
         clients::set_idle(clients, d);
         return Outcome::Long;
-    }
-    clients::set_value(clients, d, n, n * h.columns);
+    };
+    clients::set_value(clients, d, n, n * h.query.k);
     if !saw {
         return Outcome::Accepted;
     }
-    answer_held(clients, tray, d, h.columns)
+    answer_held(clients, tray, d, h.query.k)
 }
 
 // What was taken at the table step is filed with the noted revisions, and answered with.
@@ -162,10 +154,10 @@ fn file_step(
     ensures { (t n : List ℕ) → result_with result (mem t n answers.new clients.new) tray.new ≡ read_result (mem t n answers.old clients.old) tray.old d (asked_at clients.old d) (made clients.old d) }
 {
     answers::file(answers, clients::entry(clients, d));
-    answer_held(clients, tray, d, h.columns)
+    answer_held(clients, tray, d, h.query.k)
 }
 
-// The step that is due of a read: one look for each node, then fetch, table and file.
+// The step that is due of a read: one look for each node, then fetch, table and file. Only a look may be turned down.
 pub fn read_step(
     table: &[u32],
     nodes: &mut [u32],
@@ -174,19 +166,14 @@ pub fn read_step(
     tray: &mut [u32],
     d: usize,
     h: Held,
-) -> Outcome
+) -> Result<Outcome, Refusal>
     requires { Steps table.now nodes.old answers.old clients.old tray.old d h }
-    ensures { result_with result (mem table.now nodes.new answers.new clients.new) tray.new ≡ read_result (mem table.now nodes.old answers.old clients.old) tray.old d (asked_at clients.old d) (made clients.old d) }
+    ensures { result_with (outcome_of result) (mem table.now nodes.new answers.new clients.new) tray.new ≡ read_result (mem table.now nodes.old answers.old clients.old) tray.old d (asked_at clients.old d) (made clients.old d) }
 {
-    let count = columns::keys::look_count(h.columns, h.marks);
-    if h.steps < count {
-        return look_step(nodes, clients, d, h);
+    match h.steps.checked_sub(h.query.look_count()) {
+        None => look_step(nodes, clients, d, h),
+        Some(0) => Ok(fetch_step(answers, clients, tray, d, h)),
+        Some(1) => Ok(table_step(table, clients, tray, d, h)),
+        Some(_) => Ok(file_step(answers, clients, tray, d, h)),
     }
-    if h.steps == count {
-        return fetch_step(answers, clients, tray, d, h);
-    }
-    if h.steps == count + 1 {
-        return table_step(table, clients, tray, d, h);
-    }
-    file_step(answers, clients, tray, d, h)
 }

@@ -8,36 +8,29 @@ ghost use Rattle.rules.specs.Tally.{count_of};
 ghost use Rattle.clients.specs.ClientContracts.{asked_at};
 ghost use Rattle.reading.specs.ReadContracts.{made, Foresees, ForeseesFetch, ForeseesTable};
 
-use super::{LIST, find_filed};
+use super::{count_records, find_filed};
 use clients::Held;
 use hall::Hall;
 use rules::Count;
+
+// The most records that a read lists.
+const LIST: usize = Hall::LIST as usize;
 
 // The fetch: the read is answered from file, or goes on.
 fn fetch_would(answers: &[u32], clients: &[u32], d: usize, h: Held) -> Option<Count>
     requires { ForeseesFetch answers.now clients.now d h }
     ensures { (t n y : List ℕ) → result ≡ count_of None (read_result (mem t n answers.now clients.now) y d (asked_at clients.now d) (made clients.now d)).out }
 {
-    let i = find_filed(answers, clients, d, h.steps);
-    if answers[Hall::ANSWER_COUNT_OFFSET] as usize <= i {
-        return None;
-    }
+    find_filed(answers, clients, d, h.steps)?;
     Some(Count::FromFile)
 }
 
 // Whether a list's table step would find more than 32 records. A count is never too long: no pass over the table is made for it.
 fn is_long(table: &[u32], clients: &[u32], d: usize, h: Held) -> bool
     requires { ForeseesTable table.now clients.now d h }
-    ensures { result ≡ not (may_answer (asked_at clients.now d) (value_of (asked_at clients.now d) (records_in h.columns table.now))) }
+    ensures { result ≡ not (may_answer (asked_at clients.now d) (value_of (asked_at clients.now d) (records_in h.query.k table.now))) }
 {
-    if h.counts {
-        return false;
-    }
-    let k = h.columns;
-    let values = h.values;
-    let cols = columns::keys::columns_in(k, h.marks, &values);
-    let range = clients::range(clients, d);
-    LIST < table::count(table, k, cols, range)
+    !h.counts && LIST < count_records(table, clients, d, h)
 }
 
 // The table step: a list of more than 32 ends the read; where a look saw a mark it is answered from the table; else it goes on.
@@ -48,10 +41,7 @@ fn table_would(table: &[u32], clients: &[u32], d: usize, h: Held) -> Option<Coun
     if is_long(table, clients, d, h) {
         return Some(Count::EndedLong);
     }
-    if clients::saw_pending(clients, d) {
-        return Some(Count::FromTable);
-    }
-    None
+    clients::saw_pending(clients, d).then_some(Count::FromTable)
 }
 
 // The step that is due: a look ends nothing, a file step answers from the table.
@@ -65,15 +55,10 @@ pub fn step_would(
     requires { Foresees table.now answers.now clients.now d h }
     ensures { (n y : List ℕ) → result ≡ count_of None (read_result (mem table.now n answers.now clients.now) y d (asked_at clients.now d) (made clients.now d)).out }
 {
-    let count = columns::keys::look_count(h.columns, h.marks);
-    if h.steps < count {
-        return None;
+    match h.steps.checked_sub(h.query.look_count()) {
+        None => None,
+        Some(0) => fetch_would(answers, clients, d, h),
+        Some(1) => table_would(table, clients, d, h),
+        Some(_) => Some(Count::FromTable),
     }
-    if h.steps == count {
-        return fetch_would(answers, clients, d, h);
-    }
-    if h.steps == count + 1 {
-        return table_would(table, clients, d, h);
-    }
-    Some(Count::FromTable)
 }
