@@ -1,17 +1,16 @@
 -- Laws of the place of the first that passes a test: in a list with one altered, taken out or added. Leans on the
 -- definitions of lists and on the laws of lists and searches. Assumes nothing.
-use Rattle.std.proofs.Common.{◌≡◌, refl, sym, ◌∙◌, Bool, true, false, List, [], ◌∷◌, ◌++◌, ℕ, ◌+◌, ◌-◌, ◌≤◌, ◌<◌, arith, length, get_or, set, add-zero, position, Some, None, fold, max, ◌||◌}
+use Rattle.std.proofs.Common.{◌≡◌, refl, sym, ◌∙◌, Bool, true, false, List, [], ◌∷◌, ◌++◌, ℕ, ◌+◌, ◌-◌, ◌≤◌, ◌<◌, arith, length, get_or, set, add-zero, fold, max, ◌||◌}
 use lib.Dec.{ltb}
 use borrow.Author.Tests.{ltb-true, ltb-false, eq-eqb}
 use Rattle.std.specs.List.{position_or_len, list_any}
 use Rattle.std.proofs.lemmas.List.Folds.{position_or_len-set, position_or_len_push}
 use Rattle.lists.specs.Lists.{place, without}
 use Rattle.laws.proofs.ListLaws.{length_without, without_before, without_after}
-use Rattle.laws.proofs.SearchLaws.{place_before, place_all, place_le}
+use Rattle.laws.proofs.SearchLaws.{place_before, place_all}
 use Rattle.laws.proofs.WalkLaws.{place_is_position}
 use mathlib.Core.Bool.{or-false, or_assoc}
 use Rattle.std.proofs.lemmas.Bool.Decides.{nat_tests}
-use Rattle.laws.proofs.TestLaws.{by_test}
 
 module _ {A : Type 0} (q : A → Bool) where
   -- one altered that passes as before

@@ -1,6 +1,6 @@
 -- Laws of the scans over the nodes: the nodes as the library cuts them out of the memory, a label compared with the five numbers of a node, the
 -- tests of a node, and the first that passes one. Leans on the rules' definitions and on the laws of lists and searches. Assumes nothing.
-use Rattle.std.proofs.Common.{◌≡◌, sym, ap, ◌∙◌, true, false, not, List, [], ℕ, ◌+◌, ◌*◌, ◌-◌, ◌/◌, ◌≤◌, ◌<◌, arith, length, get_or, take, drop, refl, ◌∷◌, zero, suc, length-drop, fold, max, ◌||◌}
+use Rattle.std.proofs.Common.{◌≡◌, sym, ap, ◌∙◌, true, false, not, List, [], ℕ, ◌+◌, ◌*◌, ◌-◌, ◌/◌, ◌≤◌, ◌<◌, arith, length, get_or, take, drop, fold, max, ◌||◌}
 use lib.Bits.{bit_or, bit_xor, xor_self, xor_add_and, or_add_and, and_le_l, and_le_r}
 use lib.Dec.{eqb, ltb}
 use lib.Seq.{get_or-take, length-take-le}
