@@ -48,18 +48,19 @@ found_there s c n j e =
     let l = count_is s in
     omega (arith, o.1.0, o.1.1)
 
-module _ {h : Held} {clients : List ℕ} {d : ℕ} (r : Reader h clients d) (p : made clients d ≡ looks clients d) (s tray : List ℕ) (i : Option ℕ) (e : i ≡ found_for s (client_in current clients d) h.steps) where
-  found : i ≡ cond (saw_pending (client_in current clients d)) None (fetched (looks clients d) (entry_of (client_in current clients d)) (answers_in current s))
+module _ {h : Held} {clients : List ℕ} {d : ℕ} (r : Reader h clients d) (p : made clients d ≡ looks clients d) (s tray : List ℕ) where
+  found : found_for s (client_in current clients d) h.steps
+      ≡ cond (saw_pending (client_in current clients d)) None (fetched (looks clients d) (entry_of (client_in current clients d)) (answers_in current s))
   unfolding found_for
-  found = e ∙ rw (r.held.steps, p)
+  found = rw (r.held.steps, p)
 
-  pub fetch_not : i ≡ None → (clients' : List ℕ) → clients' ≡ with_client current clients d (stepped (client_in current clients d)) → (t n : List ℕ)
+  pub fetch_not : found_for s (client_in current clients d) h.steps ≡ None → (clients' : List ℕ) → clients' ≡ with_client current clients d (stepped (client_in current clients d)) → (t n : List ℕ)
       → result_with Accepted (mem t n s clients') tray ≡ read_result (mem t n s clients) tray d (asked_at clients d) (made clients d)
   unfolding fetch_result now_at client
   fetch_not g clients' u t n =
       rw (fetch_is (mem t n s clients) tray d (asked_at clients d) (made clients d) p, closed _ _ _ _ (sym found ∙ g), u)
 
-  pub fetch_given : (j : ℕ) → i ≡ Some j → (count : ℕ) (tray' clients' : List ℕ) → answers.Gave h.query.k (get_or (answers_in current s) j []) tray count tray' → clients' ≡ with_client current clients d idle → (t n : List ℕ)
+  pub fetch_given : (j : ℕ) → found_for s (client_in current clients d) h.steps ≡ Some j → (count : ℕ) (tray' clients' : List ℕ) → answers.Gave h.query.k (get_or (answers_in current s) j []) tray count tray' → clients' ≡ with_client current clients d idle → (t n : List ℕ)
       → result_with (Answered count true) (mem t n s clients') tray' ≡ read_result (mem t n s clients) tray d (asked_at clients d) (made clients d)
   unfolding fetch_result answered value_in now_at client
   fetch_given j g count tray' clients' w u t n =

@@ -1,6 +1,6 @@
 -- Laws of a look: what is noted, and the refusal where there is no room for the node. Leans on rules, on clients and on ReadClient.
 -- Assumes nothing.
-use mathlib.Core.Path.{◌≡◌, sym, ap, ◌∙◌}
+use mathlib.Core.Path.{◌≡◌, refl, sym, ap, ◌∙◌}
 use mathlib.Core.List.{List, []}
 use Prim.Native.Nat.{ℕ, ◌<◌}
 use native.Mathlib.Omega.{arith}
@@ -41,23 +41,22 @@ module _ {h : Held} {clients : List ℕ} {d : ℕ} (r : Reader h clients d) (i :
   pub look_below : h.steps < read_count (held_query h)
   look_below = rw (r.held.steps, at_query r, ← look_count_of r.busy) i
 
-  module _ (ns : List ℕ) (p : Words) (f : p ≡ label_words (read_node (held_query h) h.steps)) (x : Result Sight Refusal) (ns' : List ℕ)
-      (g : attempt x ns' ≡ looked p ns (ensured p (store_in current ns))) (t a y : List ℕ) where
+  module _ (ns : List ℕ) (p : Words) (f : p ≡ label_words (read_node (held_query h) h.steps)) (ns' t a y : List ℕ) where
     label_is : p ≡ get_or (read_labels (asked_at clients d)) (made clients d) []
     label_is = f ∙ rw r.held.steps (reader_label r (made clients d) i)
 
     look_due : read_result (mem t ns a clients) y d (asked_at clients d) (made clients d) ≡ look_result (mem t ns a clients) y d (made clients d) p (ensured p (store_in current ns))
     look_due = rw (look_is (mem t ns a clients) y d (asked_at clients d) (made clients d) i, ← label_is)
 
-    pub look_stuck : (e : Refusal) → x ≡ Err e → (q : Result Outcome Refusal) → q ≡ Err e
+    pub look_stuck : (e : Refusal) → attempt (Err e) ns' ≡ looked p ns (ensured p (store_in current ns)) → (q : Result Outcome Refusal) → q ≡ Err e
         → result_with (outcome_of q) (mem t ns' a clients) y ≡ read_result (mem t ns a clients) y d (asked_at clients d) (made clients d)
     unfolding look_result
     look_stuck e z q u =
-        let w = went_not (seen p) ns (ensured p (store_in current ns)) x e ns' g z in
+        let w = went_not (seen p) ns (ensured p (store_in current ns)) (Err e) e ns' z refl in
         rw (look_due, w.0, u, w.1, w.2)
 
-    pub look_noted : (s : Sight) → x ≡ Ok s → (clients' : List ℕ) → clients' ≡ with_client current clients d (noted h.steps s.revision s.pending (client_in current clients d))
+    pub look_noted : (s : Sight) → attempt (Ok s) ns' ≡ looked p ns (ensured p (store_in current ns)) → (clients' : List ℕ) → clients' ≡ with_client current clients d (noted h.steps s.revision s.pending (client_in current clients d))
         → result_with Accepted (mem t ns' a clients') y ≡ read_result (mem t ns a clients) y d (asked_at clients d) (made clients d)
     look_noted s z clients' u =
-        let w = went_well (seen p) ns (ensured p (store_in current ns)) x s ns' g z in
+        let w = went_well (seen p) ns (ensured p (store_in current ns)) (Ok s) s ns' z refl in
         rw look_due (noted_left t a y ns ns' clients clients' d (made clients d) p (ensured p (store_in current ns)) s w (u ∙ rw r.held.steps))
