@@ -9,12 +9,8 @@ use lib.Dec.{ltb}
 use lib.ListN.{length, get_or, length-append}
 use borrow.Author.Tests.{ltb-true, ltb-false, lt-ltb, le-ltb}
 use Rattle.std.specs.Prelude.{Some, None}
-use Rattle.std.specs.Slice.Iter.{chunks_exact_steps}
-use Rattle.std.specs.declared.slice.ChunksExact.{ChunksExact}
-use Rattle.std.proofs.lemmas.Iterator.{YieldsList}
 use Rattle.lists.specs.Lists.{without}
 use Rattle.laws.proofs.EntryLaws.{with_self, with_with}
-use Rattle.laws.proofs.WalkLaws.{chunks_flat}
 use Rattle.laws.proofs.TestLaws.{by_test}
 use Rattle.laws.proofs.ListLaws.{length_without}
 use Rattle.laws.proofs.RowLaws.{Wide, wide_snoc, wide_without, wide_at}
@@ -22,7 +18,7 @@ use Rattle.rules.specs.Answers.{Entry, key_place, filed}
 use Rattle.rules.specs.Layout.{max_answers, answer_count_offset, entry_width}
 use Rattle.rules.specs.Memory.{current, answers_in, with_answers}
 use Rattle.rules.proofs.MemoryLaws as rules
-use Rattle.answers.specs.AnswerContracts.{Fit, Entries, fetched}
+use Rattle.answers.specs.AnswerContracts.{Fit, fetched}
 use Rattle.answers.proofs.AnswerScan.{count_is, fetch_key, fetched_some, fetched_none}
 
 -- entries of their width, no more than are kept
@@ -40,10 +36,6 @@ module _ (s : List ℕ) (fit : Fit s) where
 
   pub answer_length : (i : ℕ) → i < get_or s answer_count_offset 0 → length (get_or (answers_in current s) i []) ≡ entry_width
   answer_length i h = let l = count_is s in wide_at entry_width (answers_in current s) i answers_kept.wide (omega arith)
-
-  -- a walk through the entries comes to each filed answer
-  pub entries_yield : {it : ChunksExact ℕ} → Entries it s → YieldsList (chunks_exact_steps {A = ℕ}) (λ y. y.now) it (answers_in current s)
-  entries_yield e = chunks_flat entry_width (answers_in current s) (omega arith) answers_kept.wide e.rest e.size
 
 -- ---- what a memory with other answers holds
 module _ (s : List ℕ) (fit : Fit s) (es : List Entry) (kept : Kept es) where

@@ -8,17 +8,15 @@ use native.Mathlib.Omega.{arith}
 use lib.Dec.{ltb, leb}
 use lib.ListN.{length, get_or, take, drop, length-take, length-drop}
 use lib.Seq.{get_or-take, get_or-drop}
-use borrow.Author.Tests.{lt-ltb, le-ltb, ltb-true, ltb-false}
-use Rattle.std.specs.Prelude.{Some, None}
-use Rattle.std.specs.List.{list_all, list_any, zip, position_or_len}
-use Rattle.std.proofs.lemmas.Option.{cond_some, none-some}
-use Rattle.lists.specs.Lists.{flat, place, all_below, entries_in}
+use borrow.Author.Tests.{lt-ltb, le-ltb, ltb-false}
+use Rattle.std.specs.Prelude.{Some, None, ◌/◌}
+use Rattle.std.specs.Simd.{first_chunks}
+use Rattle.std.specs.List.{list_all, list_any, zip}
+use Rattle.lists.specs.Lists.{place, all_below}
 use Rattle.laws.proofs.TestLaws.{by_test}
 use Rattle.laws.proofs.SearchLaws.{place_before}
-use Rattle.laws.proofs.RowLaws.{rows_flat}
-use Rattle.laws.proofs.WalkLaws.{place_is, any_is, all_zip}
-use Rattle.answers.specs.AnswerContracts.{fetched}
-use Rattle.laws.proofs.EntryLaws.{entry_at}
+use Rattle.laws.proofs.WalkLaws.{found, not_found, any_place, entries_cut, all_zip}
+use Rattle.answers.specs.AnswerContracts.{Fit, fetched}
 use Rattle.rules.specs.Answers.{Entry, key_in, length_in, revision_in, is_count, most_in, has_key_of, at_least, serves, fetch_place, key_place, is_long, some_long}
 use Rattle.lists.specs.Lists.{header}
 use Rattle.query.specs.Encoding.{key_width, counts_in}
@@ -83,41 +81,25 @@ fetch_key x (e ∷ es) = rw (serves_key x e) (ap (λ (n : ℕ). cond (has_key_of
 pub count_is : (s : List ℕ) → length (answers_in current s) ≡ get_or s answer_count_offset 0
 count_is s = length_answers current s
 
-pub entry_is : (s : List ℕ) (a b i : ℕ) → a ≡ header + i * entry_width → b ≡ header + (i + 1) * entry_width → i < get_or s answer_count_offset 0
-    → take (b - a) (drop a s) ≡ get_or (answers_in current s) i []
+pub answers_cut : (s : List ℕ) (e : ℕ) → Fit s → e ≡ header + get_or s answer_count_offset 0 * entry_width
+    → first_chunks entry_width (length (take (e - header) (drop header s)) / entry_width) (take (e - header) (drop header s)) ≡ answers_in current s
 unfolding answers_in
-entry_is s a b i h g k =
-    let m : b - a ≡ entry_width = omega arith in
-    rw (m, h) (sym (entry_at 0 entry_width s i k))
-
-pub entries_are : (s : List ℕ) (e : ℕ) → e ≡ header + get_or s answer_count_offset 0 * entry_width → e ≤ length s → take (e - 8) (drop 8 s) ≡ flat (answers_in current s)
-unfolding answers_in entries_in
-entries_are s e h k =
-    let m : e - 8 ≡ get_or s answer_count_offset 0 * entry_width = omega arith in
-    rw m (sym (rows_flat entry_width (get_or s answer_count_offset 0) (drop 8 s) (rw length-drop (omega arith))))
+answers_cut s e f h = let b = f.few in let l = f.long in entries_cut answer_count_offset entry_width s e (omega arith) h (omega arith)
 
 -- ---- the search for one that may be answered with
-pub fetched_is : (n : ℕ) (x : Entry) (es : List Entry)
-    → cond (ltb (position_or_len (serves n x) es) (length es)) (Some (position_or_len (serves n x) es)) None ≡ fetched n x es
-unfolding fetch_place
-fetched_is n x es = rw (place_is (serves n x) es)
-
 module _ (n : ℕ) (x : Entry) (es : List Entry) where
   pub fetched_some : (i : ℕ) → fetched n x es ≡ Some i → (fetch_place n x es ≡ i) × (fetch_place n x es < length es)
-  fetched_some i h =
-      let q = cond_some (ltb (fetch_place n x es) (length es)) (fetch_place n x es) i h in
-      (q.1, ltb-true (fetch_place n x es) (length es) q.0)
+  unfolding fetch_place
+  fetched_some i h = let f = found (serves n x) es i h in (sym f.0, omega arith)
 
   pub fetched_none : fetched n x es ≡ None → length es ≤ fetch_place n x es
-  fetched_none h =
-      by_test (ltb (fetch_place n x es) (length es))
-      (λ e. absurd (none-some (fetch_place n x es) (sym h ∙ rw e)))
-      (ltb-false (fetch_place n x es) (length es))
+  unfolding fetch_place
+  fetched_none h = let f = not_found (serves n x) es h in omega arith
 
 -- ---- the search for an entry that says too much
 pub some_long_is : (es : List Entry) → list_any is_long es ≡ some_long es
 unfolding some_long
-some_long_is es = any_is is_long es
+some_long_is es = any_place is_long es
 
 module _ (s : List ℕ) where
   -- where none says too much, entry i does not

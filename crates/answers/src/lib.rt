@@ -10,10 +10,9 @@ ghost use Rattle.query.specs.Encoding.{key_width};
 ghost use Rattle.query.specs.Shape.{max_columns};
 ghost use Rattle.rules.specs.Layout.{max_answers, tray_least, answer_count_offset, look_room, entry_width};
 ghost use Rattle.rules.specs.Memory.{current, answers_in, with_answers};
-ghost use Rattle.answers.specs.AnswerContracts.{Fit, Gave, Entries, fetched};
+ghost use Rattle.answers.specs.AnswerContracts.{Fit, Gave, fetched};
 
 use hall::Hall;
-use std::slice::ChunksExact;
 
 // The place of entry i, or of the one behind the last.
 fn place(i: usize) -> usize
@@ -31,35 +30,30 @@ fn end(answers: &[u32]) -> usize
     place(answers[Hall::ANSWER_COUNT_OFFSET] as usize)
 }
 
-// The entries, one after another.
-fn entries(answers: &[u32]) -> ChunksExact<'_, u32>
+// The entries.
+#[tactic(auto, using(crate::proofs::AnswerScan::answers_cut, crate::proofs::AnswerScan::count_is))]
+fn entries(answers: &[u32]) -> &[[u32; Hall::ENTRY_WIDTH]]
     requires { Fit answers.now }
-    ensures { Entries result answers.now }
+    ensures filed { result.now ≡ answers_in current answers.now }
+    ensures count { length result.now ≡ get_or answers.now answer_count_offset 0 }
 {
-    answers[Hall::HEADER..end(answers)].chunks_exact(Hall::ENTRY_WIDTH)
-}
-
-// Entry i.
-#[tactic(auto, using(crate::proofs::AnswerScan::entry_is))]
-fn entry(answers: &[u32], i: usize) -> &[u32]
-    requires { Fit answers.now × (i < get_or answers.now answer_count_offset 0) }
-    ensures { result.now ≡ get_or (answers_in current answers.now) i [] }
-{
-    &answers[place(i)..place(i + 1)]
+    answers[Hall::HEADER..end(answers)]
+        .as_chunks::<{ Hall::ENTRY_WIDTH }>()
+        .0
 }
 
 // Whether the entry e answers x's query, with what x wants and its range: the key has all three.
-#[tactic(auto, using(laws::proofs::WalkLaws::same_is), unfolding(rules::specs::Answers::has_key_of, rules::specs::Answers::key_in))]
-fn has_key(e: &[u32], x: &[u32]) -> bool
-    requires { (key_width ≤ length e.now) × (key_width ≤ length x.now) }
+#[tactic(auto, using(words::proofs::CompareLaws::eq_is_same), unfolding(rules::specs::Answers::has_key_of, rules::specs::Answers::key_in))]
+fn has_key(e: &[u32; Hall::ENTRY_WIDTH], x: &[u32]) -> bool
+    requires { key_width ≤ length x.now }
     ensures { result ≡ has_key_of x.now e.now }
 {
     e[..Hall::KEY_WIDTH] == x[..Hall::KEY_WIDTH]
 }
 
 // Whether each of e's first n revisions is at least x's.
-fn is_recent(e: &[u32], x: &[u32], n: usize) -> bool
-    requires { (length e.now ≡ entry_width) × ((length x.now ≡ entry_width) × (n ≤ look_room)) }
+fn is_recent(e: &[u32; Hall::ENTRY_WIDTH], x: &[u32], n: usize) -> bool
+    requires { (length x.now ≡ entry_width) × (n ≤ look_room) }
     ensures { result ≡ all_below n (at_least x.now e.now) }
 {
     let filed = &e[Hall::REVISIONS_OFFSET..][..n];
@@ -69,8 +63,8 @@ fn is_recent(e: &[u32], x: &[u32], n: usize) -> bool
 
 // Whether e may be answered with to the client whose own entry x is. Few entries have the key, so it is compared first.
 #[tactic(auto, unfolding(rules::specs::Answers::serves))]
-fn may_serve(e: &[u32], x: &[u32], n: usize) -> bool
-    requires { (length e.now ≡ entry_width) × ((length x.now ≡ entry_width) × (n ≤ look_room)) }
+fn may_serve(e: &[u32; Hall::ENTRY_WIDTH], x: &[u32], n: usize) -> bool
+    requires { (length x.now ≡ entry_width) × (n ≤ look_room) }
     ensures { result ≡ serves n x.now e.now }
 {
     has_key(e, x) && is_recent(e, x, n)
@@ -82,14 +76,13 @@ pub fn fetch(answers: &[u32], entry: &[u32], n: usize) -> Option<usize>
     requires { Fit answers.now × ((length entry.now ≡ entry_width) × (n ≤ look_room)) }
     ensures { result ≡ fetched n entry.now (answers_in current answers.now) }
 {
-    entries(answers).position(|e| may_serve(e, entry, n))
+    entries(answers).iter().position(|e| may_serve(e, entry, n))
 }
 
 // Whether the entry e says more than it may: a count more than a table holds, a list more than are listed. Nearly all say at most 32, which both
 // may: only above that the key is looked at.
 #[tactic(auto, using(crate::proofs::AnswerScan::long_not, crate::proofs::AnswerScan::long_count, crate::proofs::AnswerScan::long_list))]
-fn is_long(e: &[u32]) -> bool
-    requires { length e.now ≡ entry_width }
+fn is_long(e: &[u32; Hall::ENTRY_WIDTH]) -> bool
     ensures { result ≡ is_long e.now }
 {
     let n = e[Hall::LENGTH_OFFSET];
@@ -101,7 +94,7 @@ pub fn some_long(answers: &[u32]) -> bool
     requires { Fit answers.now }
     ensures { result ≡ some_long (answers_in current answers.now) }
 {
-    entries(answers).any(|e| is_long(e))
+    entries(answers).iter().any(is_long)
 }
 
 // Puts entry in behind the last.
@@ -169,5 +162,5 @@ pub fn give(answers: &[u32], i: usize, k: usize, tray: &mut [u32]) -> u32
     requires { Fit answers.now × ((i < get_or answers.now answer_count_offset 0) × ((is_long (get_or (answers_in current answers.now) i []) ≡ false) × ((k ≤ max_columns) × (tray_least ≤ length tray.old)))) }
     ensures { Gave k (get_or (answers_in current answers.now) i []) tray.old result tray.new }
 {
-    give_list(entry(answers, i), k, tray)
+    give_list(&entries(answers)[i], k, tray)
 }

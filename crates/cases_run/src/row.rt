@@ -1,216 +1,225 @@
-// A row as a number, and how it is read from a part's text. Leans on parts for the text.
-ghost use Rattle.std.specs.Prelude.{◌<◌};
+// A row of a part: what is done or looked at, and what is expected; and how it is read from the part's text. Leans on came and terms.
+use crate::came::{Came, End};
+use crate::terms::Terms;
+use calls::Call;
+use std::str::Split;
 
-use crate::parts;
+// The memories, under the names that the texts have for them.
+#[derive(Clone, Copy)]
+pub enum Memory {
+    Table,
+    Nodes,
+    Answers,
+    Desks,
+    Tray,
+}
 
-// The places in the number: the letter of what is done; the desk or place; the query; the steps. Below them how a call ended and its number
-// or count; of a memory the number there, 32 bits in the places of query and steps.
-const ACT: u64 = 0x0100_0000_0000_0000;
+#[derive(Clone, Copy)]
+pub enum Begin {
+    Read,
+    Count,
+    ReadWithin,
+    CountWithin,
+    Insert,
+    Delete,
+}
 
-const AT: u64 = 0x0100_0000_0000;
+// What is done or looked at. Where short is set, one number below the least length is lent: of the table at an opening, of the tray at a step.
+#[derive(Clone, Copy)]
+pub enum Act {
+    Open {
+        columns: u32,
+        short: bool,
+    },
+    Begin {
+        begin: Begin,
+        desk: u32,
+        query: Terms,
+        steps: u32,
+    },
+    Step {
+        desk: u32,
+        steps: u32,
+        short: bool,
+    },
+    // An insert of each value below one.
+    Fill {
+        below: u32,
+        steps: u32,
+    },
+    // A call with no query and no steps.
+    Once(Call),
+    // A number of a memory, set first, or looked at alone.
+    Put {
+        memory: Memory,
+        place: u32,
+        number: u32,
+    },
+    Look {
+        memory: Memory,
+        place: u32,
+    },
+    Label {
+        node: u32,
+    },
+}
 
-const QUERY: u64 = 0x0100_0000;
+#[derive(Clone, Copy)]
+pub struct Row {
+    pub act: Act,
+    pub expected: Came,
+}
 
-pub const STEPS: u64 = 0x0001_0000;
-
-// How a call ended: an answer from the table or filed before, a write with the table changed or not. Counts to 2,048 have room below.
-pub const GOT: u64 = 0x1000;
-
-pub const KEPT: u64 = 0x2000;
-
-pub const CHANGED: u64 = 0x3000;
-
-pub const UNCHANGED: u64 = 0x4000;
-
-// How many numbers a number of a memory can be.
-pub const WORDS: u64 = 4294967296;
-
-// In a part's text the place that stands for every one, and for the largest desk; and what it is read as.
+// In a text the place that stands for every one, and for the largest desk; and what it is read as.
 const EVERY_WRITTEN: u32 = 65535;
 
-pub const EVERY: u32 = 4294967295;
+pub const EVERY: u32 = u32::MAX;
 
-// ---- Reading
-// What is read so far; which place the next number has: 0 the lowest, 1 desk or place, 2 a query, 3 its later columns, 4 steps; the number.
-#[derive(Clone, Copy)]
-struct Reading {
-    row: u64,
-    place: u32,
-    number: u64,
-}
+type Words<'a> = Split<'a, char>;
 
-// A row, and where the text goes on behind it.
-#[derive(Clone, Copy)]
-pub struct Line {
-    pub row: u64,
-    pub next: usize,
-}
-
-// A digit of a number or query; 16 if it is none.
-fn digit(c: u8) -> u64 {
-    match c {
-        b'0'..=b'9' => (c - b'0') as u64,
-        b'?' => 10,
-        b'!' => 13,
-        b'~' => 14,
-        b'*' => 15,
-        _ => 16,
+// A desk, a node, an answer or a place of a memory.
+fn place(word: &str) -> Option<u32> {
+    match word.parse().ok()? {
+        EVERY_WRITTEN => Some(EVERY),
+        place => Some(place),
     }
 }
 
-// What the first letter of a word adds to the row.
-fn word(c: u8) -> u64 {
-    match c {
-        b'p' => 128 * ACT,
-        b'g' => GOT,
-        b'k' => KEPT,
-        b'c' => CHANGED,
-        b'u' => UNCHANGED,
-        _ => c as u64 % 128 * ACT,
+// The value of fill's query.
+fn bracketed(word: &str) -> Option<u32> {
+    word.strip_prefix('(')?.strip_suffix(')')?.parse().ok()
+}
+
+// Behind a plus; 0 where the text ends before.
+fn steps(words: &mut Words<'_>) -> Option<u32> {
+    match words.next() {
+        Some(word) => word.strip_prefix('+')?.parse().ok(),
+        None => Some(0),
     }
 }
 
-// The row with the number in its place.
-fn placed(r: Reading) -> u64 {
-    let n = r.number;
-    let place = r.place;
-    match place {
-        0 => std::num::wrapping_add_u64(r.row, n),
-        1 => std::num::wrapping_add_u64(r.row, n % 65536 * AT),
-        4 => std::num::wrapping_add_u64(r.row, n % 16 * STEPS),
-        _ => std::num::wrapping_add_u64(r.row, n % 4096 * QUERY),
-    }
-}
-
-// One more sign that is no digit, behind a number that is in its place. The first letter of a word stands behind a space; what stands
-// before a colon is the part's name.
-fn sign(row: u64, place: u32, before: u8, c: u8) -> Reading {
-    let mut r = Reading {
-        row,
-        place,
-        number: 0,
-    };
-    match c {
-        b':' => {
-            r.row = 0;
-            r.place = 1;
+impl Memory {
+    fn named(word: &str) -> Option<Memory> {
+        match word {
+            "Table" => Some(Memory::Table),
+            "Nodes" => Some(Memory::Nodes),
+            "Answers" => Some(Memory::Answers),
+            "Desks" => Some(Memory::Desks),
+            "tray" => Some(Memory::Tray),
+            _ => None,
         }
-        b'(' => {
-            r.row = std::num::wrapping_add_u64(row, 4096 * QUERY);
-            r.place = 2;
-        }
-        b'+' => r.place = 4,
-        b'=' => r.place = 0,
-        b'A'..=b'Z' | b'a'..=b'z' => {
-            if before == b' ' {
-                r.row = std::num::wrapping_add_u64(row, word(c));
-            }
-        }
-        _ => {}
     }
-    r
 }
 
-// One more sign: a digit, the comma before a further column, or another.
-fn next(r: Reading, before: u8, c: u8) -> Reading {
-    let d = digit(c);
-    let n = r.number % WORDS;
-    if c == b',' {
-        return Reading {
-            row: std::num::wrapping_add_u64(r.row, 4096 * QUERY),
-            place: 3,
-            number: n * 16,
+impl Begin {
+    fn named(word: &str) -> Option<Begin> {
+        match word {
+            "read" => Some(Begin::Read),
+            "Count" => Some(Begin::Count),
+            "within" => Some(Begin::ReadWithin),
+            "Within" => Some(Begin::CountWithin),
+            "insert" => Some(Begin::Insert),
+            "delete" => Some(Begin::Delete),
+            _ => None,
+        }
+    }
+}
+
+impl Act {
+    fn read(text: &str) -> Option<Act> {
+        let mut words = text.split(' ');
+        let act = Act::of_words(&mut words)?;
+        match words.next() {
+            None => Some(act),
+            Some(_) => None,
+        }
+    }
+
+    fn of_words(words: &mut Words<'_>) -> Option<Act> {
+        let first = words.next()?;
+        if let Some(begin) = Begin::named(first) {
+            return Some(Act::Begin {
+                begin,
+                desk: place(words.next()?)?,
+                query: Terms::read(words.next()?)?,
+                steps: steps(words)?,
+            });
+        }
+        if let Some(memory) = Memory::named(first) {
+            return Some(Act::Look {
+                memory,
+                place: place(words.next()?)?,
+            });
+        }
+        Act::named(first, words)
+    }
+
+    fn named(first: &str, words: &mut Words<'_>) -> Option<Act> {
+        let act = match first {
+            "open" | "Open" => Act::Open {
+                columns: words.next()?.parse().ok()?,
+                short: first == "Open",
+            },
+            "step" | "Step" => Act::Step {
+                desk: place(words.next()?)?,
+                steps: steps(words)?,
+                short: first == "Step",
+            },
+            "fill" => Act::Fill {
+                below: bracketed(words.next()?)?,
+                steps: steps(words)?,
+            },
+            "abandon" => Act::Once(Call::Abandon {
+                client: place(words.next()?)?,
+            }),
+            "evict" => Act::Once(Call::EvictNode {
+                place: place(words.next()?)?,
+            }),
+            "Evict" => Act::Once(Call::EvictAnswer {
+                place: place(words.next()?)?,
+            }),
+            "new" => Act::Once(Call::Renew),
+            "label" => Act::Label {
+                node: words.next()?.parse().ok()?,
+            },
+            _ => return None,
         };
+        Some(act)
     }
-    if 15 < d {
-        return sign(placed(r), r.place, before, c);
-    }
-    let mut grown = r;
-    if r.place == 3 {
-        grown.number = n + d;
-    } else {
-        grown.number = n * 10 + d;
-    }
-    grown
-}
 
-// The row that stands from a place of a part on, up to its semicolon or the text's end.
-pub fn read(part: u32, from: usize) -> Line {
-    let mut r = Reading {
-        row: 0,
-        place: 1,
-        number: 0,
-    };
-    let mut before = b' ';
-    let mut i = from;
-    while i < 1200 {
-        let c = parts::at(part, i);
-        r = next(r, before, c);
-        before = c;
-        i += 1;
-        if c == b';' || c == 0 {
-            return Line {
-                row: r.row,
-                next: i,
-            };
+    // From what stands behind put, as Nodes 14, and behind the =.
+    fn put(text: &str, number: &str) -> Option<Act> {
+        let (memory, at) = text.split_once(' ')?;
+        Some(Act::Put {
+            memory: Memory::named(memory)?,
+            place: place(at)?,
+            number: number.parse().ok()?,
+        })
+    }
+
+    fn steps(&self) -> u32 {
+        match self {
+            Act::Begin { steps, .. } | Act::Step { steps, .. } | Act::Fill { steps, .. } => *steps,
+            _ => 0,
         }
     }
-    Line { row: 0, next: i }
 }
 
-// ---- What a row says
-pub fn act(row: u64) -> u8 {
-    (row / ACT % 128) as u8
-}
-
-pub fn sets(row: u64) -> bool {
-    128 <= row / ACT
-}
-
-// Whether it looks at a number of a memory, or sets one.
-pub fn is_number(row: u64) -> bool {
-    let act = act(row);
-    match act {
-        b'T' | b'N' | b'A' | b'D' | b't' => true,
-        _ => false,
+impl Row {
+    pub fn read(text: &str) -> Option<Row> {
+        let (done, came) = text.split_once(" = ")?;
+        let act = match done.strip_prefix("put ") {
+            Some(text) => Act::put(text, came)?,
+            None => Act::read(done)?,
+        };
+        let expected = match act {
+            Act::Put { .. } | Act::Look { .. } => Came::Number(came.parse().ok()?),
+            Act::Label { .. } => Came::Label(Some(Terms::read(came)?)),
+            _ => Came::Ended {
+                steps: act.steps(),
+                end: End::read(came)?,
+            },
+        };
+        Some(Row { act, expected })
     }
-}
-
-pub fn at(row: u64) -> u32 {
-    let n = (row / AT % 65536) as u32;
-    if n == EVERY_WRITTEN {
-        return EVERY;
-    }
-    n
-}
-
-pub fn query(row: u64) -> u32
-    ensures { result < 65536 }
-{
-    (row / QUERY % 65536) as u32
-}
-
-pub fn steps(row: u64) -> u32
-    ensures { result < 16 }
-{
-    (row / STEPS % 16) as u32
-}
-
-// What is expected: of a call the step, how it ended, number or count; of a label the label as a query; of a memory the number.
-pub fn wanted(row: u64) -> u64 {
-    if act(row) == b'l' {
-        return row / QUERY % 65536;
-    }
-    if is_number(row) {
-        return row % WORDS;
-    }
-    row % QUERY
-}
-
-// Of the call that makes this step, or of the begin: 0 before the last.
-pub fn wanted_at(row: u64, step: u32) -> u64 {
-    if step < steps(row) {
-        return step as u64 * STEPS;
-    }
-    wanted(row)
 }

@@ -41,20 +41,16 @@ module _ (k : ℕ) (a : List ℕ) where
     unfolding is_query
     asked_length = eqb-true (length a) (2 * k) (and_left _ _ q)
 
-    -- its columns are those that are taken of it
-    columns_back : take k (four (query_of a)) ≡ query_of a
-    columns_back = four_back k (query_of a) (is_query_length (shape_of k) a q)
-
     -- ---- The key that each keeps
-    pub key_of_read : (b : Bool) (g : Range) → wanted_key b g (key_words (take k (four (query_of a)))) ≡ key_of (work_of (shape_of k) (read_of b g a))
+    pub key_of_read : (b : Bool) (g : Range) → wanted_key b g (key_words (query_of a)) ≡ key_of (work_of (shape_of k) (read_of b g a))
     unfolding key_of work_of ask_of ask_key
-    key_of_read b g = rw columns_back
+    key_of_read b g = refl
 
-    pub key_of_delete : key_words (take k (four (query_of a))) ≡ key_of (work_of (shape_of k) (delete_of a))
+    pub key_of_delete : key_words (query_of a) ≡ key_of (work_of (shape_of k) (delete_of a))
     unfolding key_of work_of target
-    key_of_delete = rw columns_back
+    key_of_delete = refl
 
-    pub key_of_insert : k ≤ max_columns → names_all (query_of a) ≡ true → key_words (naming (take k (taken_of (query_of a)).values)) ≡ key_of (work_of (shape_of k) (insert_of a))
+    pub key_of_insert : k ≤ max_columns → names_all (query_of a) ≡ true → key_words (naming (take k (taken_of (query_of a)))) ≡ key_of (work_of (shape_of k) (insert_of a))
     unfolding key_of work_of target
     key_of_insert l n = taken_key (query_of a) k (taken_of (query_of a)) _ refl (is_query_length (shape_of k) a q) l n refl
 

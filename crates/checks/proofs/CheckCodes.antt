@@ -10,11 +10,12 @@ use Rattle.rules.specs.Client.{is_idle, is_bad}
 use Rattle.rules.specs.Work.{Request}
 use Rattle.rules.specs.Memory.{Mem, mem}
 use Rattle.rules.specs.Refusals.{shape, client, is_unsound, no_client, at_client}
-use Rattle.checks.specs.CheckContracts.{client_code, fresh_code, desk_code}
+use Rattle.clients.specs.ClientContracts.{client_code}
+use Rattle.checks.specs.CheckContracts.{fresh_code, desk_code}
 
 -- ---- What is found at a client
 pub client_there : (tb nd an cl : List ℕ) (d : ℕ) → is_unsound (mem tb nd an cl) ≡ false → d < max_clients → at_client (mem tb nd an cl) d ≡ client_code cl d
-unfolding at_client no_client client
+unfolding at_client no_client client client_code
 client_there tb nd an cl d a b = rw (a, lt-leb max_clients d b) refl
 
 -- it decides a begin, but for the last test

@@ -2,12 +2,12 @@
 -- crates/rules/specs has no name for it. Leans on rules and clients. Definitions only. Assumes nothing.
 use Rattle.std.specs.Prelude.{not, ◌&&◌, List, [], ℕ, eqb, leb, get_or}
 use Rattle.query.specs.Shape.{Shape}
-use Rattle.rules.specs.Layout.{answer_count_offset, node_count_offset, refused_short, refused_unsound, refused_no_client, refused_taken, refused_idle}
+use Rattle.rules.specs.Layout.{answer_count_offset, node_count_offset, refused_short, refused_unsound, refused_no_client, refused_taken}
 use Rattle.rules.specs.Layout.{refused_no_entry, refused_pending, refused_worn}
 use Rattle.rules.specs.Work.{Request, read_of, insert_of, delete_of, is_write, fault_of}
 use Rattle.rules.specs.Nodes.{is_worn, is_free}
 use Rattle.rules.specs.Client.{is_idle, is_bad}
-use Rattle.rules.specs.Memory.{current, Mem, shape_in, client_in, store_in}
+use Rattle.rules.specs.Memory.{current, Mem, store_in}
 use Rattle.rules.specs.Refusals.{shape, client, is_short, bad_columns, is_unsound, no_client, refuse, evict_answer_code, evict_node_code}
 use Rattle.checks.specs.declared.Request as begins
 use Rattle.checks.specs.declared.Request.TheVariants.{Read, Insert, Delete}
@@ -17,12 +17,6 @@ use Rattle.checks.specs.declared.Kept.TheVariants.{Answer, Node}
 -- 1 short or 3 unsound, by the four memories alone
 abbrev pub sound_code : Mem → ℕ
 sound_code m = refuse (is_short (shape m) m) refused_short (refuse (is_unsound m) refused_unsound 0)
-
--- ---- A client's desk
--- 3 unsound or 6 idle, by the client alone
-abbrev pub client_code : List ℕ → ℕ → ℕ
-client_code s d =
-    refuse (is_bad (shape_in s) (client_in current s d)) refused_unsound (refuse (is_idle (client_in current s d)) refused_idle 0)
 
 -- ---- Begins
 -- what begins, and the numbers that arrive

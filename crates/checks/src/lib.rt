@@ -3,19 +3,20 @@
 // of what begins. The rules stand in rules (Refusals), parts of them and what begins in specs/CheckContracts.antt.
 #![tactic(auto)]
 
-ghost use Rattle.std.specs.Prelude.{◌≡◌, Bool, false, true, List, ℕ, ◌≤◌, IfOk, length};
+ghost use Rattle.std.specs.Prelude.{◌≡◌, Bool, false, true, List, ℕ, ◌≤◌, IfOk, OnOk, length};
 ghost use Rattle.query.specs.Shape.{Shape, shape_of, max_columns};
 ghost use Rattle.query.specs.Encoding.{is_query};
 ghost use Rattle.rules.specs.Work.{ask_fault, read_of, insert_of, delete_of, ask_of, key_of, work_of, kind_of};
 ghost use Rattle.rules.specs.Refusals.{shape, is_short, bad_columns, is_unsound, at_client, begin_code, step_code, abandon_code, renew_code};
-ghost use Rattle.clients.specs.ClientContracts.{Fit, IsHeld};
+ghost use Rattle.clients.specs.ClientContracts.{IsHeld};
 ghost use Rattle.nodes.specs.NodeContracts;
 ghost use Rattle.hall.specs.Kind.{kind_number};
 ghost use Rattle.hall.specs.Memories.{lent};
 ghost use Rattle.hall.specs.Refusal.{code_of};
-ghost use Rattle.checks.specs.CheckContracts.{sound_code, client_code, request_of, columns_code, asked_code, fresh_code, desk_code, answer_code, node_code, evict_code};
+ghost use Rattle.checks.specs.CheckContracts.{sound_code, request_of, columns_code, asked_code, fresh_code, desk_code, answer_code, node_code, evict_code};
 
 use clients::Held;
+use columns::queries::Query;
 use hall::{Hall, Kind, Memories, Refusal};
 use query::Range;
 
@@ -55,22 +56,6 @@ fn sound_check(memories: Memories<'_>) -> Result<(), Refusal>
 }
 
 // ---- A client's desk
-// What a client of which h was read is found to be: 3 unsound, 6 idle, or busy.
-#[tactic(auto, using(clients::proofs::ClientSound::none_idle, clients::proofs::ClientSound::kind_busy))]
-fn client_check(clients: &[u32], d: usize, h: Held) -> Result<(), Refusal>
-    requires { Fit clients.now d × (IsHeld h clients.now d × (h.columns ≤ max_columns)) }
-    ensures { code_of result ≡ client_code clients.now d }
-{
-    if clients::is_bad(clients, d, h) {
-        return Err(Refusal::Unsound);
-    }
-    // A client that is not bad is idle exactly if its kind is 0: its other numbers need not be read again.
-    if h.kind == 0 {
-        return Err(Refusal::Idle);
-    }
-    Ok(())
-}
-
 // What a call finds at client d of long memories: 3 unsound, 4 no such client, 6 idle, or a busy one. The client is read here, once.
 #[tactic(auto, using(crate::proofs::CheckCodes::client_there), unfolding(rules::specs::Refusals::at_client, rules::specs::Refusals::no_client))]
 fn at_client(memories: Memories<'_>, d: u32) -> Result<Held, Refusal>
@@ -84,9 +69,7 @@ fn at_client(memories: Memories<'_>, d: u32) -> Result<Held, Refusal>
     if Hall::CLIENTS <= d {
         return Err(Refusal::NoClient);
     }
-    let held = clients::read(memories.clients, d as usize);
-    client_check(memories.clients, d as usize, held)?;
-    Ok(held)
+    clients::read(memories.clients, d as usize)
 }
 
 // ---- What begins
@@ -113,16 +96,16 @@ impl Request {
 }
 
 // ---- Its key
-// The hall's number of columns, which the key goes by. That it is out of range is the first of what makes memories unsound.
+// 3 where the hall's number of columns, which the key goes by, is out of range: the first of what makes memories unsound.
 #[tactic(auto, unfolding(rules::specs::Refusals::bad_columns))]
-fn columns_in(k: u32) -> Result<usize, Refusal>
+fn columns_check(k: u32) -> Result<(), Refusal>
     ensures code { code_of result ≡ columns_code (shape_of k) }
-    ensures ok { IfOk result (λ n. (n ≡ k) × (n ≤ max_columns)) }
+    ensures ok { OnOk result (k ≤ max_columns) }
 {
     if bad_columns(k) {
         return Err(Refusal::Unsound);
     }
-    Ok(k as usize)
+    Ok(())
 }
 
 // The ranges that a begin takes beside a query of k columns: the column is not past the last, nor named too, and the ends are not reversed.
@@ -161,9 +144,8 @@ fn read_key(
     ensures ok { IfOk result (λ key. key ≡ key_of (work_of (shape_of k) (read_of counts range asked.now))) }
 {
     range_check(k, asked, range)?;
-    let k = columns_in(k)?;
-    let cols = columns::columns_of(asked);
-    Ok(columns::keys::ask_key(cols, k, counts, range))
+    columns_check(k)?;
+    Ok(Query::of_asked(asked).ask_key(counts, range))
 }
 
 // An insert's key: its columns' values are taken, or it is refused for a wildcard.
@@ -173,12 +155,9 @@ fn insert_key(k: u32, asked: &[u32]) -> Result<[u32; Hall::KEY_WIDTH], Refusal>
     ensures code { code_of result ≡ asked_code (shape_of k) (insert_of asked.now) }
     ensures ok { IfOk result (λ key. key ≡ key_of (work_of (shape_of k) (insert_of asked.now))) }
 {
-    let taken = columns::take_record(asked);
-    if taken.code != 0 {
-        return Err(Refusal::Columns);
-    }
-    let k = columns_in(k)?;
-    Ok(columns::keys::record_key(k, taken.values))
+    let values = columns::take_record(asked)?;
+    columns_check(k)?;
+    Ok(columns::keys::record_key(k as usize, values))
 }
 
 // A delete's key.
@@ -188,9 +167,8 @@ fn delete_key(k: u32, asked: &[u32]) -> Result<[u32; Hall::KEY_WIDTH], Refusal>
     ensures code { code_of result ≡ asked_code (shape_of k) (delete_of asked.now) }
     ensures ok { IfOk result (λ key. key ≡ key_of (work_of (shape_of k) (delete_of asked.now))) }
 {
-    let k = columns_in(k)?;
-    let cols = columns::columns_of(asked);
-    Ok(columns::keys::key_words(cols, k))
+    columns_check(k)?;
+    Ok(Query::of_asked(asked).key())
 }
 
 // The key of what arrives. It is turned down for itself where it is no query of k columns, a read for its range, an insert for a wildcard; then

@@ -1,5 +1,5 @@
 -- Laws of what is read of one client: idleness, entry, range, key. Leans on rules and on the laws of ClientMemory. Assumes nothing.
-use Rattle.std.proofs.Common.{◌≡◌, refl, sym, ap, ◌∙◌, Bool, true, false, List, [], ◌∷◌, ℕ, ◌+◌, ◌-◌, ◌/◌, ◌%◌, ◌≤◌, ◌<◌, eqb, length, get_or, take, drop, set, replicate, length-drop, length-set, length-take-le, get_or-take, arith}
+use Rattle.std.proofs.Common.{◌≡◌, refl, sym, ap, ◌∙◌, Bool, true, false, List, [], ◌∷◌, ℕ, ◌+◌, ◌-◌, ◌/◌, ◌%◌, ◌≤◌, ◌<◌, eqb, length, get_or, take, drop, set, replicate, length-drop, length-take-le, get_or-take, arith}
 use Rattle.laws.proofs.ListLaws.{below_next, below_not}
 use lib.Seq.{take_all, take-take, take-set-le}
 use Rattle.lists.specs.Lists.{same, padded, all_below}
@@ -77,7 +77,7 @@ bare_rest (n ∷ a ∷ b ∷ c ∷ d ∷ []) e = absurd (omega arith)
 bare_rest (n ∷ a ∷ b ∷ c ∷ d ∷ l ∷ []) e = absurd (omega arith)
 bare_rest (n ∷ a ∷ b ∷ c ∷ d ∷ l ∷ h ∷ x ∷ r) e = absurd (omega arith)
 
--- its first four values are the key's, and it is as long
+-- its first four values are the key's
 values_unranged : (g : Range) (l : List ℕ) → take max_columns (drop 1 (unranged g l)) ≡ take max_columns (drop 1 l)
 unfolding unranged
 values_unranged None l = refl
@@ -88,14 +88,6 @@ pub bare_values : (key : List ℕ) → take max_columns (drop 1 (bare_key key)) 
 unfolding bare_key
 bare_values [] = values_unranged (range_in []) []
 bare_values (x ∷ key) = values_unranged (range_in (x ∷ key)) ((x % count_bit) ∷ key)
-
-pub length_bare : (key : List ℕ) → length (bare_key key) ≡ length key
-unfolding bare_key unranged
-length_bare key = go (range_in key) (set key 0 (get_or key 0 0 % count_bit)) ∙ length-set key 0 (get_or key 0 0 % count_bit)
-  where
-    go : (g : Range) (l : List ℕ) → length (unranged g l) ≡ length l
-    go None l = refl
-    go (Between i x y) l = length-set (set l lowest_offset 0) highest_offset 0 ∙ length-set l lowest_offset 0
 
 bare_same : (key : List ℕ) → length key ≡ key_width → get_or key 0 0 % count_bit ≡ get_or (bare_key key) 0 0
 bare_same [] l = absurd (omega arith)

@@ -1,9 +1,10 @@
 // One client's numbers in the desks memory (docs/LAYOUT.md): read, changed, and checked for senseless contents.
 // The rules stand in rules, what a function takes for granted in specs/ClientContracts.antt.
-// A memory and a client's number are no struct: it would be made anew at each call, `Desk::new(m.clients, d).range()` for `range(m.clients, d)`.
+// A memory and a client's number are two parameters: a struct of both would be made anew at each call, as `Desk::new(m.clients, d).range()` for
+// `range(m.clients, d)`, since a caller alters the memory in between.
 #![tactic(auto)]
 
-ghost use Rattle.std.specs.Prelude.{◌≡◌, ◌≢◌, ◌≤◌, ◌<◌, ◌+◌, not, ℕ, length, get_or, set, is_some, if◌then◌else◌, IfOk, IfSome};
+ghost use Rattle.std.specs.Prelude.{◌≡◌, ◌≢◌, ◌≤◌, ◌<◌, ◌+◌, not, length, set, is_some, if◌then◌else◌, IfOk, IfSome};
 ghost use Rattle.lists.specs.Lists.{all_below};
 ghost use Rattle.query.specs.Encoding.{key_width, range_in};
 ghost use Rattle.query.specs.Shape.{Shape, shape_of, max_columns};

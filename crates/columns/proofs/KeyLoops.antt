@@ -14,10 +14,10 @@ use Rattle.query.specs.declared.Range.{Range}
 use Rattle.query.specs.declared.Range.TheVariants.{None, Between}
 use Rattle.query.specs.Query.{Query}
 use Rattle.query.specs.Encoding.{column_of, column_value, marks, columns_in, query_in, key_words, is_key, count_bit, count_key, range_unit, range_in, range_key, wanted_key, unranged, bare_key}
-use Rattle.query.specs.Range.{is_ranged, is_named, is_range, is_reversed}
+use Rattle.query.specs.Range.{is_named, is_range, is_reversed}
 use Rattle.query.specs.Shape.{Shape, shape_of}
 use Rattle.query.proofs.EncodingLaws.{columns_length}
-use Rattle.columns.specs.KeyContracts.{mark_of, keeps, zero_under, query_width}
+use Rattle.columns.specs.KeyContracts.{mark_of, keeps, zero_under}
 use Rattle.columns.proofs.FillLoop.{Filled, next_rest, fill_none, fill_more, fill_at, fill_end, fill_front}
 
 -- ---- Marks
@@ -222,9 +222,3 @@ module _ (counts : Bool) (g : Range) (key now : List ℕ) where
 pub range_tests : (sh : Shape) (q : Query) (c l h : ℕ) → not (is_range sh q (Between c l h)) || is_reversed (Between c l h) ≡ (leb sh.columns c || (is_named (get_or q c Wildcard) || ltb h l))
 unfolding is_range is_reversed
 range_tests sh q c l h = grind (arith, nat_tests)
-
--- the numbers of a key that are its query's
-pub query_few : (g : Range) (n : ℕ) → n ≡ query_width g → n ≤ 6
-unfolding query_width is_ranged
-query_few None n e = omega arith
-query_few (Between i l h) n e = omega arith

@@ -2,7 +2,7 @@
 -- made of all columns at once by bits. Leans on KeyLoops and MarkLaws. Assumes nothing.
 use Rattle.std.proofs.Common.{◌≡◌, ℕ, zero, suc, ◌+◌, ◌-◌, ◌*◌, ◌/◌, ◌%◌, ◌^◌, ◌<◌, ◌≤◌, min, List, [], ◌∷◌, ◌++◌, map, length, get_or, drop, replicate, sym, refl, ap, ◌∙◌, mod-lt, arith, pow_pos, lt-ltb}
 use native.Mathlib.Nat.{sub-zero, pow-succ', min-le_left}
-use lib.Bits.{bit_and, and_step, and_mask, mask_lt, and_le_l}
+use lib.Bits.{bit_and, and_step, and_mask, and_le_l}
 use lib.ListN.{length-map}
 use Rattle.lists.specs.Lists.{padded}
 use Rattle.query.specs.declared.Column.{Column}
@@ -225,10 +225,6 @@ tag_sum q to b u d n g w ed en eg ew e hb = rw (ed, en, eg, ew, e) (tags_all to 
 pub added_most : (to : Turned) (x : ℕ) → added to * x ≤ x
 added_most turned.Wildcard x = omega arith
 added_most turned.Any x = omega arith
-
--- what is cut to k bits
-pub cut_below : (k m u : ℕ) → u ≡ 2 ^ k - 1 → bit_and m u < 2 ^ k
-cut_below k m u e = rw e (mask_lt m k)
 
 node_length : (t : Term) (q : Query) (n : ℕ) → length (changed_node t q n) ≡ length q
 unfolding changed_node

@@ -1,12 +1,12 @@
 // Queries as numbers in memory (docs/LAYOUT.md): marks, values, keys, what a read wants, and its range.
-ghost use Rattle.std.specs.Prelude.{◌≡◌, ℕ, ◌-◌, ◌/◌, ◌%◌, ◌^◌, ◌<◌, ◌≤◌, not, ◌||◌, List, ◌∷◌, map, length, take, slice_index, slice_index_or};
+ghost use Rattle.std.specs.Prelude.{◌≡◌, ℕ, ◌-◌, ◌/◌, ◌%◌, ◌^◌, ◌<◌, ◌≤◌, List, ◌∷◌, map, length, take, slice_index, slice_index_or};
 ghost use Rattle.lists.specs.Lists.{padded};
 ghost use Rattle.query.specs.Query.{naming, read_count};
 ghost use Rattle.query.specs.Encoding.{key_width};
 ghost use Rattle.query.specs.Shape.{shape_of, max_columns};
 ghost use Rattle.query.specs.declared.Column.TheVariants.{Wildcard};
-ghost use Rattle.query.specs.Encoding.{column_of, columns_in, column_value, key_words, names_all, is_key, range_unit, range_of, bare_key};
-ghost use Rattle.query.specs.Range.{is_ranged, is_named, is_range, is_reversed};
+ghost use Rattle.query.specs.Encoding.{column_of, columns_in, column_value, key_words, is_key, range_unit, range_of, bare_key};
+ghost use Rattle.query.specs.Range.{is_ranged, is_named};
 ghost use Rattle.columns.specs.KeyContracts.{keeps, zero_under, query_width};
 
 use hall::Hall;

@@ -26,7 +26,7 @@ use Rattle.nodes.specs.NodeContracts.{Fit, Tried, attempt, telling, tried, seen,
 use Rattle.nodes.specs.NodeContracts.{retirable_place, node_at, released_at, lifted_at, retired_at}
 use Rattle.rules.proofs.NodeLaws.{pending_length}
 use Rattle.rules.proofs.NodeSizes.{Sized, sized_node, added_more, sized_added}
-use Rattle.nodes.proofs.NodePlaces.{found, not_found}
+use Rattle.laws.proofs.WalkLaws.{found, not_found}
 use Rattle.nodes.proofs.NodeStores.{Keeps, count_nodes, sized_in, count_store, keeps_store, store_back, store_self, store_twice, store_pending, store_revision}
 use Rattle.nodes.proofs.NodeScans.{pending_at, revision_at}
 use Rattle.nodes.proofs.NodeSpots.{length_word, length_lifted_at, length_retired_at, sized_lifted_at, sized_retired_at}

@@ -1,40 +1,29 @@
 -- Laws of the scans over the nodes: the nodes as the library cuts them out of the memory, a label compared with the five numbers of a node, the
 -- tests of a node, and the first that passes one. Leans on the rules' definitions and on the laws of lists and searches. Assumes nothing.
-use Rattle.std.proofs.Common.{◌≡◌, refl, sym, ap, ◌∙◌, true, false, not, List, [], ◌∷◌, ℕ, zero, suc, ◌+◌, ◌*◌, ◌-◌, ◌/◌, ◌≤◌, ◌<◌, arith, length, get_or, take, drop, length-drop}
+use Rattle.std.proofs.Common.{◌≡◌, sym, ap, ◌∙◌, true, false, not, List, [], ℕ, ◌+◌, ◌*◌, ◌-◌, ◌/◌, ◌≤◌, ◌<◌, arith, length, get_or, take, drop, fold, max, ◌||◌}
 use lib.Bits.{bit_or, bit_xor, xor_self, xor_add_and, or_add_and, and_le_l, and_le_r}
 use lib.Dec.{eqb, ltb}
 use lib.Seq.{get_or-take, length-take-le}
 use borrow.Author.Tests.{lt-ltb, le-ltb, eqb-true, eqb-false}
-use Rattle.std.specs.List.{list_any}
 use Rattle.std.specs.Simd.{first_chunks}
-use Rattle.lists.specs.Lists.{header, same, rows, entries_in}
+use Rattle.lists.specs.Lists.{header, same}
 use Rattle.laws.proofs.ListLaws.{eq_same, ne_same}
-use Rattle.laws.proofs.RowLaws.{rows_front}
 use Rattle.laws.proofs.TestLaws.{by_test}
+use Rattle.laws.proofs.WalkLaws.{entries_cut, any_place}
 use Rattle.rules.specs.Nodes.{Words, Node, pending, revision, label_in, has_label, is_free, is_high, is_worn}
 use Rattle.query.specs.Encoding.{label_width}
 use Rattle.query.specs.Shape.{Shape}
 use Rattle.rules.specs.Layout.{worn_above, floor_offset, node_count_offset, pending_offset, revision_offset, node_width}
 use Rattle.rules.specs.Memory.{current, store_in}
 use Rattle.nodes.specs.NodeContracts.{Fit}
-use Rattle.nodes.proofs.NodePlaces.{any_place}
+use Rattle.nodes.proofs.NodePlaces.{above_largest}
 use Rattle.nodes.proofs.NodeStores.{five, floor_in, node_word}
 
 -- ---- the nodes, as the library cuts them out of the memory
-chunks_rows : (w n : ℕ) (s : List ℕ) → first_chunks w n s ≡ rows w n s
-unfolding rows
-chunks_rows w zero s = refl
-chunks_rows w (suc n) s = ap (λ (t : List (List ℕ)). take w s ∷ t) (chunks_rows w n (drop w s))
-
 pub nodes_cut : (s : List ℕ) (e : ℕ) → Fit s → e ≡ header + get_or s node_count_offset 0 * node_width
     → first_chunks node_width (length (take (e - header) (drop header s)) / node_width) (take (e - header) (drop header s)) ≡ (store_in current s).nodes
-unfolding store_in entries_in
-nodes_cut s e f h =
-    let n : ℕ = get_or s node_count_offset 0 in
-    let m : e - header ≡ n * node_width = omega arith in
-    let l : length (take (n * node_width) (drop header s)) ≡ n * node_width = length-take-le (n * node_width) (drop header s) (rw length-drop (omega arith)) in
-    let d : n * node_width / node_width ≡ n = omega arith in
-    rw (m, l, d, chunks_rows) (rows_front node_width n (drop header s) (rw length-drop (omega arith)))
+unfolding store_in
+nodes_cut s e f h = entries_cut node_count_offset node_width s e (omega arith) h (omega arith)
 
 -- ---- numbers compared bit by bit: 0 where they agree
 xor_same : (a b : ℕ) → bit_xor a b ≡ 0 → a ≡ b
@@ -106,12 +95,9 @@ module _ (s : List ℕ) (i at : ℕ) (h : i < get_or s node_count_offset 0) (e :
   revision_at = rw e (node_word s i 6 h (omega arith))
 
 -- ---- whether the floor or a revision is too high
-module _ (sh : Shape) (s : List ℕ) where
-  pub worn_floor : worn_above current sh < get_or s floor_offset 0 → true ≡ is_worn current sh (store_in current s)
-  unfolding is_worn store_in
-  worn_floor h = rw (lt-ltb (worn_above current sh) (get_or s floor_offset 0) h)
-
-  pub worn_nodes : get_or s floor_offset 0 ≤ worn_above current sh
-      → list_any (λ n. ltb (worn_above current sh) (get_or n revision_offset 0)) (store_in current s).nodes ≡ is_worn current sh (store_in current s)
-  unfolding is_worn is_high revision
-  worn_nodes h = rw (floor_in s, le-ltb (worn_above current sh) (get_or s floor_offset 0) h) (any_place (is_high current sh) (store_in current s).nodes)
+pub worn_highest : (sh : Shape) (s : List ℕ) (h : ℕ) → h ≡ fold (λ x n. max x (get_or n revision_offset 0)) (get_or s floor_offset 0) (store_in current s).nodes
+    → ltb (worn_above current sh) h ≡ is_worn current sh (store_in current s)
+unfolding is_worn is_high revision
+worn_highest sh s h e =
+    rw (e, floor_in s) (above_largest revision (worn_above current sh) (get_or s floor_offset 0) (store_in current s).nodes
+    ∙ ap (λ b. ltb (worn_above current sh) (get_or s floor_offset 0) || b) (any_place (is_high current sh) (store_in current s).nodes))

@@ -11,7 +11,7 @@ use Rattle.std.proofs.lemmas.List.{set-append_right}
 use Rattle.lists.specs.Lists.{written, flat, with_entries}
 use Rattle.laws.specs.Splice.{removed}
 use Rattle.laws.proofs.WrittenLaws.{set_before, get_or_before, mid_written}
-use Rattle.laws.proofs.EntryLaws.{entry_at, entry_word, with_append, with_remove, with_word, with_self, with_none, with_with, length_with}
+use Rattle.laws.proofs.EntryLaws.{entry_word, with_append, with_remove, with_word, with_self, with_none, with_with, length_with}
 use Rattle.rules.specs.Nodes.{Words, Node, Store, store, revision, with_pending, with_revision, evict_node, new_node, added}
 use Rattle.rules.specs.Memory.{current, store_in, with_store}
 use Rattle.rules.proofs.NodeLaws.{new_wide}

@@ -1,4 +1,5 @@
--- What the functions over the nodes memory require of it and leave in it. Leans on the rules' Nodes and Memory. Definitions only. Assumes nothing.
+-- What the functions over the nodes memory require of it and leave in it. Leans on the rules' Nodes and Memory
+-- and on the refusals. Definitions only. Assumes nothing.
 use Rattle.std.specs.Prelude.{Bool, cond, List, [], ℕ, ◌+◌, ◌-◌, ◌≤◌, length, get_or, set, Result, Ok, Err}
 use Rattle.std.proofs.Math.Option.{Option, none, some}
 use Rattle.rules.specs.Nodes.{Words, Node, Store, store, pending, revision, with_pending, with_revision, node_place, node_of, may_retire}
@@ -26,7 +27,7 @@ unfoldable pub telling : {A : Type 0} → (Store → A) → List ℕ → Option 
 telling f s none = attempt (Err Unsound) s
 telling f s (some t) = attempt (Ok (f t)) (with_store current s t)
 
--- nothing; what was seen of the label's node; where that stands
+-- what it tells: nothing, what a look saw of the label's node, or where that node stands
 abbrev pub tried : List ℕ → Option Store → Tried (Unit {0})
 tried s o = telling (λ t. tt) s o
 

@@ -1,5 +1,7 @@
 // Functions over the nodes memory: the floor at 0, the count at 1, nodes of 8 numbers from place 8 on (docs/LAYOUT.md). Each finds a node by
 // one scan. What they leave stands in the rules' Nodes.antt, read and written back by the rules' Memory.antt.
+// They take slices: over a struct that keeps `Fit`, each that writes would have to say that its reference is the same one and to show `Fit` again,
+// and those that only read would need a second struct.
 #![tactic(auto)]
 
 ghost use Rattle.std.specs.Prelude.{◌≡◌, true, [], ◌+◌, ◌*◌, ◌≤◌, ◌<◌, length, get_or, position, IfOk};
@@ -198,17 +200,16 @@ pub fn retire(nodes: &mut [u32], i: usize, lift: bool)
     }
 }
 
-// Whether the floor or a revision is too high for another write.
+// Whether the floor or a revision is too high for another write. Nearly always none is, so all are looked at, with no branch.
 pub fn is_worn(nodes: &[u32]) -> bool
     requires { Fit nodes.now }
     ensures { (sh : Shape) → result ≡ is_worn current sh (store_in current nodes.now) }
 {
-    if Hall::WORN_ABOVE < nodes[Hall::FLOOR_OFFSET] {
-        return true;
-    }
-    nodes_in(nodes)
+    let floor = nodes[Hall::FLOOR_OFFSET];
+    let highest = nodes_in(nodes)
         .iter()
-        .any(|node| Hall::WORN_ABOVE < node[Hall::REVISION_OFFSET])
+        .fold(floor, |high, node| high.max(node[Hall::REVISION_OFFSET]));
+    Hall::WORN_ABOVE < highest
 }
 
 // Takes every node out; the floor is 1.

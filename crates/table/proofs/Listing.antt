@@ -1,6 +1,6 @@
 -- Laws of the passes that list: where the loop over a block stands, a turn of it, its two ends; and the same of the loop over blocks.
 -- Leans on the laws of Written and Rows and on Passing. Assumes nothing.
-use Rattle.std.proofs.Common.{◌≡◌, ℕ, suc, ◌+◌, ◌*◌, ◌-◌, ◌<◌, ◌≤◌, Bool, true, false, List, [], ◌∷◌, ◌++◌, Option, Some, None, length, take, drop, sym, refl, ap, ◌∙◌, append_assoc, append-nil, arith, length-append, length-take, take_all, take_at}
+use Rattle.std.proofs.Common.{◌≡◌, ℕ, suc, ◌+◌, ◌*◌, ◌-◌, ◌<◌, ◌≤◌, min, Bool, true, false, List, [], ◌∷◌, ◌++◌, Option, Some, None, length, take, drop, sym, refl, ap, ◌∙◌, append_assoc, append-nil, arith, length-append, length-drop, length-take, take_all, take_at}
 use Rattle.std.proofs.Math.Nat.{zero-mul, suc-mul, one-mul, add-mul, mul-le-mul_left, mul-le-mul_right}
 use lib.Seq.{take-append-le, take-append-add}
 use lib.Dec.{leb}
@@ -13,8 +13,9 @@ use Rattle.laws.proofs.RowLaws.{Wide, flat_snoc, flat_append, length_flat, wide_
 use Rattle.query.specs.Query.{Record}
 use Rattle.rules.specs.Layout.{max_list, list_room}
 use Rattle.rules.specs.Table.{Table}
-use Rattle.table.specs.TableContracts.{up_to}
+use Rattle.table.specs.TableContracts.{Stretch, records_of, up_to}
 use Rattle.table.proofs.TableLists.{up_to_few, up_to_many}
+use Rattle.table.proofs.Passing.{records_split, none_of, wide_records_of}
 
 -- numbers written one behind the other
 written_after : (s : List ℕ) (i : ℕ) (u v : List ℕ) (j : ℕ) → j ≡ i + length u → j ≤ length s → written (written s i u) j v ≡ written s i (u ++ v)
@@ -111,12 +112,6 @@ module _ (p : Record → Bool) (k : ℕ) (t : Table) (out₀ out : List ℕ) (j 
   abbrev more : Table
   more = keep p u
 
-  -- none of them passes the test
-  pub block_none : more ≡ [] → Listed p k (t ++ u) out₀ 0 out j
-  block_none e =
-      let q : keep p (t ++ u) ≡ keep p t = keep_append p t u ∙ rw e (append-nil (keep p t)) in
-      record { count = rw q a.count; few = a.few; behind = rw q a.behind; out_is = rw q a.out_is; same = a.same }
-
   module _ (out' : List ℕ) (room : length out₀ ≡ list_room) (small : k ≤ 4) (wide : Wide k u) (o : out' ≡ written out (j * k) (flat (take (max_list - j) more))) where
     abbrev listed : Table
     listed = take (max_list - j) more
@@ -158,25 +153,65 @@ module _ (p : Record → Bool) (k : ℕ) (t : Table) (out₀ out : List ℕ) (j 
         })
         (λ s. absurd (let z : ◌≡◌ {A = Option ℕ} (Some c) None = e ∙ up_to_many (j + length more) (leb-false (j + length more) max_list s) in let y : ◌≡◌ {A = ℕ} 0 1 = cc in omega arith))
 
-    -- they are the last, or too many already, with others behind them
-    pub block_last : (r : Option ℕ) → r ≡ up_to (j + length more) → (r ≡ up_to (length (keep p (t ++ u)))) × (out' ≡ written out₀ 0 (flat (take max_list (keep p (t ++ u)))))
-    block_last r e =
-        let q : keep p (t ++ u) ≡ keep p t ++ more = keep_append p t u in
-        let n : length (keep p (t ++ u)) ≡ j + length more = ap length q ∙ length-append (keep p t) more ∙ (let z = a.count in omega arith) in
-        let w : max_list ≡ length (keep p t) + (max_list - j) = omega (arith, a.count, a.few) in
-        let s : take max_list (keep p (t ++ u)) ≡ keep p t ++ listed =
-        ap (take max_list) q ∙ ap (λ (m : ℕ). take m (keep p t ++ more)) w ∙ take-append-add (keep p t) more (max_list - j) in
-        (e ∙ ap up_to (sym n), rw s (out_now ∙ rw zero-mul))
-
-    pub block_full : None ≡ up_to (j + length more) → (all v : Table) → all ≡ (t ++ u) ++ v → (None ≡ up_to (length (keep p all))) × (out' ≡ written out₀ 0 (flat (take max_list (keep p all))))
-    block_full e all v y =
+    -- they are too many, whatever comes behind them
+    pub block_full : None ≡ up_to (j + length more) → (all r : Table) → all ≡ keep p (t ++ u) ++ r → (None ≡ up_to (length all)) × (out' ≡ written out₀ 0 (flat (take max_list all)))
+    block_full e all r y =
         let b : max_list < j + length more =
         by_test (leb (j + length more) max_list)
         (λ s. absurd (let z : ◌≡◌ {A = Option ℕ} None (Some (j + length more)) = e ∙ up_to_few (j + length more) (leb-true (j + length more) max_list s) in let y : ◌≡◌ {A = ℕ} 0 1 = cc in omega arith))
         (λ s. leb-false (j + length more) max_list s) in
-        let last = block_last None e in
-        let q : keep p all ≡ keep p (t ++ u) ++ keep p v = ap (keep p) y ∙ keep_append p (t ++ u) v in
-        let m : length (keep p (t ++ u)) ≡ j + length more = ap length (keep_append p t u) ∙ length-append (keep p t) more ∙ (let z = a.count in omega arith) in
-        let n : length (keep p all) ≡ length (keep p (t ++ u)) + length (keep p v) = ap length q ∙ length-append (keep p (t ++ u)) (keep p v) in
-        let s : take max_list (keep p all) ≡ take max_list (keep p (t ++ u)) = ap (take max_list) q ∙ take-append-le max_list (keep p (t ++ u)) (keep p v) (omega arith) in
-        (sym (up_to_many (length (keep p all)) (omega arith)), rw s last.1)
+        let c = a.count in
+        let q : all ≡ keep p t ++ (more ++ r) = y ∙ ap (λ (v : Table). v ++ r) (keep_append p t u) ∙ append_assoc (keep p t) more r in
+        let n : length all ≡ length (keep p t) + (length more + length r) = ap length q ∙ length-append (keep p t) (more ++ r) ∙ ap (λ (m : ℕ). length (keep p t) + m) (length-append more r) in
+        let w : max_list ≡ length (keep p t) + (max_list - j) = omega (arith, a.few) in
+        let s : take max_list all ≡ keep p t ++ listed =
+        ap (take max_list) q ∙ ap (λ (m : ℕ). take m (keep p t ++ (more ++ r))) w ∙ take-append-add (keep p t) (more ++ r) (max_list - j)
+        ∙ ap (λ (v : Table). keep p t ++ v) (take-append-le (max_list - j) more r (omega arith)) in
+        (sym (up_to_many (length all) (omega arith)), rw s (out_now ∙ rw zero-mul))
+
+-- ---- where the loop over blocks stands: of s the numbers in `rest` are still to be searched, and t are the records before them that it has looked at
+pub record Searched (p : Record → Bool) (k : ℕ) (s out₀ out : List ℕ) (j : ℕ) (rest : List ℕ) : Type 0 where
+  pub t : Table
+  pub whole : keep p (records_of k s) ≡ keep p t ++ keep p (records_of k rest)
+  pub listed : Listed p k t out₀ 0 out j
+  pub stretch : Stretch k rest
+
+pub searched_none : (p : Record → Bool) (k : ℕ) (s out : List ℕ) → Stretch k s → Searched p k s out out 0 s
+unfolding keep
+searched_none p k s out f = record { t = []; whole = refl; listed = listed_none p k out 0 (omega arith); stretch = f }
+
+module _ (p : Record → Bool) (k : ℕ) (s out₀ out : List ℕ) (j : ℕ) (rest : List ℕ) (a : Searched p k s out₀ out j rest) (room : length out₀ ≡ list_room) where
+  -- `found` is what is left behind blocks without such a record, and a block ends n numbers on
+  module _ (found : List ℕ) (e : keep p (records_of k found) ≡ keep p (records_of k rest)) (f : Stretch k found) (size n : ℕ) (m : n ≡ min (length found) (size * k))
+      (c : Option ℕ) (out' : List ℕ) (x : c ≡ up_to (j + length (keep p (records_of k (take n found)))))
+      (o : out' ≡ written out (j * k) (flat (take (max_list - j) (keep p (records_of k (take n found)))))) where
+    abbrev u : Table
+    u = records_of k (take n found)
+
+    abbrev v : Table
+    v = records_of k (drop n found)
+
+    whole_now : keep p (records_of k s) ≡ keep p (a.t ++ u) ++ keep p v
+    whole_now =
+        a.whole ∙ ap (λ (r : Table). keep p a.t ++ r) (sym e ∙ ap (keep p) (records_split k f.columns.0 size found n m) ∙ keep_append p u v)
+        ∙ sym (append_assoc (keep p a.t) (keep p u) (keep p v)) ∙ ap (λ (r : Table). r ++ keep p v) (sym (keep_append p a.t u))
+
+    pub searched_more : (i : ℕ) → c ≡ Some i → Searched p k s out₀ out' i (drop n found)
+    searched_more i y =
+        record {
+          t = a.t ++ u;
+          whole = whole_now;
+          listed = block_on p k a.t out₀ out j a.listed u out' room f.columns.1 (wide_records_of k (take n found)) o i (sym y ∙ x);
+          stretch = record { columns = f.columns; few = rw length-drop (let l = f.few in omega arith) };
+        }
+
+    pub searched_full : c ≡ None → (None ≡ up_to (length (keep p (records_of k s)))) × (out' ≡ written out₀ 0 (flat (take max_list (keep p (records_of k s)))))
+    searched_full y =
+        block_full p k a.t out₀ out j a.listed u out' room f.columns.1 (wide_records_of k (take n found)) o (sym y ∙ x) (keep p (records_of k s)) (keep p v) whole_now
+
+  pub searched_all : length rest ≡ 0 → (Some j ≡ up_to (length (keep p (records_of k s)))) × (out ≡ written out₀ 0 (flat (take max_list (keep p (records_of k s)))))
+  searched_all e =
+      let w : keep p (records_of k s) ≡ keep p a.t = a.whole ∙ rw (none_of k rest p e) (append-nil (keep p a.t)) in
+      let l = list_all p k a.t out₀ 0 out j a.listed in
+      let z : 0 + length (keep p a.t) ≡ length (keep p (records_of k s)) = rw w (omega arith) in
+      (l.0 ∙ ap up_to z, l.1 ∙ rw (w, zero-mul))

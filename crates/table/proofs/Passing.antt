@@ -1,10 +1,13 @@
 -- Laws of a pass over records that stand one after another: what is kept of the records passed, and of one more; and of a pass over blocks of
 -- records, what a block adds. Leans on the laws of lists and Rows. Assumes nothing.
-use Rattle.std.proofs.Common.{◌≡◌, ℕ, suc, ◌+◌, ◌-◌, ◌*◌, ◌/◌, ◌%◌, ◌<◌, ◌≤◌, Bool, true, false, cond, ◌||◌, List, [], ◌∷◌, ◌++◌, map, length, get_or, take, drop, Bor, sym, refl, ap, ◌∙◌, add-zero, add-one, append_assoc, arith, length-append, length-drop, length-take-le, take-append-drop, take_all, drop-cons}
+use Rattle.std.proofs.Common.{◌≡◌, ℕ, suc, ◌+◌, ◌-◌, ◌*◌, ◌/◌, ◌%◌, ◌<◌, ◌≤◌, min, Bool, true, false, cond, ◌||◌, List, [], ◌∷◌, ◌++◌, map, length, get_or, take, drop, Bor, sym, refl, ap, ◌∙◌, add-zero, add-one, append_assoc, append-nil, arith, length-append, length-drop, length-take-le, take-append-drop, take_all, drop-cons, drop_of_length-le}
 use Rattle.std.proofs.Math.Nat.{mul-div_cancel, mul-add-div_right, div-mul-le_self, zero-div, div-add-mod', mul-le-mul_left, zero-mul, one-mul, add-mul, mul_assoc}
 use Rattle.std.proofs.lemmas.List.{map-append, get_or_default}
 use mathlib.Core.Bool.{or-false, or_assoc}
+use lib.Dec.{leb}
 use lib.Seq.{take-add}
+use borrow.Author.Tests.{leb-true, leb-false}
+use Rattle.laws.proofs.TestLaws.{by_test}
 use mir.Val.{bool_byte}
 use Rattle.lists.specs.Lists.{rows, keep}
 use Rattle.laws.proofs.ListLaws.{keep_append, keep_snoc, skip_snoc, keep_le}
@@ -25,6 +28,24 @@ module _ (k : ℕ) (positive : 0 < k) where
       let n : length (a ++ b) / k ≡ m + length b / k = ap (λ (x : ℕ). x / k) (length-append a b ∙ ap (λ (x : ℕ). x + length b) e) ∙ mul-add-div_right positive m (length b) in
       let w : length a / k ≡ m = ap (λ (x : ℕ). x / k) e ∙ mul-div_cancel m positive in
       rw (n, w) (rows_append k m (length b / k) a b e)
+
+-- no number, no record
+pub none_of : (k : ℕ) (s : List ℕ) (p : Record → Bool) → length s ≡ 0 → keep p (records_of k s) ≡ []
+unfolding records_of rows keep
+none_of k s p e = rw (e, zero-div k)
+
+-- two parts, of which the first is a block or all
+pub records_split : (k : ℕ) → 0 < k → (size : ℕ) (s : List ℕ) (n : ℕ) → n ≡ min (length s) (size * k) → records_of k s ≡ records_of k (take n s) ++ records_of k (drop n s)
+records_split k positive size s n m =
+    by_test (leb (length s) n)
+    (λ e. let h : length s ≤ n = leb-true (length s) n e in
+    rw (take_all n s h, drop_of_length-le s h, nothing k) (sym (append-nil (records_of k s))))
+    (λ e. let h : n < length s = leb-false (length s) n e in
+    let w : n ≡ size * k = omega arith in
+    ap (records_of k) (sym (take-append-drop n s)) ∙ records_append k positive size (take n s) (drop n s) (length-take-le n s (omega arith) ∙ w))
+  where
+    nothing : (k : ℕ) → records_of k [] ≡ []
+    nothing k = unfold records_of rows in rw (zero-div k)
 
 pub wide_records_of : (k : ℕ) (s : List ℕ) → Wide k (records_of k s)
 unfolding records_of
@@ -107,15 +128,6 @@ module _ (k : ℕ) (positive : 0 < k) (size : ℕ) (s : List ℕ) (n : ℕ) (x :
   pub block_more : records_of k (take ((n + 1) * (size * k)) s) ≡ records_of k (take (n * (size * k)) s) ++ records_of k x
   block_more = ap (records_of k) (chunk_next (size * k) s n x t) ∙ records_append k positive (n * size) (take (n * (size * k)) s) x front_long
 
-  -- and what comes behind it
-  pub block_rest : records_of k s ≡ (records_of k (take (n * (size * k)) s) ++ records_of k x) ++ records_of k (drop ((n + 1) * (size * k)) s)
-  block_rest =
-      let r : (n + 1) * (size * k) ≤ length s = (let y = chunk_room (size * k) s n x t in omega (arith, add-mul n 1 (size * k), one-mul (size * k))) in
-      let l : length (take ((n + 1) * (size * k)) s) ≡ (n + 1) * size * k = length-take-le ((n + 1) * (size * k)) s r ∙ sym (mul_assoc (n + 1) size k) in
-      ap (records_of k) (sym (take-append-drop ((n + 1) * (size * k)) s))
-      ∙ records_append k positive ((n + 1) * size) (take ((n + 1) * (size * k)) s) (drop ((n + 1) * (size * k)) s) l
-      ∙ ap (λ (u : Table). u ++ records_of k (drop ((n + 1) * (size * k)) s)) block_more
-
 -- before the first block there is none
 pub no_records : (k w : ℕ) (s : List ℕ) → records_of k (take (0 * w) s) ≡ []
 unfolding records_of rows
@@ -126,16 +138,6 @@ pub blocks_rest : (k : ℕ) → 0 < k → (size n : ℕ) (s : List ℕ) → n * 
 blocks_rest k positive size n s h =
     let l : length (take (n * (size * k)) s) ≡ n * size * k = length-take-le (n * (size * k)) s h ∙ sym (mul_assoc n size k) in
     ap (records_of k) (sym (take-append-drop (n * (size * k)) s)) ∙ records_append k positive (n * size) (take (n * (size * k)) s) (drop (n * (size * k)) s) l
-
--- what makes no whole block
-pub blocks_all : (k : ℕ) → 0 < k → (size n : ℕ) (s : List ℕ) → n ≡ length (rows (size * k) (length s / (size * k)) s)
-    → records_of k s ≡ records_of k (take (n * (size * k)) s) ++ records_of k (drop (length s - length s % (size * k)) s)
-blocks_all k positive size n s e =
-    let m : n ≡ length s / (size * k) = e ∙ length_rows (size * k) (length s / (size * k)) s in
-    let q : n * (size * k) ≡ length s / (size * k) * (size * k) = ap (λ (x : ℕ). x * (size * k)) m in
-    let d : length s / (size * k) * (size * k) + length s % (size * k) ≡ length s = div-add-mod' (length s) (size * k) in
-    let r : length s - length s % (size * k) ≡ n * (size * k) = omega arith in
-    rw r (blocks_rest k positive size n s (omega arith))
 
 -- the blocks that a pass has gone over, none of whose records passes the test
 pub record Passed (p : Record → Bool) (k w : ℕ) (s : List ℕ) (n at : ℕ) : Type 0 where

@@ -43,6 +43,7 @@ fn skip<'a, T: RecordTest, const K: usize, const BLOCK: usize>(
     requires block { Block BLOCK }
     ensures kept { keep (T.says test.now) (records_of K result.now) ≡ keep (T.says test.now) (records_of K recs.now) }
     ensures stretch { Stretch K result.now }
+    ensures short { length result.now ≤ length recs.now }
 {
     let mut at = 0;
     for block in recs.chunks_exact(BLOCK * K) {
@@ -108,13 +109,13 @@ pub fn list_in<T: RecordTest, const K: usize, const BLOCK: usize>(
     ensures value { result ≡ up_to (length (keep (T.says test.now) (records_of K recs.now))) }
     ensures out_after { out.new ≡ written out.old 0 (flat (take max_list (keep (T.says test.now) (records_of K recs.now)))) }
 {
-    let blocks = recs.chunks_exact(BLOCK * K);
-    let rest = blocks.remainder();
+    let mut rest = recs;
     let mut j = 0;
-    for block in blocks {
-        if some_in::<T, K>(block, test) {
-            j = list_block::<T, K>(block, test, out, j)?;
-        }
+    while !rest.is_empty() {
+        let found = skip::<T, K, BLOCK>(rest, test);
+        let (block, behind) = found.split_at(found.len().min(BLOCK * K));
+        j = list_block::<T, K>(block, test, out, j)?;
+        rest = behind;
     }
-    list_block::<T, K>(rest, test, out, j)
+    Some(j)
 }

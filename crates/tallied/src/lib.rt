@@ -3,20 +3,20 @@
 // says which count goes up. Leans on calls for the calls, on tally for the counts. The rules stand in rules (Tally).
 #![tactic(auto)]
 
-ghost use Rattle.std.specs.Prelude.{◌≡◌, [], ◌≤◌};
+ghost use Rattle.std.specs.Prelude.{◌≡◌, [], false};
 ghost use Rattle.rules.specs.declared.Outcome.TheVariants.{Refused};
-ghost use Rattle.rules.specs.Layout.{reads, deletes, refused_tally_full};
-ghost use Rattle.rules.specs.Memory.{mem};
+ghost use Rattle.rules.specs.Layout.{refused_tally_full};
 ghost use Rattle.rules.specs.History.{begin, step, abandon};
-ghost use Rattle.rules.specs.Tally.{tallied, tallied_result};
+ghost use Rattle.rules.specs.Tally.{count_of, is_full, raised, tallied, tallied_result};
+ghost use Rattle.hall.specs.Memories.{lent_mut, SamePlaces};
 ghost use Rattle.checks.specs.CheckContracts.{request_of};
 
 use calls::{begins, desks};
-use hall::Hall;
-use query::Range;
-use rules::{Outcome, Tally};
+use checks::Request;
+use hall::{MemoriesMut, Refusal};
+use rules::{Count, Outcome, Tally};
 
-mod would; // would.rt: which count a call would raise, and whether that stands at its largest
+mod would; // would.rt: which count a call would raise
 
 // What a call hands back: its outcome, and the tally.
 #[derive(Clone, Copy)]
@@ -30,84 +30,67 @@ fn full(t: Tally) -> Counted
     ensures { (result.out ≡ Refused refused_tally_full) × (result.tally ≡ t) }
 {
     Counted {
-        out: Outcome::Refused(Hall::REFUSED_TALLY_FULL),
+        out: Outcome::from(Refusal::TallyFull),
         tally: t,
     }
 }
 
-// A begin. Kinds: 1 read, 2 insert, 3 delete; of a read, whether it wants a count, and its range.
+// The call was made: one more at the count that its outcome raises, accepted where it ends nothing.
+fn made(t: Tally, accepted: Option<Count>, out: Outcome) -> Counted
+    requires { is_full t (count_of accepted out) ≡ false }
+    ensures { (result.out ≡ out) × (result.tally ≡ raised t (count_of accepted out)) }
+{
+    let count = tally::count_of(accepted, out);
+    Counted {
+        out,
+        tally: tally::raise(t, count),
+    }
+}
+
+// A begin.
 pub fn begin(
-    table: &mut [u32],
-    nodes: &mut [u32],
-    answers: &mut [u32],
-    clients: &mut [u32],
+    memories: &mut MemoriesMut<'_>,
     t: Tally,
-    kind: u32,
-    counts: bool,
-    range: Range,
+    request: Request,
     client: u32,
     asked: &[u32],
 ) -> Counted
-    requires { (reads ≤ kind) × (kind ≤ deletes) }
-    ensures { tallied result.out (mem table.new nodes.new answers.new clients.new) [] result.tally ≡ tallied_result (mem table.old nodes.old answers.old clients.old) t (begin client (request_of kind counts range asked.now)) }
+    ensures leaves { tallied result.out (lent_mut memories.new) [] result.tally ≡ tallied_result (lent_mut memories.old) t (begin client (request_of request asked.now)) }
+    ensures same { SamePlaces memories.old memories.new }
 {
-    if would::begin_full(
-        table, nodes, answers, clients, t, kind, counts, range, client, asked,
-    ) {
+    if tally::some_full(t)
+        && tally::is_full(
+            t,
+            would::begin_would(memories.view(), request, client, asked),
+        )
+    {
         return full(t);
     }
-    let out = begins::begin(
-        table, nodes, answers, clients, kind, counts, range, client, asked,
-    );
-    let count = tally::count_of(Some(would::begun_count(kind)), out);
-    Counted {
-        out: out,
-        tally: tally::raise(t, count),
-    }
+    let out = begins::begin(memories, request, client, asked);
+    made(t, Some(would::begun_count(request)), out)
 }
 
 // One step of what is under way at the client's desk.
-pub fn step(
-    table: &mut [u32],
-    nodes: &mut [u32],
-    answers: &mut [u32],
-    clients: &mut [u32],
-    tray: &mut [u32],
-    t: Tally,
-    client: u32,
-) -> Counted
-    ensures { tallied result.out (mem table.new nodes.new answers.new clients.new) tray.new result.tally ≡ tallied_result (mem table.old nodes.old answers.old clients.old) t (step client tray.old) }
+pub fn step(memories: &mut MemoriesMut<'_>, tray: &mut [u32], t: Tally, client: u32) -> Counted
+    ensures leaves { tallied result.out (lent_mut memories.new) tray.new result.tally ≡ tallied_result (lent_mut memories.old) t (step client tray.old) }
+    ensures same { SamePlaces memories.old memories.new }
 {
-    if would::step_full(table, nodes, answers, clients, tray, t, client) {
+    if tally::some_full(t) && tally::is_full(t, would::step_would(memories.view(), tray, client)) {
         return full(t);
     }
-    let out = desks::step(table, nodes, answers, clients, tray, client);
-    let count = tally::count_of(None, out);
-    Counted {
-        out: out,
-        tally: tally::raise(t, count),
-    }
+    let out = desks::step(memories, tray, client);
+    made(t, None, out)
 }
 
 // Abandons what is under way at the client's desk. Whether that is a read or a write is read before it is gone.
-pub fn abandon(
-    table: &mut [u32],
-    nodes: &mut [u32],
-    answers: &mut [u32],
-    clients: &mut [u32],
-    t: Tally,
-    client: u32,
-) -> Counted
-    ensures { tallied result.out (mem table.new nodes.new answers.new clients.new) [] result.tally ≡ tallied_result (mem table.old nodes.old answers.old clients.old) t (abandon client) }
+pub fn abandon(memories: &mut MemoriesMut<'_>, t: Tally, client: u32) -> Counted
+    ensures leaves { tallied result.out (lent_mut memories.new) [] result.tally ≡ tallied_result (lent_mut memories.old) t (abandon client) }
+    ensures same { SamePlaces memories.old memories.new }
 {
-    if would::abandon_full(table, nodes, answers, clients, t, client) {
+    if tally::some_full(t) && tally::is_full(t, would::abandon_would(memories.view(), client)) {
         return full(t);
     }
-    let left = would::abandoned_count(clients, client);
-    let out = desks::abandon(table, nodes, answers, clients, client);
-    let count = tally::count_of(left, out);
-    Counted {
-        out: out,
-        tally: tally::raise(t, count),
-    }
+    let left = would::abandoned_count(memories.view(), client);
+    let out = desks::abandon(memories, client);
+    made(t, left, out)
 }

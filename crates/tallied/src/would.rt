@@ -1,169 +1,82 @@
-// Which count each call would raise, with nothing altered, and whether that stands at its largest: where no count does it is not asked which. And
-// which an accepted call raises that ends nothing. Leans on checks for the refusals, on reading and writing for what a step would come to.
-ghost use Rattle.std.specs.Prelude.{◌≡◌, Bool, List, ℕ, ◌≤◌, ◌<◌, length};
-ghost use Rattle.query.specs.declared.Range.{Range};
-ghost use Rattle.rules.specs.Layout.{reads, deletes, max_clients, clients_least};
-ghost use Rattle.rules.specs.Client.{work_at};
-ghost use Rattle.rules.specs.Memory.{current, mem, shape_in, client_in};
+// Which count each call would raise, with nothing altered, and which an accepted call raises that ends nothing. Leans on checks for the refusals, on
+// reading and writing for what a step would come to.
+ghost use Rattle.std.specs.Prelude.{◌≡◌, List, ℕ};
 ghost use Rattle.rules.specs.History.{begin, step, abandon};
-ghost use Rattle.rules.specs.Tally.{would_raise, is_full, begun_count, abandoned_count};
+ghost use Rattle.rules.specs.Tally.{would_raise, begun_count};
+ghost use Rattle.hall.specs.Memories.{lent};
 ghost use Rattle.checks.specs.CheckContracts.{request_of};
+ghost use Rattle.tallied.specs.TalliedContracts.{LeavesCount};
 
-use hall::Hall;
-use query::Range;
-use rules::{Count, Tally};
+use checks::Request;
+use hall::{Hall, Memories};
+use rules::Count;
 
-// What an accepted begin raises. Kinds: 1 read, 2 insert, 3 delete.
-pub fn begun_count(kind: u32) -> Count
-    requires { (reads ≤ kind) × (kind ≤ deletes) }
-    ensures { (counts : Bool) (range : Range) (a : List ℕ) → result ≡ begun_count (request_of kind counts range a) }
+// What an accepted begin raises.
+#[tactic(auto, unfolding(rules::specs::Tally::begun_count, rules::specs::Work::is_write))]
+pub fn begun_count(request: Request) -> Count
+    ensures { (a : List ℕ) → result ≡ begun_count (request_of request a) }
 {
-    if kind == Hall::READS {
-        return Count::ReadBegun;
+    match request {
+        Request::Read { .. } => Count::ReadBegun,
+        Request::Insert | Request::Delete => Count::WriteBegun,
     }
-    Count::WriteBegun
 }
 
-fn begin_would(
-    table: &[u32],
-    nodes: &[u32],
-    answers: &[u32],
-    clients: &[u32],
-    kind: u32,
-    counts: bool,
-    range: Range,
+#[tactic(auto, using(crate::proofs::TalliedLaws::begin_none, crate::proofs::TalliedLaws::begin_some, checks::proofs::RefusalLaws::number_some))]
+pub fn begin_would(
+    memories: Memories<'_>,
+    request: Request,
     client: u32,
     asked: &[u32],
 ) -> Option<Count>
-    requires { (reads ≤ kind) × (kind ≤ deletes) }
-    ensures { result ≡ would_raise (mem table.now nodes.now answers.now clients.now) (begin client (request_of kind counts range asked.now)) }
+    ensures { result ≡ would_raise (lent memories.entry) (begin client (request_of request asked.now)) }
 {
-    let checked = checks::begin_check(
-        table, nodes, answers, clients, kind, counts, range, client, asked,
-    );
-    if checked.code != 0 {
-        return None;
-    }
-    Some(begun_count(kind))
+    checks::begin_check(memories, request, client, asked).ok()?;
+    Some(begun_count(request))
 }
 
-fn step_would(
-    table: &[u32],
-    nodes: &[u32],
-    answers: &[u32],
-    clients: &[u32],
-    tray: &[u32],
-    client: u32,
-) -> Option<Count>
-    ensures { result ≡ would_raise (mem table.now nodes.now answers.now clients.now) (step client tray.now) }
+#[tactic(auto, using(crate::proofs::TalliedLaws::step_none, checks::proofs::RefusalLaws::number_some))]
+pub fn step_would(memories: Memories<'_>, tray: &[u32], client: u32) -> Option<Count>
+    ensures { result ≡ would_raise (lent memories.entry) (step client tray.now) }
 {
-    let checked = checks::step_check(table, nodes, answers, clients, tray, client);
-    if checked.code != 0 {
+    let Ok(held) = checks::step_check(memories, tray, client) else {
         return None;
-    }
+    };
     let d = client as usize;
-    let held = checked.held;
     if held.kind == Hall::READS {
-        return reading::would::step_would(table, answers, clients, d, held);
+        return reading::would::step_would(
+            memories.table,
+            memories.answers,
+            memories.clients,
+            d,
+            held,
+        );
     }
-    writing::would::step_would(nodes, clients, d, held)
+    writing::would::step_would(memories.nodes, memories.clients, d, held)
 }
 
-fn abandon_would(
-    table: &[u32],
-    nodes: &[u32],
-    answers: &[u32],
-    clients: &[u32],
-    client: u32,
-) -> Option<Count>
-    ensures { result ≡ would_raise (mem table.now nodes.now answers.now clients.now) (abandon client) }
+#[tactic(auto, using(crate::proofs::TalliedLaws::abandon_none, checks::proofs::RefusalLaws::number_some))]
+pub fn abandon_would(memories: Memories<'_>, client: u32) -> Option<Count>
+    ensures { result ≡ would_raise (lent memories.entry) (abandon client) }
 {
-    let checked = checks::abandon_check(table, nodes, answers, clients, client);
-    if checked.code != 0 {
+    let Ok(held) = checks::abandon_check(memories, client) else {
         return None;
-    }
-    let d = client as usize;
-    let held = checked.held;
+    };
     if held.kind == Hall::READS {
         return Some(Count::ReadAbandoned);
     }
-    writing::would::abandon_would(nodes, clients, d, held)
+    writing::would::abandon_would(memories.nodes, memories.clients, client as usize, held)
 }
 
 // What an accepted abandoning raises that reports no end, by the kind at the desk. Any contents, any desk: one that is not there is no matter, its
 // abandoning is refused.
-pub fn abandoned_count(clients: &[u32], client: u32) -> Option<Count>
-    ensures { client < max_clients → clients_least current (shape_in clients.now) ≤ length clients.now → result ≡ Some (abandoned_count (work_at (shape_in clients.now) (client_in current clients.now client))) }
+pub fn abandoned_count(memories: Memories<'_>, client: u32) -> Option<Count>
+    ensures { LeavesCount result (lent memories.entry) client }
 {
-    if Hall::CLIENTS <= client {
-        return None;
-    }
-    if clients.len() < Hall::CLIENTS_LEAST {
-        return None;
-    }
     let at = Hall::HEADER + client as usize * Hall::CLIENT_WIDTH + Hall::KIND_OFFSET;
-    if clients[at] == Hall::READS {
+    let kind = *memories.clients.get(at)?;
+    if kind == Hall::READS {
         return Some(Count::ReadAbandoned);
     }
     Some(Count::WriteAbandoned)
-}
-
-// ---- Whether that count stands at its largest: 15, where nothing else turns the call down.
-pub fn begin_full(
-    table: &[u32],
-    nodes: &[u32],
-    answers: &[u32],
-    clients: &[u32],
-    t: Tally,
-    kind: u32,
-    counts: bool,
-    range: Range,
-    client: u32,
-    asked: &[u32],
-) -> bool
-    requires { (reads ≤ kind) × (kind ≤ deletes) }
-    ensures { result ≡ is_full t (would_raise (mem table.now nodes.now answers.now clients.now) (begin client (request_of kind counts range asked.now))) }
-{
-    if !tally::some_full(t) {
-        return false;
-    }
-    let count = begin_would(
-        table, nodes, answers, clients, kind, counts, range, client, asked,
-    );
-    tally::is_full(t, count)
-}
-
-pub fn step_full(
-    table: &[u32],
-    nodes: &[u32],
-    answers: &[u32],
-    clients: &[u32],
-    tray: &[u32],
-    t: Tally,
-    client: u32,
-) -> bool
-    ensures { result ≡ is_full t (would_raise (mem table.now nodes.now answers.now clients.now) (step client tray.now)) }
-{
-    if !tally::some_full(t) {
-        return false;
-    }
-    let count = step_would(table, nodes, answers, clients, tray, client);
-    tally::is_full(t, count)
-}
-
-pub fn abandon_full(
-    table: &[u32],
-    nodes: &[u32],
-    answers: &[u32],
-    clients: &[u32],
-    t: Tally,
-    client: u32,
-) -> bool
-    ensures { result ≡ is_full t (would_raise (mem table.now nodes.now answers.now clients.now) (abandon client)) }
-{
-    if !tally::some_full(t) {
-        return false;
-    }
-    let count = abandon_would(table, nodes, answers, clients, client);
-    tally::is_full(t, count)
 }

@@ -10,4 +10,4 @@ returns c =
     all_from_yields_List (λ p. leb p.1 p.0) c.all.new.self _ c.all.result c.all.ensures.ran
     (YieldsList-from_zip (YieldsList-from_slice (noted c.args.n c.args.e.now) (search rules)) (YieldsList-from_slice (noted c.args.n c.args.x.now) (search rules)))
     (λ x b q k. search (rules, tests))
-    ∙ recent_is _ _ _ c.requires.0 c.requires.1.0 c.requires.1.1
+    ∙ recent_is _ _ _ (search rules) c.requires.0 c.requires.1

@@ -6,10 +6,10 @@ use Rattle.hall.specs.Memories.{lent}
 use Rattle.checks.proofs.SoundMemories.{client_fit}
 use Rattle.checks.proofs.at_client.Goals as goal
 
-pub read-held-requires : goal.read-held-requires
-read-held-requires c = client_fit (sound _ c.requires (sym c.is_unsound.ensures ∙ c.if-is_unsound.false)) _ (omega arith)
+pub read-requires-clause-fit : goal.read-requires-clause-fit
+read-requires-clause-fit c = client_fit (sound _ c.requires (sym c.is_unsound.ensures ∙ c.if-is_unsound.false)) _ (omega arith)
 
-pub client_check-requires : goal.client_check-requires
-client_check-requires c =
+pub read-requires-clause-few : goal.read-requires-clause-few
+read-requires-clause-few c =
     let g : Sound (lent c.args.memories) = sound _ c.requires (sym c.is_unsound.ensures ∙ c.if-is_unsound.false) in
-    (client_fit g _ (omega arith), (c.read-held.ensures, omega (arith, g.most, c.read-held.ensures.columns)))
+    omega (arith, g.most)

@@ -5,5 +5,4 @@ use Rattle.checks.proofs.read_key.Goals as goal
 
 pub ask_key-requires : goal.ask_key-requires
 ask_key-requires c =
-    let m = c.in_ok-k.ensures.ok in
-    (m.1, range_near c.args.k c.args.asked.now c.args.counts c.args.range (sym (c.in_ok-range_check.ensures c.args.counts)) (omega (arith, m.0, m.1)))
+    range_near c.args.k c.args.asked.now c.args.counts c.args.range (sym (c.in_ok-range_check.ensures c.args.counts)) c.in_ok-columns_check.ensures.ok

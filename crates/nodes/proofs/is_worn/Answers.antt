@@ -1,17 +1,10 @@
--- `nodes::is_worn` meets its contract: the floor is too high, or one of the nodes' revisions decides. Assumes nothing.
-use Rattle.std.proofs.Common.{◌∙◌, rules, get_or, nat_lt}
-use Rattle.std.proofs.lemmas.Iterator.{YieldsList-from_slice}
-use Rattle.std.proofs.lemmas.Iterator.Search.{any_from_yields_List}
-use borrow.Author.Tests.{tests}
+-- `nodes::is_worn` meets its contract: the highest of the floor and the nodes' revisions decides. Assumes nothing.
+use Rattle.std.proofs.Common.{◌≡◌, rules, get_or, fold, max}
 use Rattle.rules.specs.Memory.{current, store_in}
-use Rattle.nodes.proofs.NodeScans.{worn_floor, worn_nodes}
+use Rattle.nodes.proofs.NodeScans.{worn_highest}
 use Rattle.nodes.proofs.is_worn.Goals as goal
-
-pub returns-then-nodes-gt-WORN_ABOVE : goal.returns-then-nodes-gt-WORN_ABOVE
-returns-then-nodes-gt-WORN_ABOVE c = λ sh. worn_floor sh _ c.if-nodes-gt-WORN_ABOVE.true
 
 pub returns : goal.returns
 returns c = λ sh.
-    any_from_yields_List (λ n. nat_lt 4294967103 (get_or n 6 0)) _ _ _ c.any.ensures.ran (YieldsList-from_slice (store_in current c.args.nodes.now).nodes cc)
-    (λ x b q k. search (rules, tests))
-    ∙ worn_nodes sh _ c.if-nodes-gt-WORN_ABOVE.false
+    let e : c.fold-highest.result ≡ fold (λ h n. max h (get_or n 6 0)) (get_or c.args.nodes.now 0 0) (store_in current c.args.nodes.now).nodes = search rules in
+    worn_highest sh _ _ e

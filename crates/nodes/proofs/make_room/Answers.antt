@@ -2,7 +2,7 @@
 use Rattle.std.proofs.Common.{ap, sym, ◌∙◌, rules, arith, refl}
 use Rattle.std.specs.Result.{result_ok}
 use Rattle.rules.specs.Nodes.{is_free}
-use Rattle.nodes.proofs.NodePlaces.{found}
+use Rattle.laws.proofs.WalkLaws.{found}
 use Rattle.nodes.proofs.NodeStores.{count_nodes}
 use Rattle.nodes.proofs.NodePresent.{found_none, room_there, room_none, room_made, room_fit}
 use Rattle.nodes.proofs.make_room.Goals as goal

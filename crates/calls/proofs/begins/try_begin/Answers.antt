@@ -1,5 +1,5 @@
 -- `calls::begins::try_begin` meets its contract: past its check, the client keeps the kind and the key of what begins. Assumes nothing.
-use Rattle.std.proofs.Common.{◌≡◌, ◌∙◌, ap, rules}
+use Rattle.std.proofs.Common.{◌∙◌, ap, rules}
 use Rattle.rules.specs.Memory.{Mem}
 use Rattle.rules.specs.Refusals.{shape, begin_code}
 use Rattle.rules.specs.Work.{work_of, key_of}
