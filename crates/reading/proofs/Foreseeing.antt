@@ -6,17 +6,17 @@ use mathlib.Core.List.{List}
 use mathlib.Core.Option.{Option as Maybe, none, some}
 use Rattle.std.specs.Prelude.{Option, None, Some}
 use Rattle.std.specs.Bool.{then_some}
-use Prim.Native.Nat.{ℕ, ◌+◌, ◌≤◌, ◌<◌}
+use Prim.Native.Nat.{ℕ, ◌+◌, ◌<◌}
 use lib.Dec.{ltb, leb}
 use lib.ListN.{length}
 use borrow.Author.Tests.{ltb-true, ltb-false, le-leb, lt-leb, not-true, not-false}
 use Rattle.laws.proofs.TestLaws.{by_test}
 use Rattle.rules.specs.declared.Count.{Count}
 use Rattle.rules.specs.declared.Count.TheVariants.{FromFile, FromTable, EndedLong}
-use Rattle.rules.specs.Layout.{max_list, answer_count_offset}
+use Rattle.rules.specs.Layout.{max_list}
 use Rattle.rules.specs.Nodes.{Words, Store}
-use Rattle.rules.specs.Work.{Value, list_within, value_of, may_answer}
-use Rattle.rules.specs.Client.{saw_pending, range_at}
+use Rattle.rules.specs.Work.{Value, value_of, may_answer}
+use Rattle.rules.specs.Client.{saw_pending}
 use Rattle.rules.specs.Memory.{current, Mem, mem, client_in, records_in}
 use Rattle.rules.specs.Outcome.{StepResult}
 use Rattle.rules.specs.Refusals.{client}

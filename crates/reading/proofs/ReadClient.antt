@@ -1,5 +1,6 @@
 -- What a reading client is known to hold, and which step is due. Leans on rules and on the laws of clients. Assumes nothing.
 use mathlib.Core.Path.{◌≡◌, ap, ◌∙◌}
+use mathlib.Core.Bool.{true, false}
 use mathlib.Core.List.{List, []}
 use Prim.Native.Nat.{ℕ, ◌+◌, ◌-◌, ◌≤◌, ◌<◌}
 use native.Mathlib.Omega.{arith}
@@ -7,16 +8,15 @@ use lib.ListN.{length, get_or}
 use borrow.Author.Tests.{lt-ltb, le-ltb, eq-eqb, ne_eqb}
 use Rattle.query.specs.Query.{Query, read_count}
 use Rattle.query.specs.declared.Range.{Range}
+use Rattle.query.specs.Range.{is_range, is_reversed}
+use Rattle.query.specs.Shape.{shape_of}
 use Rattle.query.proofs.EncodingLaws.{columns_length}
 use Rattle.rules.specs.Work.{Ask, list_within, value_of, read_labels, ask_in, work_fault, steps_in_all}
 use Rattle.rules.proofs.WorkLaws.{fault_none}
-use Rattle.query.specs.Shape.{shape_of}
-use Rattle.query.specs.Range.{is_range, is_reversed}
-use mathlib.Core.Bool.{true, false}
 use Rattle.rules.specs.Nodes.{ensured}
 use Rattle.rules.specs.Answers.{fetch_place}
 use Rattle.rules.specs.Client.{entry_of, query_at, range_at, ask_at}
-use Rattle.rules.specs.Memory.{current, Mem, shape_in, client_in, store_in, answers_in, records_in}
+use Rattle.rules.specs.Memory.{current, Mem, client_in, store_in, answers_in, records_in}
 use Rattle.rules.specs.Refusals.{form, columns, client}
 use Rattle.rules.specs.Steps.{look_result, fetch_result, table_result, file_result, read_result}
 use Rattle.clients.specs.declared.Held.{Held}

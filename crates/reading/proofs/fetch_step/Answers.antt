@@ -1,5 +1,5 @@
 -- `reading::fetch_step` meets its contract: the filed answer that was found is given. Assumes nothing.
-use Rattle.std.proofs.Common.{sym, ◌∙◌}
+use Rattle.std.proofs.Common.{sym}
 use Rattle.reading.proofs.Filing.{fetch_given}
 use Rattle.reading.proofs.fetch_step.Goals as goal
 
