@@ -1,8 +1,9 @@
 -- Laws of the changes of one client: what each leaves, number after number, is what the rules say. Leans on rules, on its laws of a client, and on
 -- the laws of ClientMemory. Assumes nothing.
 use mathlib.Core.Path.{◌≡◌, refl, sym, ap, ◌∙◌}
-use mathlib.Core.Bool.{Bool}
-use mathlib.Core.List.{List, [], ◌∷◌, ◌++◌, append-nil}
+use mathlib.Core.Bool.{Bool, true, false}
+use mir.Val.{bool_byte}
+use mathlib.Core.List.{List, [], ◌++◌, append-nil}
 use Prim.Native.Nat.{ℕ, ◌+◌, ◌-◌, ◌≤◌, ◌<◌}
 use native.Mathlib.Omega.{arith}
 use lib.ListN.{length, get_or, take, drop, set, replicate, length-set, length-drop, length-replicate, drop_of_length-le}
@@ -11,7 +12,7 @@ use borrow.Author.Tests.{eq-eqb, ne_eqb}
 use borrow.Rule.Slice.PartMut.{put_mid}
 use Rattle.lists.specs.Lists.{padded, written}
 use Rattle.laws.proofs.ListLaws.{length_padded}
-use Rattle.laws.proofs.WrittenLaws.{length_written, written_front, take_written, drop_of_written, set_part, get_or_before}
+use Rattle.laws.proofs.WrittenLaws.{length_written, written_front, take_written, drop_of_written, set_part, get_or_before, mid_written}
 use Rattle.rules.specs.Work.{Value, Work, kind_of, key_of}
 use Rattle.rules.specs.Client.{Client, steps, idle, begun, stepped, flag, noted, holding, wrote}
 use Rattle.query.specs.Encoding.{key_width}
@@ -33,9 +34,15 @@ pub begun_with_law : (x : Work) → begun_with (kind_of x) (key_of x) ≡ begun 
 unfolding begun_with begun
 begun_with_law x = refl
 
+-- a bool as a number
+pub flag_byte : (b : Bool) → bool_byte b ≡ flag b
+unfolding flag
+flag_byte true = refl
+flag_byte false = refl
+
 -- ---- one client's numbers
 -- a kind and a key written over an idle client
-key_in : (x : ℕ) (key : List ℕ) → length key ≡ key_width → written (written idle 0 (x ∷ 0 ∷ 0 ∷ 0 ∷ 0 ∷ [])) 5 key ≡ begun_with x key
+key_in : (x : ℕ) (key : List ℕ) → length key ≡ key_width → written (set idle 0 x) 5 key ≡ begun_with x key
 unfolding written idle begun_with padded
 key_in x key n = rw n
 
@@ -95,25 +102,25 @@ module _ (s : List ℕ) (d : ℕ) (f : Fit s d) where
       g ∙ rw (e, client_same s d f c n) (with_twice s d f c n (set c j x) m)
 
   -- ---- what each function leaves
-  pub idle_left : (t : List ℕ) → t ≡ replicate client_width 0 ++ drop client_width (take (client_offset current d + client_width - (client_offset current d)) (drop (client_offset current d) s))
-      → put_mid (client_offset current d) (client_offset current d + client_width - (client_offset current d)) s t ≡ with_client current s d idle
+  pub idle_left : (at : ℕ) (t : List ℕ) → at ≡ client_offset current d → t ≡ replicate (length (take (at + client_width - at) (drop at s))) 0
+      → put_mid at (at + client_width - at) s t ≡ with_client current s d idle
   unfolding with_client idle
-  idle_left t e = part_cleared s (client_offset current d) (client_offset current d + client_width) client_width t e refl (client_room s d f)
+  idle_left at t e g =
+      let l = client_room s d f in
+      let m : at + client_width - at ≡ client_width = omega arith in
+      part_cleared s at (at + client_width) t (omega arith) (omega arith) g ∙ rw (m, e)
 
-  pub begun_left : (s₁ s₂ : List ℕ) (x : ℕ) (key : List ℕ) → s₁ ≡ with_client current s d idle → s₂ ≡ written s₁ (client_offset current d) (x ∷ 0 ∷ 0 ∷ 0 ∷ 0 ∷ []) → length key ≡ key_width
-      → written s₂ (client_offset current d + entry_offset) key ≡ with_client current s d (begun_with x key)
-  begun_left s₁ s₂ x key e g n =
-      let head : List ℕ = x ∷ 0 ∷ 0 ∷ 0 ∷ 0 ∷ [] in
-      let c : Client = written idle 0 head in
-      let m : length c ≡ client_width = length_written idle 0 head (rw idle_wide (omega arith)) ∙ idle_wide in
-      let z : client_offset current d ≡ client_offset current d + 0 = omega arith in
-      let h : s₂ ≡ with_client current s d c =
-      g ∙ ap (λ (i : ℕ). written s₁ i head) z ∙ ap (λ (y : List ℕ). written y (client_offset current d + 0) head) e ∙ with_words s d f idle idle_wide 0 head (omega arith) in
-      rw h (with_words s d f c m 5 key (omega arith) ∙ ap (with_client current s d) (key_in x key n))
+  pub begun_left : (s₁ s₂ : List ℕ) (x at : ℕ) (key : List ℕ) → s₁ ≡ with_client current s d idle → s₂ ≡ with_client current s₁ d (set (client_in current s₁ d) 0 x) → at ≡ client_offset current d
+      → length key ≡ key_width → put_mid (at + entry_offset) (at + entry_offset + key_width - (at + entry_offset)) s₂ key ≡ with_client current s d (begun_with x key)
+  begun_left s₁ s₂ x at key e g h n =
+      let m : at + entry_offset + key_width - (at + entry_offset) ≡ key_width = omega arith in
+      let w : length (set idle 0 x) ≡ client_width = length-set idle 0 x ∙ idle_wide in
+      rw (m, mid_written s₂ (at + entry_offset) key_width key n, put_more s₁ s₂ idle 0 x e g idle_wide, h)
+      (with_words s d f (set idle 0 x) w entry_offset key (omega arith) ∙ ap (with_client current s d) (key_in x key n))
 
-  pub stepped_left : (s₁ : List ℕ) (n : ℕ) → n ≡ steps (client_in current s d) → s₁ ≡ with_client current s d (set (client_in current s d) 1 (n + 1)) → s₁ ≡ with_client current s d (stepped (client_in current s d))
-  unfolding stepped
-  stepped_left s₁ n e g = g ∙ rw e
+  pub stepped_left : (s₁ : List ℕ) → s₁ ≡ with_client current s d (set (client_in current s d) steps_offset (get_or (client_in current s d) steps_offset 0 + 1)) → s₁ ≡ with_client current s d (stepped (client_in current s d))
+  unfolding stepped steps
+  stepped_left s₁ e = e
 
   length_after : length (stepped (client_in current s d)) ≡ client_width
   length_after = (stepped_next (client_in current s d) (length_client s d f)).wide
@@ -133,27 +140,31 @@ module _ (s : List ℕ) (d : ℕ) (f : Fit s d) where
         let n : length c ≡ client_width = length-set (stepped (client_in current s d)) (noted_offset j) revision ∙ length_after in
         rw (ne_eqb pending 0 z) (put_more s₂ s₃ c 2 1 look_left h n)
 
-  pub wrote_left : (s₁ s₂ s₃ : List ℕ) (a b : ℕ) (changed full : Bool) → s₁ ≡ with_client current s d (stepped (client_in current s d))
-      → s₂ ≡ with_client current s₁ d (set (client_in current s₁ d) 3 a) → s₃ ≡ with_client current s₂ d (set (client_in current s₂ d) 4 b) → a ≡ flag changed → b ≡ flag full
+  pub wrote_left : (s₁ s₂ s₃ : List ℕ) (changed full : Bool) → s₁ ≡ with_client current s d (stepped (client_in current s d))
+      → s₂ ≡ with_client current s₁ d (set (client_in current s₁ d) 3 (flag changed)) → s₃ ≡ with_client current s₂ d (set (client_in current s₂ d) 4 (flag full))
       → s₃ ≡ with_client current s d (wrote changed full (client_in current s d))
   unfolding wrote
-  wrote_left s₁ s₂ s₃ a b changed full e g h p q =
-      let c : Client = set (stepped (client_in current s d)) 3 a in
-      let n : length c ≡ client_width = length-set (stepped (client_in current s d)) 3 a ∙ length_after in
-      rw (← p, ← q) (put_more s₂ s₃ c 4 b (put_more s₁ s₂ (stepped (client_in current s d)) 3 a e g length_after) h n)
+  wrote_left s₁ s₂ s₃ changed full e g h =
+      let c : Client = set (stepped (client_in current s d)) 3 (flag changed) in
+      let n : length c ≡ client_width = length-set (stepped (client_in current s d)) 3 (flag changed) ∙ length_after in
+      put_more s₂ s₃ c 4 (flag full) (put_more s₁ s₂ (stepped (client_in current s d)) 3 (flag changed) e g length_after) h n
 
-  pub value_left : (s₁ s₂ t : List ℕ) (n used : ℕ) (sh : Shape) → s₁ ≡ with_client current s d (stepped (client_in current s d)) → s₂ ≡ with_client current s₁ d (set (client_in current s₁ d) held_length_offset n)
-      → t ≡ replicate (client_width - (held_list_offset sh + used)) 0 ++ drop (client_width - (held_list_offset sh + used)) (take (client_offset current d + client_width - (client_offset current d + (held_list_offset sh + used))) (drop (client_offset current d + (held_list_offset sh + used)) s₂))
-      → used ≤ list_room → put_mid (client_offset current d + (held_list_offset sh + used)) (client_offset current d + client_width - (client_offset current d + (held_list_offset sh + used))) s₂ t ≡ with_client current s d (value_set n used sh (client_in current s d))
-  value_left s₁ s₂ t n used sh e g h m =
+  pub value_left : (s₁ s₂ : List ℕ) (at n used : ℕ) (sh : Shape) (t : List ℕ) → s₁ ≡ with_client current s d (stepped (client_in current s d))
+      → s₂ ≡ with_client current s₁ d (set (client_in current s₁ d) held_length_offset n) → at ≡ client_offset current d → used ≤ list_room
+      → t ≡ replicate (length (take (at + client_width - (at + held_list_offset sh + used)) (drop (at + held_list_offset sh + used) s₂))) 0
+      → put_mid (at + held_list_offset sh + used) (at + client_width - (at + held_list_offset sh + used)) s₂ t ≡ with_client current s d (value_set n used sh (client_in current s d))
+  value_left s₁ s₂ at n used sh t e g h m z =
       let c : Client = set (stepped (client_in current s d)) held_length_offset n in
       let o : length c ≡ client_width = length-set (stepped (client_in current s d)) held_length_offset n ∙ length_after in
       let p : s₂ ≡ with_client current s d c = put_more s₁ s₂ (stepped (client_in current s d)) held_length_offset n e g length_after in
       let l : length s₂ ≡ length s = ap length p ∙ length_kept s d f c o in
-      let r : length (replicate {A = ℕ} (client_width - (held_list_offset sh + used)) 0) ≡ client_width - (held_list_offset sh + used) = length-replicate (client_width - (held_list_offset sh + used)) 0 in
-      part_cleared s₂ (client_offset current d + (held_list_offset sh + used)) (client_offset current d + client_width) (client_width - (held_list_offset sh + used)) t h (omega arith) (omega arith)
-      ∙ rw p (with_words s d f c o (held_list_offset sh + used) (replicate (client_width - (held_list_offset sh + used)) 0) (omega arith))
-      ∙ ap (with_client current s d) (sym (value_in (client_in current s d) n used sh (length_client s d f) m))
+      let r : ℕ = client_width - (held_list_offset sh + used) in
+      let a : at + client_width - (at + held_list_offset sh + used) ≡ r = omega arith in
+      let b : at + held_list_offset sh + used ≡ client_offset current d + (held_list_offset sh + used) = omega arith in
+      let k = client_room s d f in
+      let y : length (replicate {A = ℕ} r 0) ≡ r = length-replicate r 0 in
+      part_cleared s₂ (at + held_list_offset sh + used) (at + client_width) t (omega arith) (omega arith) z
+      ∙ rw (a, b, p) (with_words s d f c o (held_list_offset sh + used) (replicate r 0) (omega arith) ∙ ap (with_client current s d) (sym (value_in (client_in current s d) n used sh (length_client s d f) m)))
 
 -- ---- a list written into its place and then set; a count set
 pub value_held : (s : List ℕ) (d : ℕ) → Fit s d → (s₁ c₁ : List ℕ) (n used : ℕ) (sh : Shape) (v : Value) → s₁ ≡ with_client current s d c₁ → length c₁ ≡ client_width

@@ -1,10 +1,10 @@
 -- Laws of one client in the desks memory: what is read of it, what a changed client leaves, and what it leaves alone.
 -- Leans on rules, on its laws of a client in memory and on the laws of lists. Assumes nothing.
 use mathlib.Core.Path.{◌≡◌, sym, ap, ◌∙◌}
-use mathlib.Core.List.{List, ◌++◌, append_assoc, append-nil}
+use mathlib.Core.List.{List, ◌++◌, append_assoc}
 use Prim.Native.Nat.{ℕ, ◌+◌, ◌-◌, ◌≤◌, ◌<◌}
 use native.Mathlib.Omega.{arith}
-use lib.ListN.{length, get_or, take, drop, set, replicate, length-drop, length-replicate, drop_of_length-le}
+use lib.ListN.{length, get_or, take, drop, set, replicate, length-drop, length-replicate}
 use lib.Seq.{length-take-le, get_or-take, get_or-drop, drop-drop, take-take, drop-append-add, drop-append-le, take-append-add, take-append-le}
 use borrow.Rule.Slice.PartMut.{put_mid}
 use Rattle.lists.specs.Lists.{written}
@@ -33,13 +33,11 @@ written_inside s i u j v h k =
     rw (append_assoc (take i s) u rest, t, r, n) (simp append_assoc)
 
 -- a part cleared whole
-pub part_cleared : (s : List ℕ) (at end n : ℕ) (t : List ℕ) → t ≡ replicate n 0 ++ drop n (take (end - at) (drop at s)) → at + n ≡ end → end ≤ length s
-    → put_mid at (end - at) s t ≡ written s at (replicate n 0)
-part_cleared s at end n t e h k =
-    let m : end - at ≡ n = omega arith in
-    let l : length (take (end - at) (drop at s)) ≤ n = (let x : length (take (end - at) (drop at s)) ≡ end - at = length-take-le (end - at) (drop at s) (rw length-drop (omega arith)) in omega arith) in
-    let f : t ≡ replicate n 0 = e ∙ ap (λ (x : List ℕ). replicate n 0 ++ x) (drop_of_length-le (take (end - at) (drop at s)) l) ∙ append-nil (replicate n 0) in
-    rw (m, f) (mid_written s at n (replicate n 0) (length-replicate n 0))
+pub part_cleared : (s : List ℕ) (at end : ℕ) (t : List ℕ) → at ≤ end → end ≤ length s → t ≡ replicate (length (take (end - at) (drop at s))) 0
+    → put_mid at (end - at) s t ≡ written s at (replicate (end - at) 0)
+part_cleared s at end t h k e =
+    let l : length (take (end - at) (drop at s)) ≡ end - at = length-take-le (end - at) (drop at s) (rw length-drop (omega arith)) in
+    rw (e, l) (mid_written s at (end - at) (replicate (end - at) 0) (length-replicate (end - at) 0))
 
 -- ---- what is read
 module _ (s : List ℕ) (d : ℕ) where

@@ -1,84 +1,81 @@
--- Laws of what is read of one client: idleness, key, query, list. Leans on rules and on the laws of ClientMemory. Assumes nothing.
-use mathlib.Core.Path.{◌≡◌, refl, sym, ap, ◌∙◌}
-use mathlib.Core.Bool.{Bool, true, false, not}
-use mathlib.Core.List.{List, [], ◌∷◌}
-use Prim.Native.Nat.{ℕ, suc, ◌+◌, ◌-◌, ◌/◌, ◌%◌, ◌≤◌, ◌<◌}
-use native.Mathlib.Numerals.{add-one}
-use native.Mathlib.Omega.{arith}
-use lib.Dec.{eqb, ltb}
-use lib.ListN.{length-drop, length-set, length, get_or, take, drop, set, replicate}
-use lib.Seq.{take_all, take-take, take-set-le, get_or-take, get_or-drop, drop-cons, drop-drop}
-use Rattle.lists.specs.Lists.{same, padded, all_below}
+-- Laws of what is read of one client: idleness, entry, range, key. Leans on rules and on the laws of ClientMemory. Assumes nothing.
+use Rattle.std.proofs.Common.{◌≡◌, refl, sym, ap, ◌∙◌, Bool, true, false, List, [], ◌∷◌, ℕ, ◌+◌, ◌-◌, ◌/◌, ◌%◌, ◌≤◌, ◌<◌, eqb, length, get_or, take, drop, set, replicate, length-drop, length-set, length-take-le, get_or-take, arith}
 use Rattle.laws.proofs.ListLaws.{below_next, below_not}
+use lib.Seq.{take_all, take-take, take-set-le}
+use Rattle.lists.specs.Lists.{same, padded, all_below}
 use Rattle.laws.proofs.WrittenLaws.{drop_take}
-use Rattle.rules.specs.Answers.{key_in, length_in, is_count, most_in, is_long}
+use Rattle.rules.specs.Answers.{key_in, is_count}
 use Rattle.rules.specs.Client.{Client, entry_of, is_idle, idle, range_at}
 use Rattle.rules.specs.Memory.{current, mem, client_in}
 use Rattle.rules.specs.Refusals.{client, all_idle}
 use Rattle.query.specs.declared.Range.{Range}
 use Rattle.query.specs.declared.Range.TheVariants.{None, Between}
 use Rattle.query.specs.Range.{is_ranged}
-use Rattle.query.specs.Encoding.{key_width, count_bit, counts_in, range_unit, lowest_offset, highest_offset, range_of, range_in, unranged, bare_key}
-use Rattle.query.specs.Shape.{max_columns}
-use Rattle.rules.specs.Layout.{max_records, max_clients, max_list, entry_width, entry_offset, client_width, client_offset, held_values_offset, held_length_offset}
+use Rattle.query.specs.Encoding.{key_width, count_bit, counts_in, range_unit, lowest_offset, highest_offset, range_of, range_in, unranged, bare_key, is_key}
+use Rattle.query.specs.Shape.{Shape, max_columns}
+use Rattle.rules.specs.Layout.{max_clients, entry_width, entry_offset, client_width, client_offset}
 use Rattle.columns.specs.KeyContracts.{query_width}
 use Rattle.columns.proofs.KeyLoops.{bare_first}
-use Rattle.rules.proofs.ClientLaws.{key_wide}
-use Rattle.rules.proofs.ClientParts.{length_entry}
-use Rattle.clients.specs.ClientContracts.{Fit, plain_key, idle_at}
-use Rattle.clients.proofs.ClientMemory.{length_client, part_at}
+use Rattle.clients.specs.ClientContracts.{idle_at}
+
+-- ---- the client's part of the memory, and the entry in it
+pub client_part : (s : List ℕ) (d at : ℕ) → at ≡ client_offset current d → take (at + client_width - at) (drop at s) ≡ client_in current s d
+unfolding client_in
+client_part s d at e =
+    let m : at + client_width - at ≡ client_width = omega arith in
+    rw (m, e)
+
+pub entry_part : (c : Client) → take (length c - entry_offset) (drop entry_offset c) ≡ entry_of c
+unfolding entry_of
+entry_part c = take_all (length c - entry_offset) (drop entry_offset c) (rw length-drop (omega arith))
 
 -- ---- idleness
-part_client : (s : List ℕ) (d : ℕ) → take (client_offset current d + client_width - (client_offset current d)) (drop (client_offset current d) s) ≡ client_in current s d
-unfolding client_in
-part_client s d = let m : client_offset current d + client_width - (client_offset current d) ≡ client_width = omega arith in rw m
+-- all numbers of a client are 0
+pub idle_read : (c : Client) → length c ≡ client_width → same c (replicate (length c) 0) ≡ is_idle c
+unfolding is_idle idle
+idle_read c w = rw w
 
+-- the search for a busy one: r says whether client d is idle
 module _ (s : List ℕ) (d : ℕ) where
-  pub idle_read : (r : Bool) → Fit s d
-      → r ≡ same (take (client_offset current d + client_width - (client_offset current d)) (drop (client_offset current d) s)) (replicate (length (take (client_offset current d + client_width - (client_offset current d)) (drop (client_offset current d) s))) 0)
-      → r ≡ is_idle (client_in current s d)
-  unfolding is_idle idle
-  idle_read r f e = e ∙ rw (part_client s d, length_client s d f)
-
-  -- the search for a busy client
-  pub idle_next : (r : Bool) → r ≡ is_idle (client_in current s d) → not r ≡ false → all_below d (idle_at s) ≡ true → all_below (d + 1) (idle_at s) ≡ true
+  pub idle_next : (r : Bool) → r ≡ is_idle (client_in current s d) → r ≡ true → all_below d (idle_at s) ≡ true → all_below (d + 1) (idle_at s) ≡ true
   unfolding idle_at
-  idle_next true e h k = below_next d (idle_at s) k (sym e)
-  idle_next false e h k = cc
+  idle_next r e h k = below_next d (idle_at s) k (sym e ∙ h)
 
-  pub idle_stops : (r : Bool) (n : ℕ) → r ≡ is_idle (client_in current s d) → not r ≡ true → d < n → false ≡ all_below n (idle_at s)
+  pub idle_stops : (r : Bool) (n : ℕ) → r ≡ is_idle (client_in current s d) → r ≡ false → d < n → false ≡ all_below n (idle_at s)
   unfolding idle_at
-  idle_stops true n e h k = cc
-  idle_stops false n e h k = sym (below_not n (idle_at s) d k (sym e))
-
-  pub idle_all : (n : ℕ) → d ≤ n → n ≤ d → all_below d (idle_at s) ≡ true → true ≡ all_below n (idle_at s)
-  idle_all n h k e = let m : d ≡ n = omega arith in rw (← m) (sym e)
+  idle_stops r n e h k = sym (below_not n (idle_at s) d k (sym e ∙ h))
 
 -- the rules' test of all clients
 pub all_idle_law : (tb nd an cl : List ℕ) → all_idle (mem tb nd an cl) ≡ all_below max_clients (idle_at cl)
 unfolding all_idle idle_at client
 all_idle_law tb nd an cl = refl
 
--- ---- the query
--- a key of seven numbers, without what is wanted and without its range: its marks, and behind them its query's numbers, 0 for the ends
+-- ---- the range, and the query's key
+pub ends_read : (e : List ℕ) → range_of (get_or e 0 0 / range_unit) (get_or e lowest_offset 0) (get_or e highest_offset 0) ≡ range_in (key_in e)
+unfolding range_in key_in
+ends_read e =
+    rw (get_or-take key_width e 0 0 (omega arith), get_or-take key_width e lowest_offset 0 (omega arith), get_or-take key_width e highest_offset 0 (omega arith))
+
+-- without what is wanted and without its range: its marks, and behind them its query's numbers, 0 for the ends
 bare_seven : (n a b c d l h : ℕ) (g : Range) → range_in (n ∷ a ∷ b ∷ c ∷ d ∷ l ∷ h ∷ []) ≡ g
-    → bare_key (n ∷ a ∷ b ∷ c ∷ d ∷ l ∷ h ∷ []) ≡ plain_key (n % count_bit) g (n ∷ a ∷ b ∷ c ∷ d ∷ l ∷ h ∷ [])
-unfolding bare_key unranged plain_key query_width is_ranged padded
+    → bare_key (n ∷ a ∷ b ∷ c ∷ d ∷ l ∷ h ∷ []) ≡ (n % count_bit) ∷ padded (key_width - 1) (take (query_width g) (a ∷ b ∷ c ∷ d ∷ l ∷ h ∷ []))
+unfolding bare_key unranged query_width is_ranged padded
 bare_seven n a b c d l h None e = rw e
 bare_seven n a b c d l h (Between i x y) e = rw e
 
-pub bare_plain : (key : List ℕ) → length key ≡ key_width → bare_key key ≡ plain_key (get_or (bare_key key) 0 0) (range_in key) key
-bare_plain (n ∷ a ∷ b ∷ c ∷ d ∷ l ∷ h ∷ []) e =
-    bare_seven n a b c d l h (range_in (n ∷ a ∷ b ∷ c ∷ d ∷ l ∷ h ∷ [])) refl
-    ∙ ap (λ (m : ℕ). plain_key m (range_in (n ∷ a ∷ b ∷ c ∷ d ∷ l ∷ h ∷ [])) (n ∷ a ∷ b ∷ c ∷ d ∷ l ∷ h ∷ [])) (bare_first n (a ∷ b ∷ c ∷ d ∷ l ∷ h ∷ []))
-bare_plain [] e = absurd (omega arith)
-bare_plain (n ∷ []) e = absurd (omega arith)
-bare_plain (n ∷ a ∷ []) e = absurd (omega arith)
-bare_plain (n ∷ a ∷ b ∷ []) e = absurd (omega arith)
-bare_plain (n ∷ a ∷ b ∷ c ∷ []) e = absurd (omega arith)
-bare_plain (n ∷ a ∷ b ∷ c ∷ d ∷ []) e = absurd (omega arith)
-bare_plain (n ∷ a ∷ b ∷ c ∷ d ∷ l ∷ []) e = absurd (omega arith)
-bare_plain (n ∷ a ∷ b ∷ c ∷ d ∷ l ∷ h ∷ x ∷ r) e = absurd (omega arith)
+bare_rest : (key : List ℕ) → length key ≡ key_width → bare_key key ≡ get_or (bare_key key) 0 0 ∷ padded (key_width - 1) (take (query_width (range_in key)) (drop 1 key))
+bare_rest (n ∷ a ∷ b ∷ c ∷ d ∷ l ∷ h ∷ []) e =
+    let key : List ℕ = n ∷ a ∷ b ∷ c ∷ d ∷ l ∷ h ∷ [] in
+    bare_seven n a b c d l h (range_in key) refl
+    ∙ ap (λ (m : ℕ). m ∷ padded (key_width - 1) (take (query_width (range_in key)) (drop 1 key))) (bare_first n (a ∷ b ∷ c ∷ d ∷ l ∷ h ∷ []))
+bare_rest [] e = absurd (omega arith)
+bare_rest (n ∷ []) e = absurd (omega arith)
+bare_rest (n ∷ a ∷ []) e = absurd (omega arith)
+bare_rest (n ∷ a ∷ b ∷ []) e = absurd (omega arith)
+bare_rest (n ∷ a ∷ b ∷ c ∷ []) e = absurd (omega arith)
+bare_rest (n ∷ a ∷ b ∷ c ∷ d ∷ []) e = absurd (omega arith)
+bare_rest (n ∷ a ∷ b ∷ c ∷ d ∷ l ∷ []) e = absurd (omega arith)
+bare_rest (n ∷ a ∷ b ∷ c ∷ d ∷ l ∷ h ∷ x ∷ r) e = absurd (omega arith)
 
 -- its first four values are the key's, and it is as long
 values_unranged : (g : Range) (l : List ℕ) → take max_columns (drop 1 (unranged g l)) ≡ take max_columns (drop 1 l)
@@ -100,93 +97,49 @@ length_bare key = go (range_in key) (set key 0 (get_or key 0 0 % count_bit)) ∙
     go None l = refl
     go (Between i x y) l = length-set (set l lowest_offset 0) highest_offset 0 ∙ length-set l lowest_offset 0
 
--- the key's first number, its marks and what it says, its range, and its first four values, from the client's numbers
-pub first_read : (c : Client) → get_or c entry_offset 0 ≡ get_or (key_in (entry_of c)) 0 0
-unfolding key_in entry_of
-first_read c = sym (get_or-take key_width (drop entry_offset c) 0 0 (omega arith) ∙ get_or-drop entry_offset c 0 0)
+bare_same : (key : List ℕ) → length key ≡ key_width → get_or key 0 0 % count_bit ≡ get_or (bare_key key) 0 0
+bare_same [] l = absurd (omega arith)
+bare_same (x ∷ key) l = bare_first x key
 
-end_read : (c : Client) (j : ℕ) → j < key_width → get_or c (entry_offset + j) 0 ≡ get_or (key_in (entry_of c)) j 0
-unfolding key_in entry_of
-end_read c j h = sym (get_or-take key_width (drop entry_offset c) j 0 h ∙ get_or-drop entry_offset c j 0)
+-- an entry's first number
+module _ (e : List ℕ) (w : length e ≡ entry_width) where
+  key_first : get_or e 0 0 ≡ get_or (key_in e) 0 0
+  unfolding key_in
+  key_first = sym (get_or-take key_width e 0 0 (omega arith))
 
-bare_same : (m : ℕ) (key : List ℕ) → length key ≡ key_width → m ≡ get_or key 0 0 → m % count_bit ≡ get_or (bare_key key) 0 0
-bare_same m [] l e = absurd (omega arith)
-bare_same m (x ∷ key) l e = rw e (bare_first x key)
+  key_long : length (key_in e) ≡ key_width
+  unfolding key_in
+  key_long = length-take-le key_width e (omega arith)
 
-module _ (c : Client) (w : length c ≡ client_width) (m : ℕ) (e : m ≡ get_or c entry_offset 0) where
-  pub marks_read : (n : ℕ) → ((vs : List ℕ) → n ≡ get_or (bare_key (m ∷ vs)) 0 0) → n ≡ get_or (bare_key (key_in (entry_of c))) 0 0
-  marks_read n f = f [] ∙ sym (bare_first m []) ∙ bare_same m (key_in (entry_of c)) (key_wide c w) (e ∙ first_read c)
+  -- m of the numbers behind it
+  rest_read : (m : ℕ) → m ≤ key_width - 1 → take (1 + m - 1) (drop 1 e) ≡ take m (drop 1 (key_in e))
+  unfolding key_in
+  rest_read m few =
+      let z : 1 + m - 1 ≡ m = omega arith in
+      rw (z, drop_take 1 key_width e) (sym (take-take m (key_width - 1) (drop 1 e) few))
 
-  pub counts_read : (r : Bool) → ((vs : List ℕ) → r ≡ counts_in (m ∷ vs)) → r ≡ is_count (entry_of c)
+-- what is read of a client's entry: its marks n, what it wants, its range g, and the m numbers behind its first that are its query's
+module _ (c : Client) (e : List ℕ) (own : e ≡ entry_of c) (w : length e ≡ entry_width) where
+  pub marks_read : (n : ℕ) → ((vs : List ℕ) → n ≡ get_or (bare_key (get_or e 0 0 ∷ vs)) 0 0) → n ≡ get_or (bare_key (key_in (entry_of c))) 0 0
+  marks_read n f =
+      f [] ∙ sym (bare_first (get_or e 0 0) []) ∙ ap (λ (x : ℕ). x % count_bit) (key_first e w) ∙ bare_same (key_in e) (key_long e w)
+      ∙ ap (λ (l : List ℕ). get_or (bare_key (key_in l)) 0 0) own
+
+  pub counts_read : (r : Bool) → ((vs : List ℕ) → r ≡ counts_in (get_or e 0 0 ∷ vs)) → r ≡ is_count (entry_of c)
   unfolding is_count counts_in
-  counts_read r f = f [] ∙ ap (λ (x : ℕ). eqb (x / count_bit % 2) 1) (e ∙ first_read c)
+  counts_read r f = f [] ∙ ap (λ (x : ℕ). eqb (x / count_bit % 2) 1) (key_first e w) ∙ ap is_count own
 
-  pub range_read : (l h : ℕ) (g : Range) → l ≡ get_or c (entry_offset + lowest_offset) 0 → h ≡ get_or c (entry_offset + highest_offset) 0 → g ≡ range_of (m / range_unit) l h
-      → g ≡ range_at c
-  unfolding range_at range_in
-  range_read l h g x y f =
-      f ∙ ap (λ (z : ℕ). range_of (z / range_unit) l h) (e ∙ first_read c)
-      ∙ ap (λ (z : ℕ). range_of (get_or (key_in (entry_of c)) 0 0 / range_unit) z h) (x ∙ end_read c lowest_offset (omega arith))
-      ∙ ap (λ (z : ℕ). range_of (get_or (key_in (entry_of c)) 0 0 / range_unit) (get_or (key_in (entry_of c)) lowest_offset 0) z) (y ∙ end_read c highest_offset (omega arith))
+  module _ (g : Range) (r : g ≡ range_in (key_in e)) where
+    pub range_read : g ≡ range_at c
+    unfolding range_at
+    range_read = r ∙ ap (λ (l : List ℕ). range_in (key_in l)) own
 
-key_rest : (c : Client) → drop 1 (key_in (entry_of c)) ≡ take (key_width - 1) (drop held_values_offset c)
-unfolding key_in entry_of
-key_rest c = drop_take 1 key_width (drop entry_offset c) ∙ ap (take (key_width - 1)) (drop-drop 1 entry_offset c)
+    module _ (m : ℕ) (h : m ≡ query_width g) (few : m ≤ key_width - 1) where
+      pub values_read : max_columns ≤ m → take max_columns (take (1 + m - 1) (drop 1 e)) ≡ take max_columns (drop 1 (key_in (entry_of c)))
+      values_read l = rw (rest_read e w m few, own) (take-take max_columns m (drop 1 (key_in (entry_of c))) l)
 
--- the part that holds so many of the key's numbers behind its first
-pub rest_read : (s : List ℕ) (d n : ℕ) → n ≤ key_width - 1
-    → take (client_offset current d + held_values_offset + n - (client_offset current d + held_values_offset)) (drop (client_offset current d + held_values_offset) s)
-    ≡ take n (drop 1 (key_in (entry_of (client_in current s d))))
-rest_read s d n h =
-    let m : client_offset current d + held_values_offset + n - (client_offset current d + held_values_offset) ≡ n = omega arith in
-    rw m (sym (part_at s d held_values_offset n (omega arith)) ∙ sym (ap (take n) (key_rest (client_in current s d)) ∙ take-take n (key_width - 1) (drop held_values_offset (client_in current s d)) h))
-
-values_in : (c : Client) → take max_columns (drop held_values_offset c) ≡ take max_columns (drop 1 (key_in (entry_of c)))
-values_in c = sym (ap (take max_columns) (key_rest c) ∙ take-take max_columns (key_width - 1) (drop held_values_offset c) (omega arith))
-
--- four numbers, one after another
-next_one : (s : List ℕ) (i j n : ℕ) → i < length s → i + 1 ≡ j → get_or s i 0 ∷ take n (drop j s) ≡ take (suc n) (drop i s)
-next_one s i j n h e = sym (ap (take (suc n)) (drop-cons s i 0 h) ∙ ap (λ (x : ℕ). get_or s i 0 ∷ take n (drop x s)) (sym (add-one i) ∙ e))
-
-four_at : (s : List ℕ) (i : ℕ) → i + 3 < length s
-    → (get_or s i 0 ∷ get_or s (i + 1) 0 ∷ get_or s (i + 2) 0 ∷ get_or s (i + 3) 0 ∷ []) ≡ take 4 (drop i s)
-four_at s i h =
-    ap (λ (l : List ℕ). get_or s i 0 ∷ get_or s (i + 1) 0 ∷ get_or s (i + 2) 0 ∷ l) (next_one s (i + 3) (i + 3 + 1) 0 h refl)
-    ∙ ap (λ (l : List ℕ). get_or s i 0 ∷ get_or s (i + 1) 0 ∷ l) (next_one s (i + 2) (i + 3) 1 (omega arith) (omega arith))
-    ∙ ap (λ (l : List ℕ). get_or s i 0 ∷ l) (next_one s (i + 1) (i + 2) 2 (omega arith) (omega arith))
-    ∙ next_one s i (i + 1) 3 (omega arith) refl
-
-pub values_read : (s : List ℕ) (d i : ℕ) → Fit s d → i ≡ client_offset current d + held_values_offset
-    → (get_or s i 0 ∷ get_or s (i + 1) 0 ∷ get_or s (i + 2) 0 ∷ get_or s (i + 3) 0 ∷ []) ≡ take max_columns (drop 1 (key_in (entry_of (client_in current s d))))
-values_read s d i f e =
-    let l = f.long in
-    let b = f.below in
-    four_at s i (omega arith) ∙ rw e (sym (part_at s d held_values_offset max_columns (omega arith)) ∙ values_in (client_in current s d))
-
--- ---- the list's length, or the count
-pub length_read : (c : Client) → get_or c held_length_offset 0 ≡ length_in (entry_of c)
-unfolding length_in entry_of
-length_read c = sym (get_or-drop 5 c 7 0)
-
--- it is tested by what the entry is: a count, or a list
-module _ (c : Client) (n : ℕ) (e : n ≡ get_or c held_length_offset 0) (counts : Bool) (f : counts ≡ is_count (entry_of c)) where
-  pub long_count : counts ≡ true → ltb max_records n ≡ is_long (entry_of c)
-  unfolding is_long most_in
-  long_count h = rw (← f, h) (ap (ltb max_records) (e ∙ length_read c))
-
-  pub long_list : counts ≡ false → ltb max_list n ≡ is_long (entry_of c)
-  unfolding is_long most_in
-  long_list h = rw (← f, h) (ap (ltb max_list) (e ∙ length_read c))
-
--- the part that holds a client's entry
-pub entry_part : (s : List ℕ) (d : ℕ) → Fit s d
-    → take (client_offset current d + entry_offset + entry_width - (client_offset current d + entry_offset)) (drop (client_offset current d + entry_offset) s)
-    ≡ entry_of (client_in current s d)
-unfolding entry_of
-entry_part s d f =
-    let w : ℕ = entry_width in
-    let m : client_offset current d + entry_offset + w - (client_offset current d + entry_offset) ≡ w = omega arith in
-    rw m (sym (part_at s d entry_offset w (omega arith)) ∙ take_all w (drop entry_offset (client_in current s d)) (rw (length-drop, length_client s d f) (omega arith)))
-
-pub entry_length : (s : List ℕ) (d : ℕ) (x : List ℕ) → Fit s d → x ≡ entry_of (client_in current s d) → length x ≡ entry_width
-entry_length s d x f e = ap length e ∙ length_entry (client_in current s d) (length_client s d f)
+      pub key_read : (sh : Shape) (n : ℕ) → ((vs : List ℕ) → n ≡ get_or (bare_key (get_or e 0 0 ∷ vs)) 0 0)
+          → is_key sh (n ∷ padded (key_width - 1) (take (1 + m - 1) (drop 1 e))) ≡ is_key sh (bare_key (key_in (entry_of c)))
+      key_read sh n f =
+          ap (λ (l : List ℕ). is_key sh (n ∷ padded (key_width - 1) l)) (rest_read e w m few)
+          ∙ ap (is_key sh) (rw (marks_read n f, h, r, own) (sym (bare_rest (key_in (entry_of c)) (rw own at (key_long e w)))))

@@ -3,19 +3,16 @@
 use mathlib.Core.Path.{◌≡◌, refl, sym, ap, ◌∙◌}
 use mathlib.Core.Bool.{Bool, true, false, cond}
 use mathlib.Core.List.{List, [], ◌∷◌}
-use Prim.Native.Nat.{ℕ, zero, suc, ◌+◌, ◌/◌, ◌%◌, ◌^◌, ◌≤◌, ◌<◌}
+use Prim.Native.Nat.{ℕ, zero, suc, ◌+◌, ◌/◌, ◌%◌, ◌≤◌, ◌<◌}
 use native.Mathlib.Omega.{arith}
 use lib.Dec.{eqb}
 use lib.ListN.{length, get_or, take, drop}
-use borrow.Author.Tests.{ltb-true}
-use Rattle.laws.proofs.ListLaws.{and_left}
 use Rattle.query.specs.Query.{Query, read_node, write_node, read_count, write_count}
-use Rattle.query.specs.Encoding.{column_of, columns_in, query_in, is_key, bare_key, key_width, label_words}
+use Rattle.query.specs.Encoding.{column_of, columns_in, query_in, bare_key, label_words}
 use Rattle.query.specs.Shape.{Shape, shape_of, max_columns}
 use Rattle.query.proofs.NodeLists.{read_count_most, write_count_most}
 use Rattle.query.proofs.EncodingLaws.{query_in_length}
 use Rattle.query.proofs.KeyLaws.{plain_bare}
-use Rattle.columns.proofs.KeyLoops.{key_whole}
 use Rattle.rules.specs.Layout.{look_room, reads}
 use Rattle.rules.specs.Answers.{key_in}
 use Rattle.rules.specs.Table.{target}
@@ -23,11 +20,12 @@ use Rattle.rules.specs.Work.{Ask, read_labels, Write, write_labels, write_in, Wo
 use Rattle.rules.specs.Client.{Client, kind, steps, entry_of, query_at, write_at, work_at}
 use Rattle.rules.specs.Memory.{current, shape_in, client_in}
 use Rattle.rules.proofs.WorkLaws.{target_length}
-use Rattle.rules.proofs.ClientLaws.{key_wide, busy_key, writes_at, asked_counts, steps_at, look_count_of, read_label_of, announcement_count_of, write_label_of}
+use Rattle.rules.proofs.ClientLaws.{writes_at, asked_counts, steps_at, look_count_of, read_label_of, announcement_count_of, write_label_of}
+use Rattle.columns.specs.declared.marked.Marked.{Marked}
+use Rattle.columns.specs.MarkedContracts.{marked_query}
 use Rattle.clients.specs.declared.Held.{Held}
-use Rattle.clients.specs.ClientContracts.{Fit, IsHeld, held_query, At}
-use Rattle.clients.proofs.ClientMemory.{length_client}
-use Rattle.clients.proofs.ClientReads.{bare_values, length_bare}
+use Rattle.clients.specs.ClientContracts.{held_query, At}
+use Rattle.clients.proofs.ClientReads.{bare_values}
 
 -- ---- The query
 -- as many values as there are columns are enough
@@ -38,24 +36,13 @@ columns_take (suc k) m zero vs h = absurd (omega arith)
 columns_take (suc k) m (suc n) [] h = refl
 columns_take (suc k) m (suc n) (v ∷ vs) h = ap (λ (q : Query). column_of (m % 2) v ∷ q) (columns_take k (m / 2) n vs (omega arith))
 
-pub held_query_law : {h : Held} {s : List ℕ} {d : ℕ} → IsHeld h s d → h.columns ≤ max_columns
-    → held_query h ≡ query_at (shape_in s) (client_in current s d)
+pub query_law : (q : Marked) (k : ℕ) (c : Client) → q.k ≡ k → q.marks ≡ get_or (bare_key (key_in (entry_of c))) 0 0
+    → q.values ≡ take max_columns (drop 1 (key_in (entry_of c))) → marked_query q ≡ query_at (shape_of k) c
 unfolding query_at query_in
-held_query_law {h} {s} {d} i l =
-    let key : List ℕ = key_in (entry_of (client_in current s d)) in
-    let e = i.columns in
-    rw (i.columns, i.marks, i.values, ← bare_values key) (columns_take (shape_in s).columns (get_or (bare_key key) 0 0) max_columns (drop 1 (bare_key key)) (omega arith))
-
--- ---- A key of the hall
-pub key_marks : (k : ℕ) (key : List ℕ) → k ≤ max_columns → length key ≡ key_width → is_key (shape_of k) key ≡ true → get_or key 0 0 < 2 ^ k
-key_marks k key l w e = ltb-true (get_or key 0 0) (2 ^ k) (and_left _ _ (sym (key_whole k key l w) ∙ e))
-
-pub held_marks : {h : Held} {s : List ℕ} {d : ℕ} → Fit s d → IsHeld h s d → h.columns ≤ max_columns
-    → is_key (shape_in s) (bare_key (key_in (entry_of (client_in current s d)))) ≡ true → h.marks < 2 ^ h.columns
-held_marks {h} {s} {d} f i l e =
-    let z = i.columns in
-    let key : List ℕ = key_in (entry_of (client_in current s d)) in
-    rw (i.marks, i.columns) (key_marks (shape_in s).columns (bare_key key) (omega arith) (length_bare key ∙ key_wide (client_in current s d) (length_client s d f)) e)
+query_law q k c a b v =
+    let key : List ℕ = key_in (entry_of c) in
+    let few : k ≤ max_columns = (let z = q.few in omega arith) in
+    rw (a, b, v, ← bare_values key) (columns_take k (get_or (bare_key key) 0 0) max_columns (drop 1 (bare_key key)) few)
 
 -- ---- A sound, busy client
 steps_most : (sh : Shape) (c : Client) → sh.columns ≤ max_columns → steps_in_all (work_at sh c) ≤ look_room + 1 + look_room
@@ -70,14 +57,8 @@ steps_most sh c l =
     go false m n = omega arith
 
 module _ {h : Held} {s : List ℕ} {d : ℕ} {w : Work} (a : At h s d w) where
-  pub at_few : h.columns ≤ max_columns
-  at_few = let e = a.held.columns in let l = a.busy.most in omega arith
-
   pub at_query : held_query h ≡ query_at (shape_in s) (client_in current s d)
-  at_query = held_query_law a.held at_few
-
-  pub at_marks : h.marks < 2 ^ h.columns
-  at_marks = held_marks a.fit a.held at_few (busy_key a.busy)
+  at_query = query_law h.query _ _ a.held.columns a.held.marks a.held.values
 
   -- it has made few steps
   pub at_steps : steps (client_in current s d) < look_room + 1 + look_room
@@ -92,8 +73,8 @@ module _ {h : Held} {s : List ℕ} {d : ℕ} {x : Ask} (a : At h s d (asking x))
   pub reader_counts : h.counts ≡ x.counts
   reader_counts = a.held.counts ∙ asked_counts a.busy
 
-  pub reader_looks : (n : ℕ) → ((vs : List ℕ) → n ≡ read_count (columns_in h.columns h.marks vs)) → n ≡ length (read_labels x)
-  reader_looks n e = e h.values ∙ ap read_count (at_query a) ∙ sym (look_count_of a.busy)
+  pub reader_looks : read_count (held_query h) ≡ length (read_labels x)
+  reader_looks = ap read_count (at_query a) ∙ sym (look_count_of a.busy)
 
   pub reader_few : length (read_labels x) ≤ look_room
   reader_few = rw (look_count_of a.busy) (unfold query_at in read_count_most _ (let z = query_in_length (shape_in s) (bare_key (key_in (entry_of (client_in current s d)))) in let l = a.busy.most in omega arith))
@@ -111,11 +92,8 @@ module _ {h : Held} {s : List ℕ} {d : ℕ} {w : Write} (a : At h s d (writing 
       let l : length (target w.change) ≡ (shape_in s).columns = rw (← writes_at a.busy) (target_length (shape_in s) (kind c) (key_in (entry_of c))) in
       ap bare_key a.busy.key ∙ plain_bare (target w.change) (let z = a.busy.most in omega arith) ∙ sym a.busy.key
 
-  pub writer_announcements : (p : ℕ) → p ≡ 2 ^ h.columns → p ≡ length (write_labels w)
-  unfolding query_at write_count
-  writer_announcements p e =
-      e ∙ ap (λ (n : ℕ). 2 ^ n) (a.held.columns ∙ sym (query_in_length (shape_in s) (bare_key (key_in (entry_of (client_in current s d))))))
-      ∙ sym (announcement_count_of a.busy)
+  pub writer_announcements : write_count (held_query h) ≡ length (write_labels w)
+  writer_announcements = ap write_count (at_query a) ∙ sym (announcement_count_of a.busy)
 
   pub writer_few : length (write_labels w) ≤ look_room
   writer_few = rw (announcement_count_of a.busy) (unfold query_at in write_count_most _ (let z = query_in_length (shape_in s) (bare_key (key_in (entry_of (client_in current s d)))) in let l = a.busy.most in omega arith))

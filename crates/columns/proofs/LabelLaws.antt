@@ -222,10 +222,6 @@ pub tag_sum : (q : Marked) (to : Turned) (b u d n g w : ℕ) → d ≡ spread 4 
     → u ≡ 2 ^ q.k - 1 → b < 2 ^ q.k → tags (changed_node (turned_term to) (marked_query q) b) + n ≡ 2 * d + g + added to * w
 tag_sum q to b u d n g w ed en eg ew e hb = rw (ed, en, eg, ew, e) (tags_all to 4 q.k q.marks b q.values q.few q.fit hb)
 
-pub spread_most : (r x : ℕ) → r ≡ spread 4 x → r ≤ 16843009
-unfolding spread
-spread_most r x e = omega arith
-
 pub added_most : (to : Turned) (x : ℕ) → added to * x ≤ x
 added_most turned.Wildcard x = omega arith
 added_most turned.Any x = omega arith

@@ -10,7 +10,7 @@ abbrev pub marked_query : Marked → Query
 marked_query q = columns_in q.k q.marks q.values
 
 -- it has k columns, and these marks and the first of these numbers
-pub record IsRead (q : Marked) (k m : ℕ) (vs : List ℕ) : Type 0 where
+pub record IsParsed (q : Marked) (k m : ℕ) (vs : List ℕ) : Type 0 where
   pub columns : q.k ≡ k
   pub marks : q.marks ≡ m
   pub values : q.values ≡ take max_columns vs

@@ -132,7 +132,9 @@ pub fn is_ranged(range: Range) -> bool
 // How many of the numbers behind a key's first are its query's: a range has the last two.
 #[tactic(auto, unfolding(crate::specs::KeyContracts::query_width))]
 pub fn query_width(range: Range) -> usize
-    ensures { result ≡ query_width range }
+    ensures width { result ≡ query_width range }
+    ensures least { max_columns ≤ result }
+    ensures most { result ≤ key_width - 1 }
 {
     match range {
         Range::Between { .. } => Hall::COLUMN_SLOTS,

@@ -20,7 +20,7 @@ pub struct Marked {
 }
 
 impl Marked {
-    ghost use Rattle.columns.specs.MarkedContracts.{marked_query, IsRead};
+    ghost use Rattle.columns.specs.MarkedContracts.{marked_query, IsParsed};
 
     // The query of k columns whose key has these marks and, behind them, these numbers, zeros from where they end. None where no query has that
     // key: a mark past the columns, or a value without a mark.
@@ -29,7 +29,7 @@ impl Marked {
         requires enough { max_columns ≤ length values.now }
         requires within { length values.now ≤ key_width - 1 }
         ensures key { is_some result ≡ is_key (shape_of k) (marks ∷ padded (key_width - 1) values.now) }
-        ensures query { IfSome result (λ m. IsRead m k marks values.now) }
+        ensures query { IfSome result (λ m. IsParsed m k marks values.now) }
     {
         if !keys::is_key(k, marks, values) {
             return None;
@@ -40,14 +40,16 @@ impl Marked {
 
     // How many looks it makes as a read.
     pub fn look_count(&self) -> usize
-        ensures { result ≡ read_count (marked_query self.now) }
+        ensures looks { result ≡ read_count (marked_query self.now) }
+        ensures most { result ≤ Hall.LOOKS }
     {
         keys::look_count(self.k, self.marks)
     }
 
     // How many nodes it has as a write.
     pub fn write_count(&self) -> usize
-        ensures { result ≡ write_count (marked_query self.now) }
+        ensures nodes { result ≡ write_count (marked_query self.now) }
+        ensures most { result ≤ Hall.LOOKS }
     {
         keys::power(self.k) as usize
     }

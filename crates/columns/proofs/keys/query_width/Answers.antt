@@ -3,10 +3,10 @@ use Rattle.query.specs.Range.{is_ranged}
 use Rattle.columns.specs.KeyContracts.{query_width}
 use Rattle.columns.proofs.keys.query_width.Goals as goal
 
-pub returns-in-Between : goal.returns-in-Between
+pub returns-in-Between-clause-width : goal.returns-in-Between-clause-width
 unfolding query_width is_ranged
-returns-in-Between c = rw c.in-Between.is
+returns-in-Between-clause-width c = rw c.in-Between.is
 
-pub returns-in-None : goal.returns-in-None
+pub returns-in-None-clause-width : goal.returns-in-None-clause-width
 unfolding query_width is_ranged
-returns-in-None c = rw c.in-None.is
+returns-in-None-clause-width c = rw c.in-None.is
