@@ -7,6 +7,7 @@ ghost use Rattle.query.specs.Range.{is_range, is_reversed};
 ghost use Rattle.query.specs.Shape.{shape_of, max_columns};
 
 use super::keys;
+use super::queries::Query;
 use hall::Hall;
 use query::Range;
 
@@ -36,6 +37,13 @@ impl Marked {
         }
         let values = [values[0], values[1], values[2], values[3]];
         Some(Marked { k, marks, values })
+    }
+
+    // The query itself, column by column.
+    pub fn query(&self) -> Query
+        ensures { result ≡ marked_query self.now }
+    {
+        Query::of_marks(self.k, self.marks, &self.values)
     }
 
     // How many looks it makes as a read.
