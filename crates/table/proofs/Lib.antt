@@ -1,8 +1,6 @@
 pub mod TableLists
 pub mod TableMemory
 pub mod Passing
-pub mod Skipping
-pub mod Counting
 pub mod Listing
 pub mod Stretches
 pub mod Seeking

@@ -1,119 +1,73 @@
--- Laws of a pass over a stretch of records: where a loop stands in it, a step of some records, its end; and what is kept of the records passed.
--- Leans on the laws of lists and Rows. Assumes nothing.
-use mathlib.Core.Path.{◌≡◌, refl, sym, ap, ◌∙◌, subst}
-use mathlib.Core.Bool.{Bool, true, false, cond, ◌||◌, or-false, or_assoc}
-use mathlib.Core.List.{List, [], ◌∷◌, ◌++◌}
-use Prim.Native.Nat.{ℕ, zero, suc, ◌+◌, ◌*◌, ◌-◌, ◌≤◌, ◌<◌}
-use native.Mathlib.Nat.{add-zero, mul-le-mul_left, one-mul, zero-mul, suc-mul, zero-add, suc-add, add-mul, lt_of_mul-lt-mul_right, le_of_mul-le-mul_right, le_antisymm}
-use native.Mathlib.Omega.{arith}
-use lib.ListN.{length, take, drop, length-drop, length-append}
+-- Laws of a pass over records that stand one after another: what is kept of the records passed, and of one more; and of a pass over blocks of
+-- records, what a block adds. Leans on the laws of lists and Rows. Assumes nothing.
+use Rattle.std.proofs.Common.{◌≡◌, ℕ, suc, ◌+◌, ◌-◌, ◌*◌, ◌/◌, ◌%◌, ◌<◌, ◌≤◌, Bool, true, false, cond, ◌||◌, List, [], ◌∷◌, ◌++◌, map, length, get_or, take, drop, Bor, sym, refl, ap, ◌∙◌, add-zero, add-one, append_assoc, arith, length-append, length-drop, length-take-le, take-append-drop, take_all, drop-cons}
+use Rattle.std.proofs.Math.Nat.{mul-div_cancel, mul-add-div_right, div-mul-le_self, zero-div, div-add-mod', mul-le-mul_left, zero-mul, one-mul, add-mul, mul_assoc}
+use Rattle.std.proofs.lemmas.List.{map-append, get_or_default}
+use mathlib.Core.Bool.{or-false, or_assoc}
+use lib.Seq.{take-add}
 use mir.Val.{bool_byte}
-use lib.Seq.{length-take-le, drop-drop}
 use Rattle.lists.specs.Lists.{rows, keep}
-use Rattle.laws.proofs.ListLaws.{keep_append}
-use Rattle.laws.proofs.RowLaws.{slot, slot_left, rows_snoc, rows_front, keep_row, skip_row}
+use Rattle.laws.proofs.ListLaws.{keep_append, keep_snoc, skip_snoc, keep_le}
+use Rattle.laws.proofs.RowLaws.{Wide, wide_rows, rows_append, length_rows, get_d_rows, slot}
 use Rattle.query.specs.Query.{Record}
 use Rattle.rules.specs.Table.{Table}
-use Rattle.table.specs.TableContracts.{Stretch, test_of, some}
+use Rattle.table.specs.TableContracts.{Block, records_of, some}
 
--- ---- where a loop stands: before record i, or behind the last; P says what holds of the records before it
-pub record Passing (k : ℕ) (s : List ℕ) (at : ℕ) (P : ℕ → Type 0) : Type 0 where
-  pub i : ℕ
-  pub at_is : at ≡ i * k
-  pub within : at ≤ length s
-  pub holds : P i
+-- ---- records that stand one after another
+module _ (k : ℕ) (positive : 0 < k) where
+  pub whole_records : (n : ℕ) (s : List ℕ) → length s ≡ n * k → records_of k s ≡ rows k n s
+  unfolding records_of
+  whole_records n s e = let m : length s / k ≡ n = ap (λ (x : ℕ). x / k) e ∙ mul-div_cancel n positive in rw m
 
-pub same_count : (n k i : ℕ) → 1 ≤ k → i * k ≡ n * k → i ≡ n
-same_count n k i g e =
-    let x : i * k ≤ n * k = omega arith in
-    let y : n * k ≤ i * k = omega arith in
-    le_antisymm (le_of_mul-le-mul_right x g) (le_of_mul-le-mul_right y g)
+  pub records_append : (m : ℕ) (a b : List ℕ) → length a ≡ m * k → records_of k (a ++ b) ≡ records_of k a ++ records_of k b
+  unfolding records_of
+  records_append m a b e =
+      let n : length (a ++ b) / k ≡ m + length b / k = ap (λ (x : ℕ). x / k) (length-append a b ∙ ap (λ (x : ℕ). x + length b) e) ∙ mul-add-div_right positive m (length b) in
+      let w : length a / k ≡ m = ap (λ (x : ℕ). x / k) e ∙ mul-div_cancel m positive in
+      rw (n, w) (rows_append k m (length b / k) a b e)
 
-pub pass_start : (k : ℕ) (s : List ℕ) (P : ℕ → Type 0) → P 0 → Passing k s 0 P
-pass_start k s P h = record { i = 0; at_is = sym (zero-mul k); within = omega arith; holds = h }
+pub wide_records_of : (k : ℕ) (s : List ℕ) → Wide k (records_of k s)
+unfolding records_of
+wide_records_of k s = wide_rows k (length s / k) s (div-mul-le_self (length s) k)
 
-module _ (k : ℕ) (s : List ℕ) (at : ℕ) (P : ℕ → Type 0) (a : Passing k s at P) where
-  -- m records on
-  pub pass_on : (Q : ℕ → Type 0) (m e : ℕ) → e ≡ at + m * k → e ≤ length s → ((i : ℕ) → at ≡ i * k → P i → Q (i + m)) → Passing k s e Q
-  pass_on Q m e x h f = record { i = a.i + m; at_is = omega (arith, add-mul a.i m k, a.at_is); within = h; holds = f a.i a.at_is a.holds }
+-- ---- one turn over chunks of k numbers: the chunk is the next k
+module _ (k : ℕ) (s : List ℕ) (n : ℕ) (x : List ℕ) (t : (n < length (rows k (length s / k) s)) × (x ≡ get_or (rows k (length s / k) s) n x)) where
+  turn_at : n < length s / k
+  turn_at = omega (arith, length_rows k (length s / k) s)
 
-  -- the record that it stands at is whole
-  pub pass_room : Stretch k s → at < length s → at + k ≤ length s
-  pass_room t h =
-      let x : a.i * k < t.n * k = omega (arith, a.at_is, t.whole) in
-      omega (arith, slot k t.n a.i (lt_of_mul-lt-mul_right k x), a.at_is, t.whole)
+  pub chunk_is : x ≡ take k (drop (n * k) s)
+  chunk_is = t.1 ∙ get_or_default (rows k (length s / k) s) n x [] t.0 ∙ get_d_rows k (length s / k) s n turn_at
 
-  -- behind the last
-  pub pass_end : (n : ℕ) → 1 ≤ k → length s ≤ at → length s ≡ n * k → P n
-  pass_end n k₁ h e = subst P (same_count n k a.i k₁ (omega (arith, a.at_is, a.within))) a.holds
+  pub chunk_room : n * k + k ≤ length s
+  chunk_room = omega (arith, slot k (length s / k) n turn_at, div-mul-le_self (length s) k)
 
-  -- as many records passed as numbers at most
-  pub pass_few : 1 ≤ k → a.i ≤ at
-  pass_few h = let x : a.i * 1 ≤ a.i * k = mul-le-mul_left a.i h in omega (arith, a.at_is)
+  pub chunk_long : length x ≡ k
+  chunk_long = ap length chunk_is ∙ length-take-le k (drop (n * k) s) (rw length-drop (let r = chunk_room in omega arith))
 
--- ---- a part of a stretch
-pub length_part : (s : List ℕ) (at e : ℕ) → at ≤ e → e ≤ length s → length (take (e - at) (drop at s)) ≡ e - at
-length_part s at e h g = length-take-le (e - at) (drop at s) (rw length-drop (omega arith))
+  pub chunk_next : take ((n + 1) * k) s ≡ take (n * k) s ++ x
+  chunk_next = let e : (n + 1) * k ≡ n * k + k = omega (arith, add-mul n 1 k, one-mul k) in rw (e, take-add (n * k) k s, ← chunk_is)
 
--- m records from the place of record i on
-module _ (k : ℕ) (s : List ℕ) (i at : ℕ) (x : at ≡ i * k) where
-  pub rows_part : (m e : ℕ) → e ≡ at + m * k → e ≤ length s → rows k m (take (e - at) (drop at s)) ≡ rows k m (drop (i * k) s)
-  rows_part m e y h =
-      let w : e - at ≡ m * k = omega arith in
-      let l : m * k ≤ length (drop (i * k) s) = rw length-drop (omega arith) in
-      rw (w, x) (rows_front k m (drop (i * k) s) l)
+-- ---- the records passed, and one more
+-- what a loop over chunks has met
+abbrev pub met : List (Bor (List ℕ)) → Table
+met ys = map (λ y. y.now) ys
 
-  pub record_part : take (at + k - at) (drop at s) ≡ take k (drop (i * k) s)
-  record_part = let w : at + k - at ≡ k = omega arith in rw (w, x)
+pub met_more : (ys : List (Bor (List ℕ))) (x : Bor (List ℕ)) → met (ys ++ (x ∷ [])) ≡ met ys ++ (x.now ∷ [])
+met_more ys x = map-append (λ y. y.now) ys (x ∷ [])
 
-pub stretch_few : (k : ℕ) (s : List ℕ) → Stretch k s → length s ≤ 8192
-stretch_few k s t =
-    let x : t.n * k ≤ t.n * 4 = mul-le-mul_left t.n t.columns.1 in
-    omega (arith, t.whole, t.few)
-
--- a part of m records is a stretch
-pub stretch_part : (k : ℕ) (s : List ℕ) (at e m : ℕ) → Stretch k s → at ≤ e → e ≤ length s → e ≡ at + m * k → Stretch k (take (e - at) (drop at s))
-stretch_part k s at e m t h g y =
-    let l : length (take (e - at) (drop at s)) ≡ e - at = length_part s at e h g in
-    let w : m * k ≤ t.n * k = omega (arith, t.whole) in
-    record {
-      columns = t.columns;
-      n = m;
-      whole = omega arith;
-      few = (let v : m ≤ t.n = le_of_mul-le-mul_right w t.columns.0 in omega (arith, t.few));
-    }
-
--- what is left of a stretch is one
-pub to_end : (k : ℕ) (s : List ℕ) (at : ℕ) (P : ℕ → Type 0) (t : Stretch k s) (a : Passing k s at P) → length s ≡ at + (t.n - a.i) * k
-to_end k s at P t a =
-    let b : a.i * k ≤ t.n * k = omega (arith, a.at_is, a.within, t.whole) in
-    let i : a.i ≤ t.n = le_of_mul-le-mul_right b t.columns.0 in
-    omega (arith, slot_left k t.n a.i i, a.at_is, t.whole)
-
-pub stretch_rest : (k : ℕ) (s : List ℕ) (at : ℕ) (P : ℕ → Type 0) → Stretch k s → Passing k s at P → Stretch k (take (length s - at) (drop at s))
-stretch_rest k s at P t a = stretch_part k s at (length s) (t.n - a.i) t a.within (omega arith) (to_end k s at P t a)
-
--- ---- the records passed, and m more
-pub rows_add : (k i m : ℕ) (s : List ℕ) → rows k (i + m) s ≡ rows k i s ++ rows k m (drop (i * k) s)
-unfolding rows
-rows_add k zero m s = rw (zero-add, zero-mul)
-rows_add k (suc i) m s =
-    let e : k + i * k ≡ suc i * k = omega (arith, suc-mul i k) in
-    rw suc-add (ap (λ (t : Table). take k s ∷ t) (rows_add k i m (drop k s) ∙ ap (λ (l : List ℕ). rows k i (drop k s) ++ rows k m l) (drop-drop (i * k) k s ∙ ap (λ (n : ℕ). drop n s) e)))
+pub records_are : (k : ℕ) (s : List ℕ) → rows k (length s / k) s ≡ records_of k s
+unfolding records_of
+records_are k s = refl
 
 module _ (p : Record → Bool) where
-  pub keep_add : (k i m : ℕ) (s : List ℕ) → keep p (rows k (i + m) s) ≡ keep p (rows k i s) ++ keep p (rows k m (drop (i * k) s))
-  keep_add k i m s = ap (keep p) (rows_add k i m s) ∙ keep_append p (rows k i s) (rows k m (drop (i * k) s))
-
   pub some_append : (t u : Table) → some p (t ++ u) ≡ some p t || some p u
   unfolding some
   some_append [] u = refl
   some_append (y ∷ t) u = rw (some_append t u) (sym (or_assoc (p y) (some p t) (some p u)))
 
-  some_row : (k i : ℕ) (s : List ℕ) → some p (rows k (i + 1) s) ≡ some p (rows k i s) || p (take k (drop (i * k) s))
+  pub some_more : (t : Table) (x : Record) (b r : Bool) → b ≡ some p t → r ≡ p x → b || r ≡ some p (t ++ (x ∷ []))
   unfolding some
-  some_row k i s =
-      ap (some p) (rows_snoc k i s) ∙ some_append (rows k i s) (take k (drop (i * k) s) ∷ []) ∙ ap (λ (b : Bool). some p (rows k i s) || b) (or-false (p (take k (drop (i * k) s))))
+  some_more t x b r e f = rw (some_append t (x ∷ []), e, f) (ap (λ (c : Bool). some p t || c) (sym (or-false (p x))))
 
   pub none_kept : (t : Table) → some p t ≡ false → keep p t ≡ []
   unfolding some keep
@@ -124,54 +78,98 @@ module _ (p : Record → Bool) where
       go true e f = absurd (let z : ◌≡◌ {A = ℕ} 0 1 = cc in omega arith)
       go false e f = f e
 
--- ---- a test as a number
-pub bit_most : (b : Bool) → bool_byte b ≤ 1
-bit_most true = omega arith
-bit_most false = omega arith
+  -- a test as a number
+  pub kept_more : (t : Table) (x : Record) (r : Bool) (b : ℕ) → r ≡ p x → b ≡ bool_byte r → length (keep p (t ++ (x ∷ []))) ≡ length (keep p t) + b
+  kept_more t x true b e f = ap length (keep_snoc p t x (sym e)) ∙ length-append (keep p t) (x ∷ []) ∙ rw f
+  kept_more t x false b e f = ap length (skip_snoc p t x (sym e)) ∙ sym (rw f (add-zero _))
 
-pub bit_wide : (r : Bool) (k : ℕ) → bool_byte r * k ≤ k
-bit_wide true k = omega (arith, one-mul k)
-bit_wide false k = omega (arith, zero-mul k)
+  pub kept_few : (t : Table) → length (keep p t) ≤ length t
+  kept_few t = keep_le p t
 
-pub kept_more : (p : Record → Bool) (k i : ℕ) (s : List ℕ) (r : Bool) → r ≡ p (take k (drop (i * k) s))
-    → length (keep p (rows k (i + 1) s)) ≡ length (keep p (rows k i s)) + bool_byte r
-kept_more p k i s true e = ap length (keep_row p k i s (sym e)) ∙ length-append (keep p (rows k i s)) _
-kept_more p k i s false e = ap length (skip_row p k i s (sym e)) ∙ sym (add-zero _)
+pub bit_most : (r : Bool) (b : ℕ) → b ≡ bool_byte r → b ≤ 1
+bit_most true b e = omega arith
+bit_most false b e = omega arith
 
--- ---- the record test, made on the part where a loop stands
-module _ (g : Bool) (l s : List ℕ) (k at : ℕ) (t : Stretch k s) (h : at < length s) (r : Bool) where
-  abbrev part : List ℕ
-  part = take (at + k - at) (drop at s)
+-- ---- passes over blocks
+-- as many numbers as a block has
+pub block_wide : (size k : ℕ) → Block size → (1 ≤ k) × (k ≤ 4) → (1 ≤ size * k) × (size * k ≤ 64)
+block_wide size k a b =
+    let x : size * 1 ≤ size * k = mul-le-mul_left size b.0 in
+    let y : size * k ≤ size * 4 = mul-le-mul_left size b.1 in
+    (omega (arith, a.some), omega (arith, a.few))
 
-  abbrev p : Record → Bool
-  p = test_of g k l
+-- one block of w numbers more
+module _ (k : ℕ) (positive : 0 < k) (size : ℕ) (s : List ℕ) (n : ℕ) (x : List ℕ)
+    (t : (n < length (rows (size * k) (length s / (size * k)) s)) × (x ≡ get_or (rows (size * k) (length s / (size * k)) s) n x)) where
+  front_long : length (take (n * (size * k)) s) ≡ n * size * k
+  front_long = length-take-le (n * (size * k)) s (let r = chunk_room (size * k) s n x t in omega arith) ∙ sym (mul_assoc n size k)
 
-  module _ (P : ℕ → Type 0) (a : Passing k s at P) (x : r ≡ test_of g (length part) l part) where
-    pub answer_is : (i : ℕ) → at ≡ i * k → r ≡ p (take k (drop (i * k) s))
-    answer_is i e =
-        let g : at + k ≤ length s = pass_room k s at P a t h in
-        let w : length part ≡ k = length_part s at (at + k) (omega arith) g ∙ (let z : at + k - at ≡ k = omega arith in z) in
-        x ∙ rw w (ap p (record_part k s i at e))
+  pub block_more : records_of k (take ((n + 1) * (size * k)) s) ≡ records_of k (take (n * (size * k)) s) ++ records_of k x
+  block_more = ap (records_of k) (chunk_next (size * k) s n x t) ∙ records_append k positive (n * size) (take (n * (size * k)) s) x front_long
 
-    pub pass_one : (Q : ℕ → Type 0) → ((i : ℕ) → at ≡ i * k → r ≡ p (take k (drop (i * k) s)) → P i → Q (i + 1)) → Passing k s (at + k) Q
-    pass_one Q f = pass_on k s at P a Q 1 (at + k) (omega (arith, one-mul k)) (pass_room k s at P a t h) (λ i e y. f i e (answer_is i e) y)
+  -- and what comes behind it
+  pub block_rest : records_of k s ≡ (records_of k (take (n * (size * k)) s) ++ records_of k x) ++ records_of k (drop ((n + 1) * (size * k)) s)
+  block_rest =
+      let r : (n + 1) * (size * k) ≤ length s = (let y = chunk_room (size * k) s n x t in omega (arith, add-mul n 1 (size * k), one-mul (size * k))) in
+      let l : length (take ((n + 1) * (size * k)) s) ≡ (n + 1) * size * k = length-take-le ((n + 1) * (size * k)) s r ∙ sym (mul_assoc (n + 1) size k) in
+      ap (records_of k) (sym (take-append-drop ((n + 1) * (size * k)) s))
+      ∙ records_append k positive ((n + 1) * size) (take ((n + 1) * (size * k)) s) (drop ((n + 1) * (size * k)) s) l
+      ∙ ap (λ (u : Table). u ++ records_of k (drop ((n + 1) * (size * k)) s)) block_more
 
-  pub some_turn : (b : Bool) (a : Passing k s at (λ i. b ≡ some p (rows k i s))) → r ≡ test_of g (length part) l part
-      → Passing k s (at + k) (λ i. b || r ≡ some p (rows k i s))
-  some_turn b a x = pass_one _ a x _ (λ i _ e y. rw (some_row p k i s, ← e, ← y))
+-- before the first block there is none
+pub no_records : (k w : ℕ) (s : List ℕ) → records_of k (take (0 * w) s) ≡ []
+unfolding records_of rows
+no_records k w s = rw (zero-mul w, zero-div k)
 
-  pub count_turn : (j : ℕ) → Passing k s at (λ i. (j ≤ i) × (j ≡ length (keep p (rows k i s)))) → r ≡ test_of g (length part) l part
-      → Passing k s (at + k) (λ i. (j + bool_byte r ≤ i) × (j + bool_byte r ≡ length (keep p (rows k i s))))
-  count_turn j a x = pass_one _ a x _ (λ i _ e y. (omega (arith, bit_most r, y.0), ap (λ (n : ℕ). n + bool_byte r) y.1 ∙ sym (kept_more p k i s r e)))
+-- behind n blocks of size records
+pub blocks_rest : (k : ℕ) → 0 < k → (size n : ℕ) (s : List ℕ) → n * (size * k) ≤ length s → records_of k s ≡ records_of k (take (n * (size * k)) s) ++ records_of k (drop (n * (size * k)) s)
+blocks_rest k positive size n s h =
+    let l : length (take (n * (size * k)) s) ≡ n * size * k = length-take-le (n * (size * k)) s h ∙ sym (mul_assoc n size k) in
+    ap (records_of k) (sym (take-append-drop (n * (size * k)) s)) ∙ records_append k positive (n * size) (take (n * (size * k)) s) (drop (n * (size * k)) s) l
 
--- ---- a pass for c columns is one for k, where these are the same
-module _ (k c : ℕ) (s : List ℕ) (e : k ≡ c) where
-  pub stretch_for : Stretch k s → Stretch c s
-  stretch_for t = subst (λ (m : ℕ). Stretch m s) e t
+-- what makes no whole block
+pub blocks_all : (k : ℕ) → 0 < k → (size n : ℕ) (s : List ℕ) → n ≡ length (rows (size * k) (length s / (size * k)) s)
+    → records_of k s ≡ records_of k (take (n * (size * k)) s) ++ records_of k (drop (length s - length s % (size * k)) s)
+blocks_all k positive size n s e =
+    let m : n ≡ length s / (size * k) = e ∙ length_rows (size * k) (length s / (size * k)) s in
+    let q : n * (size * k) ≡ length s / (size * k) * (size * k) = ap (λ (x : ℕ). x * (size * k)) m in
+    let d : length s / (size * k) * (size * k) + length s % (size * k) ≡ length s = div-add-mod' (length s) (size * k) in
+    let r : length s - length s % (size * k) ≡ n * (size * k) = omega arith in
+    rw r (blocks_rest k positive size n s (omega arith))
 
-  pub given_for : {A : Type 0} (l : ℕ → ℕ → A) (r : A) → ((n : ℕ) → length s ≡ n * c → r ≡ l c n) → (n : ℕ) → length s ≡ n * k → r ≡ l k n
-  given_for l r x = subst (λ (m : ℕ). (n : ℕ) → length s ≡ n * m → r ≡ l m n) (sym e) x
+-- the blocks that a pass has gone over, none of whose records passes the test
+pub record Passed (p : Record → Bool) (k w : ℕ) (s : List ℕ) (n at : ℕ) : Type 0 where
+  pub at_is : at ≡ n * w
+  pub within : at ≤ length s
+  pub none : keep p (records_of k (take (n * w) s)) ≡ []
 
--- what is neither 4 nor 3 nor 2
-pub width_one : (k : ℕ) → (1 ≤ k) × (k ≤ 4) → (k ≡ 4 → ⊥) → (k ≡ 3 → ⊥) → (k ≡ 2 → ⊥) → k ≡ 1
-width_one k h a b d = omega (arith, h.0, h.1)
+pub passed_none : (p : Record → Bool) (k w : ℕ) (s : List ℕ) → Passed p k w s 0 0
+unfolding keep
+passed_none p k w s = record { at_is = sym (zero-mul w); within = omega arith; none = rw (no_records k w s) }
+
+module _ (p : Record → Bool) (k : ℕ) (positive : 0 < k) (size : ℕ) (s : List ℕ) (n at : ℕ) (a : Passed p k (size * k) s n at) where
+  pub passed_more : (x : List ℕ) → (n < length (rows (size * k) (length s / (size * k)) s)) × (x ≡ get_or (rows (size * k) (length s / (size * k)) s) n x)
+      → (r : Bool) → r ≡ some p (records_of k x) → r ≡ false → Passed p k (size * k) s (n + 1) (at + size * k)
+  passed_more x t r e f =
+      let c = chunk_room (size * k) s n x t in
+      let g : keep p (records_of k x) ≡ [] = none_kept p (records_of k x) (sym e ∙ f) in
+      record {
+        at_is = omega (arith, add-mul n 1 (size * k), one-mul (size * k), a.at_is);
+        within = omega (arith, a.at_is);
+        none = ap (keep p) (block_more k positive size s n x t) ∙ keep_append p _ (records_of k x) ∙ rw (a.none, g);
+      }
+
+  -- what is kept stands behind the blocks
+  pub passed_rest : keep p (records_of k (take (length s - at) (drop at s))) ≡ keep p (records_of k s)
+  passed_rest =
+      let h = a.within in
+      let d : take (length s - at) (drop at s) ≡ drop at s = take_all (length s - at) (drop at s) (rw length-drop (omega arith)) in
+      let e : n * (size * k) ≤ length s = omega (arith, a.at_is) in
+      rw (d, a.at_is) (sym (ap (keep p) (blocks_rest k positive size n s e) ∙ keep_append p _ (records_of k (drop (n * (size * k)) s)) ∙ rw a.none))
+
+-- all chunks, where those met and the next are known
+pub met_split : (all : Table) (ys : List (Bor (List ℕ))) (x : Record) → met ys ≡ take (length ys) all → (length ys < length all) × (x ≡ get_or all (length ys) x)
+    → all ≡ (met ys ++ (x ∷ [])) ++ drop (length ys + 1) all
+met_split all ys x e t =
+    let d : drop (length ys) all ≡ x ∷ drop (suc (length ys)) all = drop-cons all (length ys) x t.0 ∙ ap (λ (y : Record). y ∷ drop (suc (length ys)) all) (sym t.1) in
+    sym (take-append-drop (length ys) all) ∙ rw (← e, d, add-one) (sym (append_assoc (met ys) (x ∷ []) (drop (suc (length ys)) all)))

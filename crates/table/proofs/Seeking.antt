@@ -3,31 +3,34 @@
 use mathlib.Core.Path.{◌≡◌, refl, sym, ap, ◌∙◌}
 use mathlib.Core.Bool.{Bool, true, false}
 use mathlib.Core.List.{List, [], ◌∷◌, ◌++◌}
-use Prim.Native.Nat.{ℕ, ◌+◌, ◌*◌, ◌≤◌, ◌<◌}
-use native.Mathlib.Nat.{zero-mul, add-zero}
+use Prim.Native.Nat.{ℕ, ◌+◌, ◌*◌, ◌/◌, ◌≤◌, ◌<◌}
+use native.Mathlib.Nat.{add-zero}
 use native.Mathlib.Numerals.{add-one}
 use native.Mathlib.Omega.{arith}
+use mir.Val.{bool_byte}
 use lib.Dec.{eqb}
 use lib.ListN.{length, get_or, take, drop, set}
+use Rattle.std.proofs.lemmas.List.{get_or_default}
 use lib.Seq.{take_all, take-suc, length-take-le}
 use borrow.Author.Tests.{eqb-true, eqb-false}
-use Rattle.lists.specs.Lists.{before, place}
+use Rattle.std.proofs.Common.{Option, Some, None, Less, Equal, Greater, is_eq, is_gt}
+use Rattle.std.specs.List.{enumerate_from}
+use Rattle.lists.specs.Lists.{before, place, rows}
 use Rattle.laws.specs.Splice.{inserted}
 use Rattle.laws.proofs.TestLaws.{by_test}
 use Rattle.laws.proofs.SearchLaws.{place_le, place_here, place_later}
-use Rattle.laws.proofs.RowLaws.{slot_next}
 use Rattle.query.specs.Query.{Record}
 use Rattle.rules.specs.Layout.{max_records, record_count_offset}
 use Rattle.rules.specs.Table.{Table, has, insert, effect}
 use Rattle.rules.specs.Memory.{records_in, with_records}
 use Rattle.records.proofs.RecordWrites.{insert_places, effect_there, effect_full, effect_put}
-use Rattle.words.specs.declared.Order.TheVariants.{Before, Same, After}
-use Rattle.words.specs.WordContracts.{order_of, is_same, is_after}
-use Rattle.words.proofs.CompareLoops.{same_is, above_is, to_same}
+use Rattle.words.specs.WordContracts.{order_of}
+use Rattle.words.proofs.CompareLaws.{same_is, above_is, to_same}
 use Rattle.table.specs.declared.Inserted.TheVariants.{Added, Present, Full}
-use Rattle.table.specs.declared.Spot.{Spot}
-use Rattle.table.specs.declared.Spot.TheVariants.{There, At}
-use Rattle.table.specs.TableContracts.{Fit, spot_of, inserted_as}
+use Rattle.columns.proofs.ChunkLaws.{counted_turn}
+use Rattle.table.specs.TableContracts.{Fit, lent, spot_of, inserted_as}
+use Rattle.table.proofs.Passing.{records_are, chunk_long}
+use Rattle.table.proofs.Stretches.{lent_records}
 use Rattle.table.proofs.TableLists.{has_snoc, has_at, place_front, place_behind, is_there, goes_before, spot_there, spot_before, as_present, as_full, as_added}
 use Rattle.rules.proofs.MemoryLaws.{length_records}
 use Rattle.table.proofs.TableMemory.{with_records_law, with_inserted}
@@ -48,72 +51,82 @@ module _ {A : Type 0} (p : A → Bool) (l : List A) (x : A) where
       (λ z. place_stays (eqb-false _ _ z))
 
 -- where the loop stands: none of the first i records is r, and its spot among them is known
-pub record Seeking (r : Record) (t : Table) (k n i at spot : ℕ) : Type 0 where
-  pub le : i ≤ n
-  pub at_is : at ≡ 8 + i * k
+pub record Seeking (r : Record) (t : Table) (i spot : ℕ) : Type 0 where
   pub none : has r (take i t) ≡ false
   pub spot_is : spot ≡ place (before r) (take i t)
 
-pub seek_none : (r : Record) (t : Table) (k n : ℕ) → Seeking r t k n 0 8 0
+pub seek_none : (r : Record) (t : Table) → Seeking r t 0 0
 unfolding has place
-seek_none r t k n = record { le = omega arith; at_is = omega (arith, zero-mul k); none = refl; spot_is = refl }
+seek_none r t = record { none = refl; spot_is = refl }
 
--- x: the record that the scan stands at, o: how it stands to r
-module _ (r : Record) (t : Table) (k n i at spot : ℕ) (a : Seeking r t k n i at spot) (h : i < n) (g : length t ≡ n) (x : Record) (y : x ≡ get_or t i []) (w : length x ≡ length r) where
+-- x: the record that the scan stands at
+module _ (r : Record) (t : Table) (i spot : ℕ) (a : Seeking r t i spot) (h : i < length t) (x : Record) (y : x ≡ get_or t i x) (w : length x ≡ length r) where
   last_is : take (i + 1) t ≡ take i t ++ (x ∷ [])
-  last_is = let l : i < length t = omega arith in rw (add-one, y) (take-suc t i [] l)
+  last_is = rw add-one (take-suc t i x h) ∙ ap (λ (z : Record). take i t ++ (z ∷ [])) (sym y)
 
   upto : length (take i t) ≡ i
   upto = length-take-le i t (omega arith)
 
-  turn : (spot' : ℕ) → is_same (order_of x r) ≡ false → spot' ≡ place (before r) (take i t ++ (x ∷ [])) → Seeking r t k n (i + 1) (at + k) spot'
+  pub spot_few : spot ≤ i
+  spot_few = let u = upto in let p = place_le (before r) (take i t) in omega (arith, a.spot_is)
+
+  turn : (spot' : ℕ) → is_eq (order_of x r) ≡ false → spot' ≡ place (before r) (take i t ++ (x ∷ [])) → Seeking r t (i + 1) spot'
   turn spot' e f =
       record {
-        le = omega arith;
-        at_is = omega (arith, slot_next k i, a.at_is);
         none = rw last_is (has_snoc r (take i t) x a.none (same_is x r ∙ e));
         spot_is = f ∙ ap (place (before r)) (sym last_is);
       }
 
-  greater : before r x ≡ is_after (order_of x r)
+  greater : before r x ≡ is_gt (order_of x r)
   greater = above_is x r w
 
-  pub turn_behind : (spot' : ℕ) → order_of x r ≡ Before → spot ≡ i → spot' ≡ spot + 1 → Seeking r t k n (i + 1) (at + k) spot'
-  turn_behind spot' o e f =
+  pub turn_less : (b : ℕ) → order_of x r ≡ Less → b ≡ bool_byte (eqb spot i) → Seeking r t (i + 1) (spot + b)
+  turn_less b o f =
       let u = upto in
-      let b : place (before r) (take i t) ≡ length (take i t) = sym a.spot_is ∙ e ∙ sym u in
-      let d : place (before r) (take i t ++ (x ∷ [])) ≡ length (take i t) + 1 = place_on (before r) (take i t) x b (greater ∙ ap is_after o) in
-      turn spot' (ap is_same o) (omega arith)
+      by_test (eqb spot i)
+      (λ z. let g : place (before r) (take i t) ≡ length (take i t) = sym a.spot_is ∙ eqb-true spot i z ∙ sym u in
+      let d : place (before r) (take i t ++ (x ∷ [])) ≡ length (take i t) + 1 = place_on (before r) (take i t) x g (greater ∙ ap is_gt o) in
+      let c : b ≡ 1 = f ∙ ap bool_byte z in
+      turn (spot + b) (ap is_eq o) (let e = eqb-true spot i z in omega arith))
+      (λ z. let c : b ≡ 0 = f ∙ ap bool_byte z in
+      turn (spot + b) (ap is_eq o) (rw (c, add-zero) (a.spot_is ∙ sym (place_stays (before r) (take i t) x (λ e. eqb-false spot i z (a.spot_is ∙ e ∙ upto))))))
 
-  pub turn_past : (spot' : ℕ) → order_of x r ≡ Before → (spot ≡ i → ⊥) → spot' ≡ spot → Seeking r t k n (i + 1) (at + k) spot'
-  turn_past spot' o e f =
-      turn spot' (ap is_same o) (f ∙ a.spot_is ∙ sym (place_stays (before r) (take i t) x (λ z. e (a.spot_is ∙ z ∙ upto))))
+  pub turn_greater : order_of x r ≡ Greater → Seeking r t (i + 1) spot
+  turn_greater o = turn spot (ap is_eq o) (a.spot_is ∙ sym (place_greater (before r) (take i t) x (greater ∙ ap is_gt o)))
 
-  pub turn_greater : (spot' : ℕ) → order_of x r ≡ After → spot' ≡ spot → Seeking r t k n (i + 1) (at + k) spot'
-  turn_greater spot' o f = turn spot' (ap is_same o) (f ∙ a.spot_is ∙ sym (place_greater (before r) (take i t) x (greater ∙ ap is_after o)))
+  pub seek_there : order_of x r ≡ Equal → None ≡ spot_of r t
+  seek_there o = sym (is_there r t (has_at r t i h (rw (y ∙ default) at (to_same x r o))))
+    where
+      default : get_or t i x ≡ get_or t i []
+      default = get_or_default t i x [] h
 
-  pub seek_there : order_of x r ≡ Same → There ≡ spot_of r t
-  seek_there o =
-      let l : i < length t = omega arith in
-      sym (is_there r t (has_at r t i l (rw y at (to_same x r o))))
+-- one turn over the table's records, which are counted
+pub scan_at : (r : Record) (s : List ℕ) (f : Fit (length r) s) (n i : ℕ) (x : Record)
+    → (let l = lent (length r) s in let t = rows (length r) (length l / length r) l in (n < length (enumerate_from 0 t)) × ((i, x) ≡ get_or (enumerate_from 0 t) n (i, x)))
+    → (let t = records_in (length r) s in (n < length t) × (i ≡ n) × (x ≡ get_or t n x) × (length x ≡ length r))
+scan_at r s f n i x t =
+    let l = lent (length r) s in
+    let u = counted_turn (rows (length r) (length l / length r) l) n i x t in
+    let e = records_are (length r) l ∙ lent_records (length r) s f in
+    (rw e at u.0, u.1, rw e at u.2, chunk_long (length r) l n x (u.0, u.2))
 
 -- all records passed
-pub seek_all : (r : Record) (t : Table) (k n i at spot : ℕ) → Seeking r t k n i at spot → n ≤ i → length t ≡ n → At spot ≡ spot_of r t
-seek_all r t k n i at spot a h g =
+pub seek_all : (r : Record) (t : Table) (i spot : ℕ) → Seeking r t i spot → i ≡ length t → Some spot ≡ spot_of r t
+seek_all r t i spot a h =
     let e : take i t ≡ t = take_all i t (omega arith) in
-    rw e at (ap At a.spot_is) ∙ sym (goes_before r t (rw e at a.none))
+    rw e at (ap Some a.spot_is) ∙ sym (goes_before r t (rw e at a.none))
 
 -- ---- the insert, where the scan has given its spot
-module _ (s : List ℕ) (r : Record) (f : Fit (length r) s) (p : Spot) (e : p ≡ spot_of r (records_in (length r) s)) where
+module _ (s : List ℕ) (r : Record) (f : Fit (length r) s) (p : Option ℕ) (e : p ≡ spot_of r (records_in (length r) s)) where
   kept : effect (insert r) (records_in (length r) s) ≡ records_in (length r) s → s ≡ with_records (length r) s (effect (insert r) (records_in (length r) s))
   kept x = sym (ap (with_records (length r) s) x ∙ with_records_law (length r) s f)
 
-  pub insert_there : p ≡ There → (Present ≡ inserted_as r (records_in (length r) s)) × (s ≡ with_records (length r) s (effect (insert r) (records_in (length r) s)))
+  pub insert_there : p ≡ None → (Present ≡ inserted_as r (records_in (length r) s)) × (s ≡ with_records (length r) s (effect (insert r) (records_in (length r) s)))
   insert_there x =
       let h : has r (records_in (length r) s) ≡ true = spot_there r _ (sym e ∙ x) in
       (sym (as_present r _ h), kept (effect_there r _ h))
 
-  module _ (i : ℕ) (x : p ≡ At i) where
+  module _ (i : ℕ) (x : p ≡ Some i) where
     pub spot_in : i ≤ get_or s record_count_offset 0
     spot_in =
         let b : i ≡ place (before r) (records_in (length r) s) = (spot_before r _ i (sym e ∙ x)).1 in

@@ -6,9 +6,10 @@ use mathlib.Core.List.{List, [], ◌∷◌, ◌++◌}
 use Prim.Native.Nat.{ℕ, zero, suc, ◌+◌, ◌-◌, ◌≤◌, ◌<◌}
 use native.Mathlib.Nat.{zero-add, suc-add, le_of_suc-le-suc, not-suc-le-zero}
 use native.Mathlib.Omega.{arith}
-use lib.Dec.{eqb, ltb, leb}
+use Rattle.std.proofs.Common.{Option, Some, None}
+use lib.Dec.{eqb, leb}
 use lib.ListN.{length, get_or}
-use borrow.Author.Tests.{eq-eqb, ne_eqb, eqb-true, eqb-false, le-leb, lt-leb, leb-true, leb-false, lt-ltb}
+use borrow.Author.Tests.{eq-eqb, ne_eqb, eqb-true, eqb-false, le-leb, lt-leb, leb-true, leb-false}
 use Rattle.lists.specs.Lists.{same, before, keep, place}
 use Rattle.laws.proofs.TestLaws.{by_test}
 use Rattle.laws.proofs.ListLaws.{keep_le}
@@ -19,8 +20,7 @@ use Rattle.rules.specs.Table.{Table, list_of, has, insert, delete, is_full, outs
 use Rattle.records.proofs.RecordWrites.{length_put, effect_there, effect_full, effect_put}
 use Rattle.records.proofs.RecordSets.{two_parts}
 use Rattle.table.specs.declared.Inserted.TheVariants.{Added, Present, Full}
-use Rattle.table.specs.declared.Spot.TheVariants.{There, At}
-use Rattle.table.specs.TableContracts.{gathered, spot_of, inserted_as, is_added, had_no_room, gone}
+use Rattle.table.specs.TableContracts.{up_to, gathered, spot_of, inserted_as, is_added, had_no_room, gone}
 
 -- ---- what is in a table
 pub has_append : (r : Record) (a b : Table) → has r (a ++ b) ≡ has r a || has r b
@@ -61,28 +61,28 @@ module _ {A : Type 0} (p : A → Bool) where
           place_later p x (a ++ b) e ∙ ap suc (r (omega arith)) ∙ sym (suc-add (length a) (place p b))
 
 -- ---- what is reported
-pub spot_there : (r : Record) (t : Table) → spot_of r t ≡ There → has r t ≡ true
+pub spot_there : (r : Record) (t : Table) → spot_of r t ≡ None → has r t ≡ true
 unfolding spot_of
 spot_there r t e = go (has r t) e
   where
-    go : (c : Bool) → cond c There (At (place (before r) t)) ≡ There → c ≡ true
+    go : (c : Bool) → cond c None (Some (place (before r) t)) ≡ None → c ≡ true
     go true e = refl
     go false e = absurd (let z : ◌≡◌ {A = ℕ} 0 1 = cc in omega arith)
 
-pub spot_before : (r : Record) (t : Table) (i : ℕ) → spot_of r t ≡ At i → (has r t ≡ false) × (i ≡ place (before r) t)
+pub spot_before : (r : Record) (t : Table) (i : ℕ) → spot_of r t ≡ Some i → (has r t ≡ false) × (i ≡ place (before r) t)
 unfolding spot_of
 spot_before r t i e = go (has r t) e
   where
-    go : (c : Bool) → cond c There (At (place (before r) t)) ≡ At i → (c ≡ false) × (i ≡ place (before r) t)
+    go : (c : Bool) → cond c None (Some (place (before r) t)) ≡ Some i → (c ≡ false) × (i ≡ place (before r) t)
     go true e = absurd (let z : ◌≡◌ {A = ℕ} 0 1 = cc in omega arith)
     go false e = (refl, cc)
 
 module _ (r : Record) (t : Table) where
-  pub is_there : has r t ≡ true → spot_of r t ≡ There
+  pub is_there : has r t ≡ true → spot_of r t ≡ None
   unfolding spot_of
   is_there e = rw e
 
-  pub goes_before : has r t ≡ false → spot_of r t ≡ At (place (before r) t)
+  pub goes_before : has r t ≡ false → spot_of r t ≡ Some (place (before r) t)
   unfolding spot_of
   goes_before e = rw e
 
@@ -146,19 +146,37 @@ module _ (q : Query) (t : Table) where
   unfolding no_room
   delete_no_room = refl
 
--- how many a read lists, and whether they are too many
+-- how many a read lists, if they are not too many
+pub up_to_few : (n : ℕ) → n ≤ max_list → up_to n ≡ Some n
+unfolding up_to
+up_to_few n h = rw (le-leb n max_list h)
+
+pub up_to_many : (n : ℕ) → max_list < n → up_to n ≡ None
+unfolding up_to
+up_to_many n h = rw (lt-leb n max_list h)
+
 module _ (l : List Record) where
-  pub gathered_few : length l ≤ max_list → gathered l ≡ length l
+  pub gathered_few : length l ≤ max_list → gathered l ≡ Some (length l)
   unfolding gathered
-  gathered_few h = rw (le-leb (length l) max_list h)
+  gathered_few h = up_to_few (length l) h
 
-  pub gathered_many : max_list < length l → gathered l ≡ suc max_list
+  pub gathered_many : max_list < length l → gathered l ≡ None
   unfolding gathered
-  gathered_many h = rw (lt-leb (length l) max_list h)
+  gathered_many h = up_to_many (length l) h
 
-  pub gathered_long : ltb max_list (gathered l) ≡ ltb max_list (length l)
-  gathered_long =
+  -- the other way about
+  module _ (n : ℕ) (e : Some n ≡ gathered l) where
+    pub gathered_some : (length l ≡ n) × (n ≤ max_list)
+    gathered_some =
+        by_test (leb (length l) max_list)
+        (λ t. let h : length l ≤ max_list = leb-true (length l) max_list t in
+        let z : Some n ≡ Some (length l) = e ∙ gathered_few h in
+        let y : n ≡ length l = cc in
+        (sym y, omega arith))
+        (λ t. absurd (let z : Some n ≡ None = e ∙ gathered_many (leb-false (length l) max_list t) in let y : ◌≡◌ {A = ℕ} 0 1 = cc in omega arith))
+
+  pub gathered_none : None ≡ gathered l → max_list < length l
+  gathered_none e =
       by_test (leb (length l) max_list)
-      (λ e. ap (ltb max_list) (gathered_few (leb-true (length l) max_list e)))
-      (λ e. let h : max_list < length l = leb-false (length l) max_list e in
-      ap (ltb max_list) (gathered_many h) ∙ sym (lt-ltb max_list (length l) h))
+      (λ t. absurd (let z : ◌≡◌ {A = Option ℕ} None (Some (length l)) = e ∙ gathered_few (leb-true (length l) max_list t) in let y : ◌≡◌ {A = ℕ} 0 1 = cc in omega arith))
+      (λ t. leb-false (length l) max_list t)

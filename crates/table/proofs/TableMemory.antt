@@ -1,18 +1,16 @@
 -- Laws of a table memory that is fit: where its records lie, what a scan of them reads, and that other records written back keep it fit.
 -- Leans on the definitions of rules, on its laws of the memories, on the laws of entries and rows and on those of records. Assumes nothing.
-use mathlib.Core.Path.{◌≡◌, sym, ◌∙◌}
-use mathlib.Core.Bool.{Bool, false}
+use mathlib.Core.Path.{◌≡◌}
+use mathlib.Core.Bool.{false}
 use mathlib.Core.List.{List, [], ◌∷◌, ◌++◌}
-use Prim.Native.Nat.{ℕ, ◌+◌, ◌*◌, ◌-◌, ◌≤◌, ◌<◌}
+use Prim.Native.Nat.{ℕ, ◌+◌, ◌*◌, ◌≤◌, ◌<◌}
 use native.Mathlib.Nat.{mul-le-mul_left, mul-le-mul_right}
 use native.Mathlib.Omega.{arith}
-use lib.ListN.{length, get_or, take, drop, set, length-drop}
-use lib.Seq.{length-take-le}
+use lib.ListN.{length, get_or, take, drop, set}
 use Rattle.laws.specs.Splice.{inserted}
 use Rattle.laws.proofs.RowLaws.{slot, Wide, wide_keep}
 use Rattle.laws.proofs.EntryLaws.{entry_at, with_insert, with_self}
 use Rattle.query.specs.Query.{Query, Record, lies}
-use Rattle.columns.specs.MaskContracts.{query_under}
 use Rattle.query.specs.Shape.{max_columns}
 use Rattle.rules.specs.Layout.{max_records, table_least, record_count_offset}
 use Rattle.rules.specs.Table.{Table, list_of, Change, effect}
@@ -70,25 +68,6 @@ wide_records k s f = rules.wide_records k s f.columns.1 f.long f.few
 pub wide_list : (k : ℕ) (s : List ℕ) (q : Query) → Fit k s → Wide k (list_of q (records_in k s))
 unfolding list_of
 wide_list k s q f = wide_keep k (lies q) (records_in k s) (wide_records k s f)
-
--- a scan that stands at record i, whose first number is at `at`; m is the memory, or one that has not changed from there on
-module _ (k : ℕ) (s m : List ℕ) (i at : ℕ) (f : Fit k s) (h : i < get_or s record_count_offset 0) (e : at ≡ 8 + i * k) (d : drop at m ≡ drop at s) where
-  pub part_is : take (at + k - at) (drop at m) ≡ get_or (records_in k s) i []
-  part_is =
-      let w : at + k - at ≡ k = omega arith in
-      rw (d, w, e) (sym (record_at k s i h))
-
-  pub part_long : length (take (at + k - at) (drop at m)) ≡ k
-  part_long =
-      let w : at + k - at ≡ k = omega arith in
-      let b : 8 + i * k + k ≤ table_least = slot_in k s i f h in
-      let l = f.long in
-      rw (d, w) (length-take-le k (drop at s) (rw length-drop (omega arith)))
-
-  -- the record test, where a caller made it on the part
-  pub tested : (q : List ℕ) (r : Bool) → r ≡ lies (query_under (length (take (at + k - at) (drop at m))) q) (take (at + k - at) (drop at m))
-      → r ≡ lies (query_under k q) (get_or (records_in k s) i [])
-  tested q r x = x ∙ rw (part_long, part_is)
 
 -- ---- what is written
 pub with_records_law : (k : ℕ) (s : List ℕ) → Fit k s → with_records k s (records_in k s) ≡ s
