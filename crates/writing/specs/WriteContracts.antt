@@ -67,10 +67,10 @@ report_of Present = Unchanged
 report_of NoRoom = Full
 
 -- after a raise: the last one ends the write
-unfoldable pub raise_end : Bool → Client → Outcome
+abbrev pub raise_end : Bool → Client → Outcome
 raise_end is_last c = cond is_last (end_of c) Accepted
 
-unfoldable pub raise_left : Bool → Client → Client
+abbrev pub raise_left : Bool → Client → Client
 raise_left is_last c = cond is_last idle (stepped c)
 
 -- ---- marks taken off, by the labels of the nodes and by their places

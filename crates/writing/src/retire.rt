@@ -29,9 +29,10 @@ pub fn can_retire(
     ensures refusal { IfErr result (λ refusal. refusal ≡ Unsound) }
 {
     let mut places = [0; Hall::LOOKS];
-    for (j, place) in places[..n].iter_mut().enumerate() {
+    // By numbers: a proof knows nothing of what is written by way of an adapter of `iter_mut`.
+    for j in 0..n {
         let label = query.write_label(from + j);
-        *place = nodes::find_retirable(nodes, &label, lift)?;
+        places[j] = nodes::find_retirable(nodes, &label, lift)?;
     }
     Ok(places)
 }
