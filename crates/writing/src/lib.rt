@@ -100,6 +100,7 @@ fn write_table_step(table: &mut [u32], clients: &mut [u32], d: usize, h: Held) -
 
 // ---- Raises
 // Ends a write: the client is idle, and what it kept of the table step is the outcome.
+#[tactic(auto, unfolding(rules::specs::Steps::end_of))]
 fn end(clients: &mut [u32], d: usize) -> Outcome
     requires { ClientContracts.Fit clients.old d }
     ensures said { result ≡ end_of (client_in current clients.old d) }
