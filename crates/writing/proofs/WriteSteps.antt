@@ -7,6 +7,7 @@ use mathlib.Core.Option.{Option, some}
 use Prim.Native.Nat.{ℕ, zero, suc, ◌+◌, ◌-◌, ◌^◌, ◌≤◌, ◌<◌}
 use native.Mathlib.Omega.{arith}
 use lib.Dec.{eqb}
+use lib.Pow.{pow_pos}
 use lib.ListN.{length, get_or, take, drop, length-map, length-drop}
 use lib.Seq.{drop-cons, take-take, take_all}
 use borrow.Author.Tests.{eq-eqb, ne_eqb, lt-ltb, le-ltb}
@@ -181,6 +182,14 @@ module _ {h : Held} {s : List ℕ} {d : ℕ} (w : Writer h s d) where
         all_fit = omega arith;
         labels = rw (e, c) (labels_left_law i (omega arith));
       }
+
+  -- its last raise comes after its table step: it has at least one node
+  pub last_past : step_at s d ≡ count_at s d + count_at s d → count_at s d < step_at s d
+  unfolding write_count
+  last_past e =
+      let n : write_count (held_query h) ≡ count_at s d = writer_announcements w in
+      let p : 1 ≤ write_count (held_query h) = pow_pos (length (held_query h)) in
+      omega arith
 
   pub release_read : step_at s d ≤ count_at s d → Release h s d
   release_read l =
