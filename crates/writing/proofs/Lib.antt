@@ -1,4 +1,4 @@
 pub mod WriteSteps
 pub mod Retiring
 pub mod Foreseeing
--- pub mod PassedWrite
+pub mod PassedWrite

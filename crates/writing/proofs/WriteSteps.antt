@@ -4,10 +4,9 @@ use mathlib.Core.Path.{◌≡◌, refl, sym, ap, ◌∙◌}
 use mathlib.Core.Bool.{Bool, true, false, cond, not, ◌&&◌}
 use mathlib.Core.List.{List, [], ◌∷◌, map}
 use mathlib.Core.Option.{Option, some}
-use Prim.Native.Nat.{ℕ, zero, suc, ◌+◌, ◌-◌, ◌^◌, ◌≤◌, ◌<◌}
+use Prim.Native.Nat.{ℕ, zero, suc, ◌+◌, ◌-◌, ◌≤◌, ◌<◌}
 use native.Mathlib.Omega.{arith}
 use lib.Dec.{eqb}
-use lib.Pow.{pow_pos}
 use lib.ListN.{length, get_or, take, drop, length-map, length-drop}
 use lib.Seq.{drop-cons, take-take, take_all}
 use borrow.Author.Tests.{eq-eqb, ne_eqb, lt-ltb, le-ltb}
@@ -18,21 +17,22 @@ use Rattle.query.specs.declared.Column.TheVariants.{Is, Wildcard}
 use Rattle.query.specs.Query.{Query, Record, write_count}
 use Rattle.query.specs.Encoding.{record_of, column_value, key_words, query_in, is_key, bare_key}
 use Rattle.query.specs.Shape.{Shape, max_columns}
+use Rattle.query.proofs.NodeLists.{write_count_least}
 use Rattle.query.proofs.EncodingLaws.{columns_length, query_in_length}
 use Rattle.rules.specs.declared.Outcome.{Outcome}
-use Rattle.rules.specs.declared.Outcome.TheVariants.{Refused, Accepted, Ended, Full}
+use Rattle.rules.specs.declared.Outcome.TheVariants.{Accepted}
 use Rattle.rules.specs.Layout.{max_list, look_room, client_width, inserts}
 use Rattle.rules.specs.Table.{Table, Change, insert, delete, effect, changes, no_room, SaysChanged}
 use Rattle.rules.specs.Nodes.{Words, Store, announced, retired}
 use Rattle.rules.specs.Work.{Write, write_labels, write_in, change_in, steps_in_all}
 use Rattle.rules.specs.Answers.{key_in}
-use Rattle.rules.specs.Client.{Client, entry_of, did_change, found_full, idle, query_at, write_at, stepped, wrote}
+use Rattle.rules.specs.Client.{Client, entry_of, did_change, idle, query_at, write_at, stepped, wrote}
 use Rattle.rules.specs.Memory.{current, shape_in, Mem, mem, records_in, with_records, store_in, with_store, client_in, with_client}
 use Rattle.rules.specs.Outcome.{result_of, result_with}
 use Rattle.rules.specs.Refusals.{client}
 use Rattle.rules.specs.Steps.{now_at, store_back, announce_result, write_table_result, end_of, raise_result, write_result}
 use Rattle.rules.specs.Calls.{announced_labels, labels_left, retire_result}
-use Rattle.rules.proofs.ClientLaws.{busy_key, announcement_count_of, wrote_wide, wrote_change}
+use Rattle.rules.proofs.ClientLaws.{busy_key, wrote_wide, wrote_change}
 use Rattle.records.proofs.RecordWrites.{OfWidth}
 use Rattle.records.proofs.RecordSets.{changes_says}
 use Rattle.hall.specs.declared.refusal.Refusal.{Refusal}
@@ -45,7 +45,7 @@ use Rattle.table.specs.TableContracts.{inserted_as, is_added, had_no_room, gone}
 use Rattle.table.proofs.TableMemory.{write_records}
 use Rattle.table.proofs.TableLists.{added_changes, full_no_room, gone_changes, delete_no_room}
 use Rattle.nodes.specs.NodeContracts.{attempt, tried}
-use Rattle.nodes.proofs.NodePresent.{Went, went_well, went_not}
+use Rattle.nodes.proofs.NodePresent.{went_well, went_not}
 use Rattle.clients.specs.declared.Held.{Held}
 use Rattle.clients.specs.ClientContracts.{held_query, written_at, Writer}
 use Rattle.clients.specs.ClientContracts
@@ -185,11 +185,7 @@ module _ {h : Held} {s : List ℕ} {d : ℕ} (w : Writer h s d) where
 
   -- its last raise comes after its table step: it has at least one node
   pub last_past : step_at s d ≡ count_at s d + count_at s d → count_at s d < step_at s d
-  unfolding write_count
-  last_past e =
-      let n : write_count (held_query h) ≡ count_at s d = writer_announcements w in
-      let p : 1 ≤ write_count (held_query h) = pow_pos (length (held_query h)) in
-      omega arith
+  last_past e = omega (arith, writer_announcements w, write_count_least (held_query h))
 
   pub release_read : step_at s d ≤ count_at s d → Release h s d
   release_read l =

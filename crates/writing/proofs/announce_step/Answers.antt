@@ -1,6 +1,5 @@
 -- `writing::announce_step` meets its contract. Assumes nothing.
-use Rattle.std.proofs.Common.{◌≡◌, [], get_or, arith, rules}
-use Rattle.writing.specs.WriteContracts.{step_at, labels_at}
+use Rattle.std.proofs.Common.{arith, rules}
 use Rattle.writing.proofs.WriteSteps.{step_small, announce_label, announce_refused, announce_done}
 use Rattle.writing.proofs.announce_step.Goals as goal
 

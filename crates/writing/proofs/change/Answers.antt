@@ -1,5 +1,5 @@
 -- `writing::change` meets its contract, for an insert and for a delete. Assumes nothing.
-use Rattle.std.proofs.Common.{◌≡◌, Bool, true, false, eqb, cond, length, sym, ap, ◌∙◌, refl, arith, rules}
+use Rattle.std.proofs.Common.{◌≡◌, Bool, eqb, cond, length, sym, ap, ◌∙◌, refl, rules}
 use Rattle.std.proofs.lemmas.List.{length-take-le}
 use denote.Enum.Bare.{sameb}
 use borrow.Author.Tests.{eq-eqb, ne_eqb}

@@ -1,5 +1,5 @@
 -- `writing::would::abandon_would` meets its contract, on each side of the table step. Assumes nothing.
-use Rattle.std.proofs.Common.{◌≡◌, ◌≤◌, ◌<◌, None, refl, sym, ◌∙◌, arith, rules}
+use Rattle.std.proofs.Common.{◌≡◌, ◌≤◌, None, refl, sym, ◌∙◌, arith, rules}
 use Rattle.clients.proofs.HeldLaws.{writer_announcements}
 use Rattle.writing.specs.WriteContracts.{step_at, count_at}
 use Rattle.writing.proofs.WriteSteps.{raise_read, release_read}

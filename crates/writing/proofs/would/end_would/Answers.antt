@@ -1,5 +1,5 @@
 -- `writing::would::end_would` meets its contract. Assumes nothing.
-use Rattle.std.proofs.Common.{sym, ◌∙◌, arith, rules}
+use Rattle.std.proofs.Common.{sym, ◌∙◌}
 use Rattle.writing.proofs.Foreseeing.{changed_raises, full_raises, unchanged_raises}
 use Rattle.writing.proofs.would.end_would.Goals.{else-not-found_full-via-then-not-found_full+else-did_change, else-not-found_full-via-else-not-found_full}
 use Rattle.writing.proofs.would.end_would.Goals as goal

@@ -1,5 +1,5 @@
 -- `writing::would::step_would` meets its contract: only the last raise would end the write. Assumes nothing.
-use Rattle.std.proofs.Common.{◌≡◌, ◌+◌, ◌<◌, None, sym, ◌∙◌, arith, rules}
+use Rattle.std.proofs.Common.{◌≡◌, ◌+◌, None, sym, ◌∙◌, arith, rules}
 use Rattle.clients.proofs.HeldLaws.{writer_announcements}
 use Rattle.writing.specs.WriteContracts.{step_at, count_at}
 use Rattle.writing.proofs.WriteSteps.{raise_read, last_past}
