@@ -50,6 +50,7 @@ impl From<Inserted> for Report {
 
 // ---- Marks
 // A mark at the write's next node. Refused where no node can be added or 12 writes are pending there.
+#[tactic(auto, using(crate::proofs::WriteSteps::step_small))]
 fn announce_step(
     nodes: &mut [u32],
     clients: &mut [u32],
@@ -58,7 +59,7 @@ fn announce_step(
 ) -> Result<Outcome, Refusal>
     requires writer { Writer h clients.old d }
     requires fit { NodeContracts.Fit nodes.old }
-    requires d_bound { step_at clients.old d < count_at clients.old d }
+    requires due { step_at clients.old d < count_at clients.old d }
     ensures { ((t a y : List ℕ) → result_with (outcome_of result) (mem t nodes.new a clients.new) y ≡ step_of (mem t nodes.old a clients.old) y d) }
 {
     nodes::announce(nodes, &h.query.write_label(h.steps))?;
@@ -86,12 +87,13 @@ fn change(table: &mut [u32], h: Held) -> Report
 
 // The table step: the change is made, and the client keeps whether the list of records changed (exactly if the two lists differ) and whether it
 // was full.
+#[tactic(auto, using(crate::proofs::WriteSteps::step_small))]
 fn write_table_step(table: &mut [u32], clients: &mut [u32], d: usize, h: Held) -> Outcome
     requires writer { Writer h clients.old d }
     requires fit { TableContracts.Fit h.query.k table.old }
-    requires d_value { step_at clients.old d ≡ count_at clients.old d }
-    ensures fact { ((n a y : List ℕ) → result_with result (mem table.new n a clients.new) y ≡ step_of (mem table.old n a clients.old) y d) }
-    ensures fact_2 { SaysChanged (did_change (client_in current clients.new d)) (records_in h.query.k table.old) (records_in h.query.k table.new) }
+    requires due { step_at clients.old d ≡ count_at clients.old d }
+    ensures left { ((n a y : List ℕ) → result_with result (mem table.new n a clients.new) y ≡ step_of (mem table.old n a clients.old) y d) }
+    ensures says { SaysChanged (did_change (client_in current clients.new d)) (records_in h.query.k table.old) (records_in h.query.k table.new) }
 {
     let said = change(table, h);
     clients::set_wrote(clients, d, said == Report::Changed, said == Report::Full);
@@ -139,7 +141,7 @@ fn raise_step(
 ) -> Result<Outcome, Refusal>
     requires writer { Writer h clients.old d }
     requires fit { NodeContracts.Fit nodes.old }
-    requires d_bound { count_at clients.old d < step_at clients.old d }
+    requires due { count_at clients.old d < step_at clients.old d }
     ensures { ((t a y : List ℕ) → result_with (outcome_of result) (mem t nodes.new a clients.new) y ≡ step_of (mem t nodes.old a clients.old) y d) }
 {
     let lift = clients::did_change(clients, d);
@@ -151,6 +153,7 @@ fn raise_step(
 
 // ---- The next step
 // One step of a write: its marks come first, then the table, then its raises.
+#[tactic(auto, using(clients::proofs::HeldLaws::writer_announcements, std::proofs::lemmas::Cmp::ranked))]
 pub fn write_step(
     table: &mut [u32],
     nodes: &mut [u32],
@@ -180,7 +183,7 @@ fn release_all(
 ) -> Result<Outcome, Refusal>
     requires writer { Writer h clients.old d }
     requires fit { NodeContracts.Fit nodes.old }
-    requires d_bound { step_at clients.old d ≤ count_at clients.old d }
+    requires early { step_at clients.old d ≤ count_at clients.old d }
     ensures { ((t a : List ℕ) → result_of (outcome_of result) (mem t nodes.new a clients.new) ≡ back_of (mem t nodes.old a clients.old) d) }
 {
     retire::retire(nodes, &h.query, 0, h.steps, false)?;
@@ -199,7 +202,7 @@ fn raise_all(
 ) -> Result<Outcome, Refusal>
     requires writer { Writer h clients.old d }
     requires fit { NodeContracts.Fit nodes.old }
-    requires d_bound { count_at clients.old d < step_at clients.old d }
+    requires late { count_at clients.old d < step_at clients.old d }
     ensures { ((t a : List ℕ) → result_of (outcome_of result) (mem t nodes.new a clients.new) ≡ raised_of (mem t nodes.old a clients.old) d) }
 {
     let lift = clients::did_change(clients, d);
@@ -210,6 +213,7 @@ fn raise_all(
 }
 
 // Abandons a write: before its table step its marks are taken back, after it all raises that are left are made, and that is its end.
+#[tactic(auto, using(clients::proofs::HeldLaws::writer_announcements))]
 pub fn abandon_write(
     nodes: &mut [u32],
     clients: &mut [u32],

@@ -6,15 +6,11 @@ use Rattle.rules.proofs.Abandonings.{abandon_before, abandon_past}
 use Rattle.clients.proofs.HeldLaws.{writer_announcements}
 use Rattle.writing.proofs.abandon_write.Goals as goal
 
-pub release_all-requires-clause-d_bound : goal.release_all-requires-clause-d_bound
-release_all-requires-clause-d_bound c = omega (arith, writer_announcements c.requires.writer)
 
 pub returns-then-h-write_count : goal.returns-then-h-write_count
 returns-then-h-write_count c = λ t a.
     c.release_all.ensures t a ∙ sym (abandon_before _ _ _ _ (omega (arith, writer_announcements c.requires.writer)))
 
-pub raise_all-requires-clause-d_bound : goal.raise_all-requires-clause-d_bound
-raise_all-requires-clause-d_bound c = omega (arith, writer_announcements c.requires.writer)
 
 pub returns : goal.returns
 returns c = λ t a.

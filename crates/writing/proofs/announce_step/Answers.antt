@@ -6,12 +6,10 @@ use Rattle.writing.proofs.announce_step.Goals as goal
 pub returns-in_err-announce : goal.returns-in_err-announce
 returns-in_err-announce c = λ t a y.
     let p = c.requires in
-    announce_refused t _ a _ y _ _ _ _ _ _ (announce_label p.writer _ c.write_label.ensures p.d_bound) c.announce.ensures p.d_bound _ c.in_err-announce.was c.from_residual.result (search rules)
+    announce_refused t _ a _ y _ _ _ _ _ _ (announce_label p.writer _ c.write_label.ensures p.due) c.announce.ensures p.due _ c.in_err-announce.was c.from_residual.result (search rules)
 
-pub advance-requires : goal.advance-requires
-advance-requires c = let w = c.requires.writer in (w.fit, omega (arith, step_small w))
 
 pub returns : goal.returns
 returns c = λ t a y.
     let p = c.requires in
-    announce_done t _ a _ y _ _ _ _ _ _ (announce_label p.writer _ c.write_label.ensures p.d_bound) c.announce.ensures p.d_bound c.in_ok-announce.was _ c.advance.ensures
+    announce_done t _ a _ y _ _ _ _ _ _ (announce_label p.writer _ c.write_label.ensures p.due) c.announce.ensures p.due c.in_ok-announce.was _ c.advance.ensures

@@ -18,8 +18,6 @@ by_number Read = refl
 by_number Insert = refl
 by_number Delete = refl
 
-pub insert-requires : goal.insert-requires
-insert-requires c = fit_wide (length-take-le _ _ (search rules)) c.requires
 
 pub returns-then-eq : goal.returns-then-eq
 returns-then-eq c =

@@ -22,8 +22,6 @@ full_said Full = refl
 kept : (r : Report) (b f : Bool) → b ≡ sameb the_type r Changed → f ≡ sameb the_type r Full → (c : Client) → wrote b f c ≡ wrote (says_changed r) (says_full r) c
 kept r b f e g c = ap₂ (λ x y. wrote x y c) (e ∙ changed_said r) (g ∙ full_said r)
 
-pub set_wrote-requires : goal.set_wrote-requires
-set_wrote-requires c = let w = c.requires.writer in (w.fit, omega (arith, step_small w))
 
 pub returns : goal.returns
 returns c =
@@ -32,6 +30,6 @@ returns c =
     let said = c.change-said.ensures in
     let left = c.set_wrote.ensures ∙ ap (with_client current c.args.clients.now c.args.d) (kept _ _ _ c.eq.ensures c.eq-2.ensures (client_in current c.args.clients.now c.args.d)) in
     record {
-      fact = λ n a y. table_done _ _ _ _ _ _ _ _ said.said said.left left n a y _ _ p.d_value w.held.columns (held_change_law w);
-      fact_2 = table_says _ _ _ _ _ _ _ _ said.said said.left left w.fit p.fit (held_width w);
+      left = λ n a y. table_done _ _ _ _ _ _ _ _ said.said said.left left n a y _ _ p.due w.held.columns (held_change_law w);
+      says = table_says _ _ _ _ _ _ _ _ said.said said.left left w.fit p.fit (held_width w);
     }
