@@ -32,8 +32,8 @@ module _ {v m : Mem} (e : v ≡ m) where
   pub passed : (code : Mem → ℕ) → 0 ≡ code v → code m ≡ 0
   passed code z = rw (← e) (sym z)
 
-  pub held_there : {h : Held} {d : ℕ} → IsHeld h v.clients d → IsHeld h m.clients d
-  held_there i = rw (← e) i
+  pub held_there : {h : Held} (d : ℕ) → IsHeld h v.clients d → IsHeld h m.clients d
+  held_there d i = rw (← e) i
 
 -- who is no reader has another number
 pub not_reads : (k : Kind) → (k ≡ Read → ⊥) → kind_number k ≡ reads → ⊥
