@@ -3,6 +3,7 @@
 use mathlib.Core.Path.{◌≡◌, refl, sym, ap, ◌∙◌}
 use mathlib.Core.List.{List}
 use Prim.Native.Nat.{ℕ}
+use native.Mathlib.Omega.{arith}
 use borrow.Author.Tests.{ne_eqb}
 use Rattle.rules.specs.declared.Outcome.{Outcome}
 use Rattle.rules.specs.declared.Outcome.TheVariants.{Refused, Accepted}
@@ -20,6 +21,9 @@ use Rattle.clients.specs.ClientContracts.{IsHeld, begun_with}
 use Rattle.clients.proofs.ClientChanges.{begun_with_law}
 use Rattle.reading.proofs.PassedRead.{asks}
 use Rattle.hall.specs.declared.refusal.Refusal.{Refusal}
+use Rattle.hall.specs.declared.kind.Kind.{Kind}
+use Rattle.hall.specs.declared.kind.Kind.TheVariants.{Read, Insert, Delete}
+use Rattle.hall.specs.Kind.{kind_number}
 use Rattle.hall.specs.Refusal.{number_of}
 use Rattle.checks.proofs.RefusalLaws.{number_some}
 
@@ -30,6 +34,12 @@ module _ {v m : Mem} (e : v ≡ m) where
 
   pub held_there : {h : Held} {d : ℕ} → IsHeld h v.clients d → IsHeld h m.clients d
   held_there i = rw (← e) i
+
+-- who is no reader has another number
+pub not_reads : (k : Kind) → (k ≡ Read → ⊥) → kind_number k ≡ reads → ⊥
+not_reads Read h e = h refl
+not_reads Insert h e = omega arith
+not_reads Delete h e = omega arith
 
 -- ---- By the code
 module _ (m : Mem) (code : ℕ) (x : Result) where
@@ -53,7 +63,7 @@ unfolding begin_result now_at
 begin_done m d kind key s r z k e f = rw (goes_on m (begin_code m d r) _ z, f, k, e, begun_with_law (work_of (shape m) r)) refl
 
 -- ---- A reader gives up
-pub reader_gives_up : (tb nd an cl : List ℕ) (d : ℕ) → abandon_code (mem tb nd an cl) d ≡ 0 → {h : Held} → IsHeld h cl d → h.kind ≡ reads
+pub reader_gives_up : (tb nd an cl : List ℕ) (d : ℕ) → abandon_code (mem tb nd an cl) d ≡ 0 → {h : Held} → IsHeld h cl d → h.kind ≡ Read
     → (s : List ℕ) → s ≡ with_client current cl d idle → result_of Accepted (mem tb nd an s) ≡ abandon_result (mem tb nd an cl) d
 unfolding abandon_result abandoned abandoned_of now_at
 reader_gives_up tb nd an cl d z i x s g = rw (goes_on (mem tb nd an cl) (abandon_code (mem tb nd an cl) d) _ z, asks tb nd an cl d i x, g) refl

@@ -25,8 +25,7 @@ fn try_begin(
     ensures same { SamePlaces memories.old memories.new }
 {
     let key = checks::begin_check(memories.view(), request, client, asked)?;
-    let kind = request.kind();
-    clients::begin(memories.clients, client as usize, kind.number(), &key);
+    clients::begin(memories.clients, client as usize, request.kind(), &key);
     Ok(Outcome::Accepted)
 }
 

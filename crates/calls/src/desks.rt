@@ -7,11 +7,8 @@ ghost use Rattle.hall.specs.Memories.{lent_mut, SamePlaces};
 ghost use Rattle.hall.specs.Refusal.{outcome_of};
 
 use hall::refusal::outcome_of;
-use hall::{Hall, MemoriesMut, Refusal};
+use hall::{Kind, MemoriesMut, Refusal};
 use rules::Outcome;
-
-// A reader's kind.
-const READS: u32 = Hall::READS;
 
 #[tactic(auto, using(crate::proofs::CallLaws::step_turned_down))]
 fn try_step(
@@ -25,8 +22,8 @@ fn try_step(
     let held = checks::step_check(memories.view(), tray, client)?;
     let d = client as usize;
     let table = &mut *memories.table;
-    let out = if held.kind == READS {
-        reading::read_step(
+    match held.kind {
+        Kind::Read => reading::read_step(
             table,
             memories.nodes,
             memories.answers,
@@ -34,11 +31,9 @@ fn try_step(
             tray,
             d,
             held,
-        )
-    } else {
-        writing::write_step(table, memories.nodes, memories.clients, d, held)
-    };
-    Ok(out)
+        ),
+        _ => writing::write_step(table, memories.nodes, memories.clients, d, held),
+    }
 }
 
 // One step of the read or write that is under way at the client's desk.
@@ -56,11 +51,13 @@ fn try_abandon(memories: &mut MemoriesMut<'_>, client: u32) -> Result<Outcome, R
 {
     let held = checks::abandon_check(memories.view(), client)?;
     let d = client as usize;
-    if held.kind == READS {
-        clients::set_idle(memories.clients, d);
-        return Ok(Outcome::Accepted);
+    match held.kind {
+        Kind::Read => {
+            clients::set_idle(memories.clients, d);
+            Ok(Outcome::Accepted)
+        }
+        _ => writing::abandon_write(memories.nodes, memories.clients, d, held),
     }
-    Ok(writing::abandon_write(memories.nodes, memories.clients, d, held))
 }
 
 // Abandons what is under way at the client's desk: a read is given up, and a write before its table step, whose marks are taken back; a write past

@@ -8,7 +8,7 @@ ghost use Rattle.checks.specs.CheckContracts.{request_of};
 ghost use Rattle.tallied.specs.TalliedContracts.{LeavesCount};
 
 use checks::Request;
-use hall::{Hall, Memories};
+use hall::{Hall, Kind, Memories};
 use rules::Count;
 
 // What an accepted begin raises.
@@ -43,16 +43,16 @@ pub fn step_would(memories: Memories<'_>, tray: &[u32], client: u32) -> Option<C
         return None;
     };
     let d = client as usize;
-    if held.kind == Hall::READS {
-        return reading::would::step_would(
+    match held.kind {
+        Kind::Read => reading::would::step_would(
             memories.table,
             memories.answers,
             memories.clients,
             d,
             held,
-        );
+        ),
+        _ => writing::would::step_would(memories.nodes, memories.clients, d, held),
     }
-    writing::would::step_would(memories.nodes, memories.clients, d, held)
 }
 
 #[tactic(auto, using(crate::proofs::TalliedLaws::abandon_none, checks::proofs::RefusalLaws::number_some))]
@@ -62,10 +62,10 @@ pub fn abandon_would(memories: Memories<'_>, client: u32) -> Option<Count>
     let Ok(held) = checks::abandon_check(memories, client) else {
         return None;
     };
-    if held.kind == Hall::READS {
-        return Some(Count::ReadAbandoned);
+    match held.kind {
+        Kind::Read => Some(Count::ReadAbandoned),
+        _ => writing::would::abandon_would(memories.nodes, memories.clients, client as usize, held),
     }
-    writing::would::abandon_would(memories.nodes, memories.clients, client as usize, held)
 }
 
 // What an accepted abandoning raises that reports no end, by the kind at the desk. Any contents, any desk: one that is not there is no matter, its

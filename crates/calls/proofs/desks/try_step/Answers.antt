@@ -6,35 +6,35 @@ use Rattle.reading.proofs.PassedRead.{reads_on, read_due}
 use Rattle.writing.proofs.PassedWrite.{table_held, writes_on, write_due}
 use Rattle.hall.specs.Memories.{lent_mut}
 use Rattle.checks.proofs.SoundMemories.{nodes_fit}
-use Rattle.calls.proofs.CallLaws.{passed, held_there}
+use Rattle.calls.proofs.CallLaws.{passed, held_there, not_reads}
 use Rattle.calls.proofs.desks.try_step.Goals as goal
 
-pub read_step-out-requires : goal.read_step-out-requires
-read_step-out-requires c =
+pub read_step-requires : goal.read_step-requires
+read_step-requires c =
     let z = passed c.view.ensures (λ m. step_code m c.args.tray.now c.args.client) c.in_ok-held.ensures.code in
-    reads_on _ _ _ _ _ (held_there c.view.ensures c.in_ok-held.ensures.ok) c.if-held-eq-READS.true _ z
+    reads_on _ _ _ _ _ (held_there c.view.ensures c.in_ok-held.ensures.ok) c.in-Read.is _ z
 
-pub returns-then-held-eq-READS-clause-leaves : goal.returns-then-held-eq-READS-clause-leaves
-returns-then-held-eq-READS-clause-leaves c =
+pub returns-in-Read-clause-leaves : goal.returns-in-Read-clause-leaves
+returns-in-Read-clause-leaves c =
     let z = passed c.view.ensures (λ m. step_code m c.args.tray.now c.args.client) c.in_ok-held.ensures.code in
-    c.read_step-out.ensures ∙ sym (read_due _ _ _ _ _ (held_there c.view.ensures c.in_ok-held.ensures.ok) c.if-held-eq-READS.true _ z)
+    c.read_step.ensures ∙ sym (read_due _ _ _ _ _ (held_there c.view.ensures c.in_ok-held.ensures.ok) c.in-Read.is _ z)
 
-pub write_step-out-requires-clause-writer : goal.write_step-out-requires-clause-writer
-write_step-out-requires-clause-writer c =
+pub write_step-requires-clause-writer : goal.write_step-requires-clause-writer
+write_step-requires-clause-writer c =
     let z = passed c.view.ensures (λ m. step_code m c.args.tray.now c.args.client) c.in_ok-held.ensures.code in
-    writes_on _ _ _ _ _ _ (held_there c.view.ensures c.in_ok-held.ensures.ok) c.if-held-eq-READS.false _ z
+    writes_on _ _ _ _ _ _ (held_there c.view.ensures c.in_ok-held.ensures.ok) (not_reads _ c.in_default.not-Read) _ z
 
-pub write_step-out-requires-clause-fit : goal.write_step-out-requires-clause-fit
-write_step-out-requires-clause-fit c =
+pub write_step-requires-clause-fit : goal.write_step-requires-clause-fit
+write_step-requires-clause-fit c =
     let z = passed c.view.ensures (λ m. step_code m c.args.tray.now c.args.client) c.in_ok-held.ensures.code in
     nodes_fit (step_passed (lent_mut c.args.memories.now) _ _ z).1.0
 
-pub write_step-out-requires-clause-fit_2 : goal.write_step-out-requires-clause-fit_2
-write_step-out-requires-clause-fit_2 c =
+pub write_step-requires-clause-fit_2 : goal.write_step-requires-clause-fit_2
+write_step-requires-clause-fit_2 c =
     let z = passed c.view.ensures (λ m. step_code m c.args.tray.now c.args.client) c.in_ok-held.ensures.code in
     table_held (lent_mut c.args.memories.now) _ _ (held_there c.view.ensures c.in_ok-held.ensures.ok) (step_passed _ _ _ z).1.0
 
-pub returns-else-held-eq-READS-clause-leaves : goal.returns-else-held-eq-READS-clause-leaves
-returns-else-held-eq-READS-clause-leaves c =
+pub returns-in_default-clause-leaves : goal.returns-in_default-clause-leaves
+returns-in_default-clause-leaves c =
     let z = passed c.view.ensures (λ m. step_code m c.args.tray.now c.args.client) c.in_ok-held.ensures.code in
-    c.write_step-out.ensures _ _ ∙ write_due _ _ _ _ _ _ (held_there c.view.ensures c.in_ok-held.ensures.ok) c.if-held-eq-READS.false _ z
+    c.write_step.ensures _ _ ∙ write_due _ _ _ _ _ _ (held_there c.view.ensures c.in_ok-held.ensures.ok) (not_reads _ c.in_default.not-Read) _ z
