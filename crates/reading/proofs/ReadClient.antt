@@ -26,7 +26,7 @@ use Rattle.reading.specs.ReadContracts.{looks, made, asked_for}
 
 -- ---- what a reader holds
 module _ {h : Held} {clients : List ℕ} {d : ℕ} (r : Reader h clients d) where
-  pub few_steps : made clients d < looks clients d + 3
+  few_steps : made clients d < looks clients d + 3
   unfolding steps_in_all
   few_steps = r.busy.going
 

@@ -43,24 +43,6 @@ end_any x c k = go (found_full k) (did_change k)
     go false true = refl
     go false false = refl
 
--- it is changed, where the client keeps that and no full table
-module _ (k : Client) where
-  pub changed_raises : found_full k ≡ false → did_change k ≡ true → Some EndedChanged ≡ count_of None (end_of k)
-  unfolding end_of count_of
-  changed_raises h g = rw (h, g)
-
-  pub full_raises : found_full k ≡ true → Some EndedUnchanged ≡ count_of None (end_of k)
-  unfolding end_of count_of
-  full_raises h = rw h
-
-  pub unchanged_raises : did_change k ≡ false → Some EndedUnchanged ≡ count_of None (end_of k)
-  unfolding end_of count_of
-  unchanged_raises g = rw g (go (found_full k))
-    where
-      go : (b : Bool) → Some EndedUnchanged ≡ count_of None (cond b Full (Ended false))
-      go true = refl
-      go false = refl
-
 -- whether a test went well, by what is left of its result
 module _ {A E : Type 0} where
   pub went_not : (r : Result A E) → result_ok r ≡ None → is_ok r ≡ false

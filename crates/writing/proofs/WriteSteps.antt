@@ -92,27 +92,9 @@ record_in sh key l e =
     ∙ key_record (query_in sh key) (omega arith)
 
 -- ---- what is known of a writer
--- after its table step: the raise that is due, with the label of its node, and whether it is the last; and all that are left, with their labels
-pub record Raise (h : Held) (s : List ℕ) (d count : ℕ) : Type 0 where
-  pub past : count_at s d < step_at s d
-  pub small : step_at s d ≤ max_list
-  pub above : count + 1 ≤ h.steps
-  pub room : count + count ≤ max_list
-  pub fits : h.steps - (count + 1) + 1 ≤ write_count (held_query h)
-  pub label : labels_from (held_query h) (h.steps - (count + 1)) 1 ≡ get_or (labels_at s d) (step_at s d - (count_at s d + 1)) [] ∷ []
-  pub last : eqb h.steps (count + count) ≡ eqb (step_at s d) (count_at s d + count_at s d)
-  pub due : h.steps - (count + 1) ≤ count
-  pub all_fit : h.steps - (count + 1) + (count - (h.steps - (count + 1))) ≤ write_count (held_query h)
-  pub labels : labels_from (held_query h) (h.steps - (count + 1)) (count - (h.steps - (count + 1))) ≡ labels_left (written_at s d) (step_at s d)
-
--- before it: a taking back, with the labels of the nodes that are marked
-pub record Release (h : Held) (s : List ℕ) (d : ℕ) : Type 0 where
-  pub fits : 0 + h.steps ≤ write_count (held_query h)
-  pub labels : labels_from (held_query h) 0 h.steps ≡ announced_labels (written_at s d) (step_at s d)
-
 module _ {h : Held} {s : List ℕ} {d : ℕ} (w : Writer h s d) where
   -- it has not made its last step yet
-  step_most : step_at s d ≤ count_at s d + count_at s d
+  pub step_most : step_at s d ≤ count_at s d + count_at s d
   unfolding steps_in_all
   step_most = let g = w.busy.going in omega arith
 
@@ -161,37 +143,31 @@ module _ {h : Held} {s : List ℕ} {d : ℕ} (w : Writer h s d) where
   pub announce_label : (p : Words) → p ≡ label_at (held_query h) h.steps → step_at s d < count_at s d → p ≡ get_or (labels_at s d) (step_at s d) []
   announce_label p g l = g ∙ ap (label_at (held_query h)) w.held.steps ∙ writer_label w (step_at s d) l
 
-  pub raise_read : (count : ℕ) → count ≡ write_count (held_query h) → count_at s d < step_at s d → Raise h s d count
-  raise_read count g past =
-      let c : count ≡ count_at s d = g ∙ writer_announcements w in
-      let e : h.steps ≡ step_at s d = w.held.steps in
-      let n : write_count (held_query h) ≡ count_at s d = writer_announcements w in
-      let l : count_at s d ≤ look_room = writer_few w in
-      let m : step_at s d ≤ count_at s d + count_at s d = step_most in
-      let i : ℕ = step_at s d - (count_at s d + 1) in
-      let j : i < count_at s d = omega arith in
-      record {
-        past = past;
-        small = step_small;
-        above = omega arith;
-        room = omega arith;
-        fits = omega arith;
-        label = rw (e, c) (labels_held i 1 (omega arith) ∙ ap (take 1) (drop-cons (labels_at s d) i [] j));
-        last = rw (e, c);
-        due = omega arith;
-        all_fit = omega arith;
-        labels = rw (e, c) (labels_left_law i (omega arith));
-      }
+  -- those of the marks that were set
+  pub marked_labels : step_at s d ≤ count_at s d → labels_from (held_query h) 0 h.steps ≡ announced_labels (written_at s d) (step_at s d)
+  marked_labels l = rw w.held.steps (labels_held 0 (step_at s d) (omega arith))
 
   -- its last raise comes after its table step: it has at least one node
   pub last_past : step_at s d ≡ count_at s d + count_at s d → count_at s d < step_at s d
   last_past e = omega (arith, writer_announcements w, write_count_least (held_query h))
 
-  pub release_read : step_at s d ≤ count_at s d → Release h s d
-  release_read l =
-      let n : write_count (held_query h) ≡ count_at s d = writer_announcements w in
-      let e : h.steps ≡ step_at s d = w.held.steps in
-      record { fits = omega arith; labels = rw e (labels_held 0 (step_at s d) (omega arith)) }
+  -- after its table step: the label of the raise that is due, whether that is the last, and the labels of all that are left
+  module _ (count : ℕ) (g : count ≡ write_count (held_query h)) where
+    n : count ≡ count_at s d
+    n = g ∙ writer_announcements w
+
+    pub raise_label : count_at s d < step_at s d → labels_from (held_query h) (h.steps - (count + 1)) 1 ≡ get_or (labels_at s d) (step_at s d - (count_at s d + 1)) [] ∷ []
+    raise_label past =
+        let i : ℕ = step_at s d - (count_at s d + 1) in
+        let j : i < count_at s d = omega (arith, step_most) in
+        rw (w.held.steps, n) (labels_held i 1 (omega arith) ∙ ap (take 1) (drop-cons (labels_at s d) i [] j))
+
+    pub is_last : eqb h.steps (count + count) ≡ eqb (step_at s d) (count_at s d + count_at s d)
+    is_last = rw (w.held.steps, n)
+
+    pub left_labels : count_at s d < step_at s d
+        → labels_from (held_query h) (h.steps - (count + 1)) (count - (h.steps - (count + 1))) ≡ labels_left (written_at s d) (step_at s d)
+    left_labels past = rw (w.held.steps, n) (labels_left_law (step_at s d - (count_at s d + 1)) (omega (arith, step_most)))
 
 -- ---- the steps
 module _ (t n a s y : List ℕ) (d : ℕ) (w : Write) (i : ℕ) (u : List ℕ) (st : Store) (v : List ℕ) where

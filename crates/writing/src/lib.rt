@@ -133,6 +133,7 @@ fn after_raise(clients: &mut [u32], d: usize, last: bool) -> Outcome
 
 // A raise at the write's next node: its revision goes up if the client keeps that the list of records changed, else it stays. Refused where the
 // node is missing, has no pending write or cannot be raised; one whose revision stays is not refused for a revision at its largest.
+#[tactic(auto, using(clients::proofs::HeldLaws::writer_announcements, crate::proofs::WriteSteps::step_most, crate::proofs::WriteSteps::step_small))]
 fn raise_step(
     nodes: &mut [u32],
     clients: &mut [u32],
@@ -175,6 +176,7 @@ pub fn write_step(
 
 // ---- Abandonings
 // Takes back the marks of a write before its table step; the client is idle then. Refused where one of them is not there.
+#[tactic(auto, using(clients::proofs::HeldLaws::writer_announcements))]
 fn release_all(
     nodes: &mut [u32],
     clients: &mut [u32],
@@ -194,6 +196,7 @@ fn release_all(
 // Makes all raises that are left of a write after its table step: the write ends as its last raise would have ended it. The revisions go up if
 // the client keeps that the list of records changed, else they stay. Refused where one of the nodes is missing, has no pending write or cannot
 // be raised, as at a raise step.
+#[tactic(auto, using(clients::proofs::HeldLaws::writer_announcements, crate::proofs::WriteSteps::step_most))]
 fn raise_all(
     nodes: &mut [u32],
     clients: &mut [u32],

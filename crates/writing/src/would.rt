@@ -15,18 +15,22 @@ use clients::Held;
 use rules::Count;
 
 // What the write's end raises, by what the client keeps of its table step.
+#[tactic(auto, unfolding(rules::specs::Steps::end_of, rules::specs::Tally::count_of))]
 fn end_would(clients: &[u32], d: usize) -> Count
     requires { ClientContracts.Fit clients.now d }
     ensures { Some result ≡ count_of None (end_of (client_in current clients.now d)) }
 {
-    if !clients::found_full(clients, d) && clients::did_change(clients, d) {
-        Count::EndedChanged
-    } else {
-        Count::EndedUnchanged
+    if clients::found_full(clients, d) {
+        return Count::EndedUnchanged;
     }
+    if clients::did_change(clients, d) {
+        return Count::EndedChanged;
+    }
+    Count::EndedUnchanged
 }
 
 // The step that is due: only the last raise ends the write.
+#[tactic(auto, using(clients::proofs::HeldLaws::writer_announcements, crate::proofs::WriteSteps::step_most, crate::proofs::WriteSteps::last_past))]
 pub fn step_would(nodes: &[u32], clients: &[u32], d: usize, h: Held) -> Option<Count>
     requires writer { Writer h clients.now d }
     requires fit { NodeContracts.Fit nodes.now }
@@ -43,6 +47,7 @@ pub fn step_would(nodes: &[u32], clients: &[u32], d: usize, h: Held) -> Option<C
 }
 
 // An abandoning: before the table step the write is abandoned, after it it ends.
+#[tactic(auto, using(clients::proofs::HeldLaws::writer_announcements, crate::proofs::WriteSteps::step_most))]
 pub fn abandon_would(nodes: &[u32], clients: &[u32], d: usize, h: Held) -> Option<Count>
     requires writer { Writer h clients.now d }
     requires fit { NodeContracts.Fit nodes.now }

@@ -7,8 +7,6 @@ use Rattle.writing.proofs.retire.can_retire.Goals as goal
 pub loop-j-init : goal.loop-j-init
 loop-j-init c = record { left = test_start _ _ _ _ _ c.requires.within; kept = kept_none _ _ _; size = search rules }
 
-pub overflow_add-from : goal.overflow_add-from
-overflow_add-from c = omega (arith, few_nodes c.args.query.now)
 
 pub returns-in_err-places-clause-found : goal.returns-in_err-places-clause-found
 returns-in_err-places-clause-found c =
@@ -19,11 +17,7 @@ pub returns-in_err-places-clause-refusal : goal.returns-in_err-places-clause-ref
 returns-in_err-places-clause-refusal c =
     goes_unsound _ _ (search rules) (place_missing _ _ _ _ c.find_retirable.ensures _ c.in_err-places.was).1
 
-pub offset_bounds-places-j : goal.offset_bounds-places-j
-offset_bounds-places-j c = omega (arith, few_nodes c.args.query.now)
 
-pub bounds-places-j : goal.bounds-places-j
-bounds-places-j c = omega (arith, few_nodes c.args.query.now)
 
 pub loop-j-preserved : goal.loop-j-preserved
 loop-j-preserved c =

@@ -10,9 +10,6 @@ returns-in_err-places c =
     took_none _ _ _ x.found x.refusal _ (search rules)
 
 -- no more nodes than places
-pub slice_bounds-places-end : goal.slice_bounds-places-end
-slice_bounds-places-end c = omega (arith, few_nodes c.args.query.now)
-
 pub slice_bounds-take_off-end : goal.slice_bounds-take_off-end
 slice_bounds-take_off-end c = sym (length-take-le _ _ (omega (arith, few_nodes c.args.query.now)))
 

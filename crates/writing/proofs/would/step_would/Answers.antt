@@ -2,7 +2,7 @@
 use Rattle.std.proofs.Common.{◌≡◌, ◌+◌, None, sym, ◌∙◌, arith, rules}
 use Rattle.clients.proofs.HeldLaws.{writer_announcements}
 use Rattle.writing.specs.WriteContracts.{step_at, count_at}
-use Rattle.writing.proofs.WriteSteps.{raise_read, last_past}
+use Rattle.writing.proofs.WriteSteps.{last_past, raise_label}
 use Rattle.writing.proofs.Foreseeing.{going_raises, last_refused, last_raises, went_not, went_well}
 use Rattle.writing.proofs.would.step_would.Goals as goal
 
@@ -11,31 +11,23 @@ returns-then-h-count c = λ t a y.
     let n = writer_announcements c.requires.writer in
     going_raises _ _ _ (λ e. c.if-h-count.true (omega (arith, n))) t a y
 
-pub overflow_sub-number : goal.overflow_sub-number
-overflow_sub-number c =
-    let p = last_past c.requires.writer (omega (arith, writer_announcements c.requires.writer)) in
-    omega (arith, writer_announcements c.requires.writer)
-
-pub can_retire-requires-clause-within : goal.can_retire-requires-clause-within
-can_retire-requires-clause-within c =
-    let p = last_past c.requires.writer (omega (arith, writer_announcements c.requires.writer)) in
-    (raise_read c.requires.writer _ c.write_count-count.ensures.nodes p).fits
-
 pub returns-in_err-ok : goal.returns-in_err-ok
 returns-in_err-ok c =
     let s = c.args.clients.now in
     let d = c.args.d in
-    let l : step_at s d ≡ count_at s d + count_at s d = omega (arith, writer_announcements c.requires.writer) in
-    let p = last_past c.requires.writer l in
-    let r = raise_read c.requires.writer _ c.write_count-count.ensures.nodes p in
+    let w = c.requires.writer in
+    let l : step_at s d ≡ count_at s d + count_at s d = omega (arith, writer_announcements w) in
+    let label = raise_label w _ c.write_count-count.ensures.nodes (last_past w l) in
     let n : c.from_residual.result ≡ None = search rules in
-    λ t a y. n ∙ last_refused _ _ _ _ _ c.did_change-lift.ensures _ r.label c.can_retire.ensures.found l p t a y (went_not _ (sym c.ok.ensures.value ∙ c.in_err-ok.was))
+    let missed = went_not _ (sym c.ok.ensures.value ∙ c.in_err-ok.was) in
+    λ t a y. n ∙ last_refused _ _ _ _ _ c.did_change-lift.ensures _ label c.can_retire.ensures.found l (last_past w l) t a y missed
 
 pub returns : goal.returns
 returns c =
     let s = c.args.clients.now in
     let d = c.args.d in
-    let l : step_at s d ≡ count_at s d + count_at s d = omega (arith, writer_announcements c.requires.writer) in
-    let p = last_past c.requires.writer l in
-    let r = raise_read c.requires.writer _ c.write_count-count.ensures.nodes p in
-    λ t a y. last_raises _ _ _ _ _ c.did_change-lift.ensures _ r.label c.can_retire.ensures.found l p t a y (went_well _ _ (sym c.ok.ensures.value ∙ c.in_ok-ok.was)) _ c.end_would.ensures
+    let w = c.requires.writer in
+    let l : step_at s d ≡ count_at s d + count_at s d = omega (arith, writer_announcements w) in
+    let label = raise_label w _ c.write_count-count.ensures.nodes (last_past w l) in
+    let found = went_well _ _ (sym c.ok.ensures.value ∙ c.in_ok-ok.was) in
+    λ t a y. last_raises _ _ _ _ _ c.did_change-lift.ensures _ label c.can_retire.ensures.found l (last_past w l) t a y found _ c.end_would.ensures
