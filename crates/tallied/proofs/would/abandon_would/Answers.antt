@@ -17,12 +17,12 @@ returns-in-Read c =
     abandon_raises _ _ (reader_gives_up _ _ _ _ _ (sym f.code) f.ok c.in-Read.is _ refl) refl (λ x l. reader_left _ _ _ f.ok.kind (ap kind_number c.in-Read.is)) refl
 
 pub abandon_would-requires-clause-writer : goal.abandon_would-requires-clause-writer
-abandon_would-requires-clause-writer c = let f = c.in-Ok.ensures in gives_up _ _ _ _ _ _ f.ok (not_reads _ c.in_default.not-Read) (sym f.code)
+abandon_would-requires-clause-writer c = let f = c.in-Ok.ensures in gives_up _ _ _ _ _ _ f.ok (not_reads _ c.in_default-kind.not-Read) (sym f.code)
 
 pub abandon_would-requires-clause-fit : goal.abandon_would-requires-clause-fit
 abandon_would-requires-clause-fit c = nodes_fit (abandon_passed (lent c.args.memories) _ (sym c.in-Ok.ensures.code)).0
 
-pub returns-in_default : goal.returns-in_default
-returns-in_default c =
+pub returns-in_default-kind : goal.returns-in_default-kind
+returns-in_default-kind c =
     let f = c.in-Ok.ensures in
-    abandon_raises _ _ (abandon_due _ _ _ _ _ _ f.ok (not_reads _ c.in_default.not-Read) (sym f.code)) refl (λ x l. writer_left _ _ _ f.ok.kind (not_reads _ c.in_default.not-Read)) (c.abandon_would.ensures _ _)
+    abandon_raises _ _ (abandon_due _ _ _ _ _ _ f.ok (not_reads _ c.in_default-kind.not-Read) (sym f.code)) refl (λ x l. writer_left _ _ _ f.ok.kind (not_reads _ c.in_default-kind.not-Read)) (c.abandon_would.ensures _ _)
