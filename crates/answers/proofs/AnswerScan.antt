@@ -89,11 +89,11 @@ answers_cut s e f h = let b = f.few in let l = f.long in entries_cut answer_coun
 -- ---- the search for one that may be answered with
 module _ (n : ℕ) (x : Entry) (es : List Entry) where
   pub fetched_some : (i : ℕ) → fetched n x es ≡ Some i → (fetch_place n x es ≡ i) × (fetch_place n x es < length es)
-  unfolding fetch_place
+  unfolding fetched fetch_place
   fetched_some i h = let f = found (serves n x) es i h in (sym f.0, omega arith)
 
   pub fetched_none : fetched n x es ≡ None → length es ≤ fetch_place n x es
-  unfolding fetch_place
+  unfolding fetched fetch_place
   fetched_none h = let f = not_found (serves n x) es h in omega arith
 
 -- ---- the search for an entry that says too much

@@ -13,7 +13,7 @@ pub record Fit (s : List ℕ) : Type 0 where
   pub few : get_or s answer_count_offset 0 ≤ max_answers
 
 -- the place of the first entry that may be answered with, where there is one: the rules' `fetch_place`, where that is below the length
-abbrev pub fetched : ℕ → Entry → List Entry → Option ℕ
+unfoldable pub fetched : ℕ → Entry → List Entry → Option ℕ
 fetched n x es = position (serves n x) es
 
 -- r is the number of records of e, and a list's stand from the tray's start on; what the tray had behind them stays, and for a count all of it

@@ -3,11 +3,9 @@
 use mathlib.Core.Path.{◌≡◌, refl, sym, ap, ◌∙◌}
 use mathlib.Core.List.{List}
 use Prim.Native.Nat.{ℕ}
-use native.Mathlib.Omega.{arith}
 use borrow.Author.Tests.{ne_eqb}
 use Rattle.rules.specs.declared.Outcome.{Outcome}
 use Rattle.rules.specs.declared.Outcome.TheVariants.{Refused, Accepted}
-use Rattle.rules.specs.Layout.{reads}
 use Rattle.rules.specs.Work.{Request, kind_of, key_of, work_of}
 use Rattle.rules.specs.Client.{idle}
 use Rattle.rules.specs.Memory.{current, Mem, mem, with_clients, with_client}
@@ -21,9 +19,7 @@ use Rattle.clients.specs.ClientContracts.{IsHeld, begun_with}
 use Rattle.clients.proofs.ClientChanges.{begun_with_law}
 use Rattle.reading.proofs.PassedRead.{asks}
 use Rattle.hall.specs.declared.refusal.Refusal.{Refusal}
-use Rattle.hall.specs.declared.kind.Kind.{Kind}
-use Rattle.hall.specs.declared.kind.Kind.TheVariants.{Read, Insert, Delete}
-use Rattle.hall.specs.Kind.{kind_number}
+use Rattle.hall.specs.declared.kind.Kind.TheVariants.{Read}
 use Rattle.hall.specs.Refusal.{number_of}
 use Rattle.checks.proofs.RefusalLaws.{number_some}
 
@@ -34,12 +30,6 @@ module _ {v m : Mem} (e : v ≡ m) where
 
   pub held_there : {h : Held} (d : ℕ) → IsHeld h v.clients d → IsHeld h m.clients d
   held_there d i = rw (← e) i
-
--- who is no reader has another number
-pub not_reads : (k : Kind) → (k ≡ Read → ⊥) → kind_number k ≡ reads → ⊥
-not_reads Read h e = h refl
-not_reads Insert h e = omega arith
-not_reads Delete h e = omega arith
 
 -- ---- By the code
 module _ (m : Mem) (code : ℕ) (x : Result) where

@@ -120,22 +120,20 @@ impl Lent {
             clients,
         } = memories;
         let length = table.len().saturating_sub(usize::from(short));
-        let out = calls::opening::open(&mut table[..length], nodes, answers, clients, columns);
-        End::from(out)
+        let mut memories = MemoriesMut {
+            table: &mut table[..length],
+            nodes,
+            answers,
+            clients,
+        };
+        End::from(calls::opening::open(&mut memories, columns))
     }
 
     // Where short is set, the tray is.
     pub fn run(&mut self, call: Call, query: &[u32], short: bool) -> End {
-        let (memories, tray) = self.lend();
-        let MemoriesMut {
-            table,
-            nodes,
-            answers,
-            clients,
-        } = memories;
+        let (mut memories, tray) = self.lend();
         let length = tray.len().saturating_sub(usize::from(short));
-        let tray = &mut tray[..length];
-        let out = calls::run(table, nodes, answers, clients, tray, call, query);
+        let out = calls::run(&mut memories, &mut tray[..length], call, query);
         End::from(out)
     }
 }

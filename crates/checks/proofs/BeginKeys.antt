@@ -15,9 +15,8 @@ use Rattle.query.specs.Query.{naming}
 use Rattle.query.specs.Encoding.{column_of, query_of, is_query, names_all, key_words, wanted_key}
 use Rattle.query.specs.Shape.{shape_of, max_columns}
 use Rattle.query.proofs.EncodingLaws.{is_query_length}
-use Rattle.columns.specs.ColumnContracts.{four, taken_of}
+use Rattle.columns.specs.ColumnContracts.{taken_of}
 use Rattle.columns.specs.KeyContracts.{IsNear}
-use Rattle.columns.proofs.ColumnLoops.{four_back}
 use Rattle.columns.proofs.TakeLoop.{taken_key}
 use Rattle.rules.specs.Layout.{refused_columns}
 use Rattle.rules.specs.Table.{target}

@@ -19,7 +19,6 @@ use Rattle.query.specs.Encoding.{key_width}
 use Rattle.query.specs.Shape.{Shape}
 use Rattle.rules.specs.Layout.{list_room, steps_offset, entry_offset, client_width, client_offset, held_length_offset, noted_offset, held_list_offset}
 use Rattle.rules.specs.Memory.{current, client_in, with_client}
-use Rattle.rules.proofs.ClientLaws.{idle_wide}
 use Rattle.rules.proofs.ClientParts.{stepped_next, holding_wide}
 use Rattle.clients.specs.ClientContracts.{Fit, begun_with, value_set}
 use Rattle.clients.proofs.ClientMemory.{client_room, length_client, with_self, client_same, with_twice, with_words, part_cleared, length_kept}
@@ -41,10 +40,10 @@ flag_byte true = refl
 flag_byte false = refl
 
 -- ---- one client's numbers
--- a kind and a key written over an idle client
-key_in : (x : ℕ) (key : List ℕ) → length key ≡ key_width → written (set idle 0 x) 5 key ≡ begun_with x key
+-- a key written behind the numbers of an idle client, and behind its kind
+pub key_behind : (x : ℕ) (key : List ℕ) → length key ≡ key_width → written (set idle 0 x) entry_offset key ≡ begun_with x key
 unfolding written idle begun_with padded
-key_in x key n = rw n
+key_behind x key n = rw n
 
 -- where no write is pending the number that says so stays
 quiet : (c : Client) (j revision pending : ℕ) → pending ≡ 0 → noted j revision pending c ≡ set (stepped c) (noted_offset j) revision
@@ -110,13 +109,13 @@ module _ (s : List ℕ) (d : ℕ) (f : Fit s d) where
       let m : at + client_width - at ≡ client_width = omega arith in
       part_cleared s at (at + client_width) t (omega arith) (omega arith) g ∙ rw (m, e)
 
-  pub begun_left : (s₁ s₂ : List ℕ) (x at : ℕ) (key : List ℕ) → s₁ ≡ with_client current s d idle → s₂ ≡ with_client current s₁ d (set (client_in current s₁ d) 0 x) → at ≡ client_offset current d
-      → length key ≡ key_width → put_mid (at + entry_offset) (at + entry_offset + key_width - (at + entry_offset)) s₂ key ≡ with_client current s d (begun_with x key)
-  begun_left s₁ s₂ x at key e g h n =
+  -- c: the client before its key is written
+  pub begun_left : (s₁ : List ℕ) (c : Client) (x at : ℕ) (key : List ℕ) → s₁ ≡ with_client current s d c → length c ≡ client_width → at ≡ client_offset current d
+      → length key ≡ key_width → written c entry_offset key ≡ begun_with x key
+      → put_mid (at + entry_offset) (at + entry_offset + key_width - (at + entry_offset)) s₁ key ≡ with_client current s d (begun_with x key)
+  begun_left s₁ c x at key e w h n b =
       let m : at + entry_offset + key_width - (at + entry_offset) ≡ key_width = omega arith in
-      let w : length (set idle 0 x) ≡ client_width = length-set idle 0 x ∙ idle_wide in
-      rw (m, mid_written s₂ (at + entry_offset) key_width key n, put_more s₁ s₂ idle 0 x e g idle_wide, h)
-      (with_words s d f (set idle 0 x) w entry_offset key (omega arith) ∙ ap (with_client current s d) (key_in x key n))
+      rw (m, mid_written s₁ (at + entry_offset) key_width key n, e, h) (with_words s d f c w entry_offset key (omega arith) ∙ ap (with_client current s d) b)
 
   pub stepped_left : (s₁ : List ℕ) → s₁ ≡ with_client current s d (set (client_in current s d) steps_offset (get_or (client_in current s d) steps_offset 0 + 1)) → s₁ ≡ with_client current s d (stepped (client_in current s d))
   unfolding stepped steps

@@ -1,7 +1,7 @@
 -- Laws of the record test with a range: a number's test by shift and limit is that it lies from the lowest to the highest; so shifts and limits
 -- of a query that names no 0 test what the query tests, and with a range laid over a wildcard, the range too, if it has a number above 0. What has
 -- not is told first (`finds_none`). Leans on the library's bits and on MaskLaws and ColumnLoops. Assumes nothing.
-use Rattle.std.proofs.Common.{◌≡◌, ℕ, zero, suc, ◌+◌, ◌-◌, ◌*◌, ◌%◌, ◌<◌, ◌≤◌, Bool, true, false, ◌&&◌, ◌||◌, eqb, ltb, leb, List, [], ◌∷◌, ◌++◌, map, length, get_or, drop, set, replicate, sym, refl, ap, ◌∙◌, true≢false, add-one, arith, drop_of_length-le, drop-cons, ltb-false, ltb-true, eq-eqb, eqb-true, le-leb, leb-true}
+use Rattle.std.proofs.Common.{◌≡◌, ℕ, zero, suc, ◌+◌, ◌-◌, ◌*◌, ◌%◌, ◌<◌, ◌≤◌, Bool, true, false, ◌&&◌, ◌||◌, eqb, ltb, leb, List, [], ◌∷◌, ◌++◌, map, length, get_or, take, drop, set, replicate, sym, refl, ap, ◌∙◌, true≢false, add-one, arith, length-set, drop_of_length-le, drop-cons, take_at, drop_at, ltb-false, ltb-true, eq-eqb, eqb-true, le-leb, leb-true}
 use mathlib.Core.Bool.{and-true, and_comm}
 use lib.Bits.{bit_xor, xor_block, xor_shifted, xor_comm, xor_self, xor_zero_r}
 use Rattle.std.specs.List.{list_any}
@@ -17,7 +17,7 @@ use Rattle.query.specs.Query.{Query, Record, is_measured, admits, lies, is_zero,
 use Rattle.query.specs.Range.{within}
 use Rattle.query.specs.Encoding.{column_value}
 use Rattle.columns.specs.ColumnContracts.{four}
-use Rattle.columns.specs.BoundContracts.{sign_bit, shift_of, limit_of, width_of, shifts_of, limits_of, first_of, bounds_of, bounded_under, finds_none, bounded_by, bounded, NamesWords}
+use Rattle.columns.specs.BoundContracts.{sign_bit, shift_of, limit_of, width_of, shifts_of, limits_of, first_of, bound_words, bounds_of, bounded_under, finds_none, bounded_by, bounded, NamesWords}
 use Rattle.columns.proofs.MaskLaws.{length_four}
 
 -- ---- The highest bit turned over
@@ -167,15 +167,24 @@ module _ (q : Query) (few : length q ≤ 4) where
           rw (get_d_map (λ (c : Column). shift_of (column_value c)) (four q) c 0 Wildcard l, get_d_map (λ (c : Column). limit_of (width_of c)) (four q) c 0 Wildcard l, column_at)
           (column_bounded Wildcard (get_or r c 0) refl (omega arith) (fit c))
 
-      pub bound_test : bounded_under (bounds_of q c low high) r ≡ lies q r && within (Between c low high) r
+      pub bounds_test : bounded_under (bounds_of q c low high) r ≡ lies q r && within (Between c low high) r
       unfolding bounds_of bounded_under within
-      bound_test =
+      bounds_test =
           let first : ℕ = first_of low in
           let o = finds_some q high some in
           let f : first ≤ high = first_below low high ordered o.1 in
           let w : first + (high - first) ≡ high = omega arith in
           bounded_set (shifts_of q) (limits_of q) r c (shift_of first) (limit_of (high - first)) (omega arith) (omega (arith, length_shifts)) (omega (arith, length_limits)) any_number
           ∙ rw (plain_test o.0, bounded_by_law first (high - first) (get_or r c 0) (omega arith) (fit c), w, first_takes low (get_or r c 0), swap (is_measured (get_or r c 0)) (leb low (get_or r c 0)) _)
+
+      -- the same of both lists one behind the other
+      pub bound_test : bounded (take 4 (bound_words q c low high)) (drop 4 (bound_words q c low high)) r ≡ lies q r && within (Between c low high) r
+      unfolding bound_words bounds_of bounded_under
+      bound_test =
+          let x : ℕ = shift_of (first_of low) in
+          let l : List ℕ = set (limits_of q) c (limit_of (high - first_of low)) in
+          let a : length (set (shifts_of q) c x) ≡ 4 = length-set (shifts_of q) c x ∙ length_shifts in
+          rw (take_at (set (shifts_of q) c x) l 4 a, drop_at (set (shifts_of q) c x) l 4 a) bounds_test
 
 -- ---- The loop: f tells whether all numbers before i fit
 pub bounded_on : (ss ls rec : List ℕ) (i : ℕ) (f : Bool) → i < length ss → i < length ls → i < length rec

@@ -1,6 +1,6 @@
 -- Laws of the record test: masks and values name the columns that they were made of, and what a mask leaves of a number differs from the value
 -- by 0 exactly if the column admits it. Leans on the laws of lists, FillLoop, ColumnLoops and the library's bits. Assumes nothing.
-use Rattle.std.proofs.Common.{◌≡◌, ℕ, zero, suc, ◌+◌, ◌-◌, ◌%◌, ◌<◌, ◌≤◌, Bool, ◌&&◌, eqb, List, [], ◌∷◌, ◌++◌, map, length, get_or, take, drop, set, replicate, sym, refl, ap, ◌∙◌, add-one, arith, length-append, drop_of_length-le, drop-cons, eq-eqb, eqb-true}
+use Rattle.std.proofs.Common.{◌≡◌, ℕ, zero, suc, ◌+◌, ◌-◌, ◌%◌, ◌<◌, ◌≤◌, Bool, ◌&&◌, eqb, List, [], ◌∷◌, ◌++◌, map, length, get_or, take, drop, set, replicate, sym, refl, ap, ◌∙◌, add-one, arith, length-append, drop_of_length-le, drop-cons, eq-eqb, eqb-true, take_at, drop_at}
 use mathlib.Core.Bool.{and_assoc, and-true}
 use lib.Bits.{bit_and, bit_xor, and_mask, and_zero_r, and_le_l, and_le_r, xor_add_and, xor_self}
 use lib.Dec.{eqb-suc-zero}
@@ -11,7 +11,7 @@ use Rattle.query.specs.declared.Column.{Column}
 use Rattle.query.specs.declared.Column.TheVariants.{Is, Wildcard}
 use Rattle.query.specs.Query.{Query, Record, admits, lies}
 use Rattle.columns.specs.ColumnContracts.{four}
-use Rattle.columns.specs.MaskContracts.{mask_of, sought_of, column_under, columns_under, lies_under, Masked}
+use Rattle.columns.specs.MaskContracts.{mask_of, sought_of, mask_words, column_under, columns_under, query_under, lies_under, Masked}
 use Rattle.columns.proofs.FillLoop.{Filled, fill_at, fill_end}
 use Rattle.columns.proofs.ColumnLoops.{at_place, past_all, four_back}
 
@@ -42,6 +42,20 @@ columns_back : (q : Query) → columns_under (map mask_of q) (map sought_of q) �
 unfolding columns_under
 columns_back [] = refl
 columns_back (c ∷ q) = rw (named_back c, columns_back q)
+
+-- the same of both lists one behind the other: the columns that they name are the query's, and wildcards past them
+halves : (q : Query) → length q ≤ 4 → (take 4 (mask_words q) ≡ map mask_of (four q)) × (drop 4 (mask_words q) ≡ map sought_of (four q))
+unfolding mask_words
+halves q h =
+    let l : length (map mask_of (four q)) ≡ 4 = rw length-map (length_four q h) in
+    (take_at (map mask_of (four q)) (map sought_of (four q)) 4 l, drop_at (map mask_of (four q)) (map sought_of (four q)) 4 l)
+
+pub under_words : (q : Query) → length q ≤ 4 → columns_under (take 4 (mask_words q)) (drop 4 (mask_words q)) ≡ four q
+under_words q h = rw ((halves q h).0, (halves q h).1) (columns_back (four q))
+
+pub words_query : (k : ℕ) (q : Query) → length q ≡ k → k ≤ 4 → query_under k (mask_words q) ≡ q
+unfolding query_under four
+words_query k q e h = rw (under_words q (omega arith)) (take_at q (replicate (4 - length q) Wildcard) k e)
 
 -- for callers: what a query of k columns says of a record of k numbers
 pub lies_four : (q : Query) (r : Record) → length r ≡ length q → lies_under (four q) r ≡ lies q r

@@ -1,6 +1,6 @@
 -- A query and its range as the ranged record test takes them: four shifts and four limits. Leans on query and ColumnContracts. Definitions
 -- only. Assumes nothing.
-use Rattle.std.specs.Prelude.{ℕ, ◌+◌, ◌-◌, ◌%◌, ◌<◌, Bool, true, false, cond, ◌&&◌, ◌||◌, List, [], ◌∷◌, map, ◌==◌, bit_xor, nat_le, slice_index, slice_set}
+use Rattle.std.specs.Prelude.{ℕ, ◌+◌, ◌-◌, ◌%◌, ◌<◌, Bool, true, false, cond, ◌&&◌, ◌||◌, List, [], ◌∷◌, ◌++◌, map, ◌==◌, bit_xor, nat_le, slice_index, slice_set}
 use Rattle.query.specs.declared.Column.{Column}
 use Rattle.query.specs.declared.Column.TheVariants.{Is, Wildcard}
 use Rattle.query.specs.Query.{Query, Record, is_measured, names_zero}
@@ -36,6 +36,11 @@ shifts_of q = map (λ (c : Column). shift_of (column_value c)) (four q)
 
 unfoldable pub limits_of : Query → List ℕ
 limits_of q = map (λ (c : Column). limit_of (width_of c)) (four q)
+
+-- one list behind the other, and as the two lists that the test takes
+unfoldable pub bound_words : Query → ℕ → ℕ → ℕ → List ℕ
+bound_words q column lowest highest =
+    slice_set (shifts_of q) column (shift_of (first_of lowest)) ++ slice_set (limits_of q) column (limit_of (highest - first_of lowest))
 
 unfoldable pub bounds_of : Query → ℕ → ℕ → ℕ → Bounds
 bounds_of q column lowest highest = record {

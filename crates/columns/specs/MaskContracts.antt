@@ -1,6 +1,6 @@
 -- A query as the record test takes it: four masks and four values, which the masks are to leave of a record's numbers. Leans on query and
 -- ColumnContracts. Definitions only. Assumes nothing.
-use Rattle.std.specs.Prelude.{◌≡◌, ℕ, ◌≤◌, Bool, cond, List, [], ◌∷◌, map, length, take, ◌==◌}
+use Rattle.std.specs.Prelude.{◌≡◌, ℕ, ◌≤◌, Bool, cond, List, [], ◌∷◌, ◌++◌, map, length, take, drop, ◌==◌}
 use Rattle.query.specs.declared.Column.{Column}
 use Rattle.query.specs.declared.Column.TheVariants.{Is, Wildcard}
 use Rattle.query.specs.Query.{Query, Record, is_measured, lies}
@@ -25,6 +25,14 @@ unfoldable pub columns_under : List ℕ → List ℕ → Query
 columns_under [] vs = []
 columns_under (m ∷ ms) [] = []
 columns_under (m ∷ ms) (v ∷ vs) = column_under m v ∷ columns_under ms vs
+
+-- a query's masks and values, with those of wildcards behind its columns, one list behind the other; and the query of k columns that eight such
+-- numbers name
+unfoldable pub mask_words : Query → List ℕ
+mask_words q = map mask_of (four q) ++ map sought_of (four q)
+
+unfoldable pub query_under : ℕ → List ℕ → Query
+query_under k l = take k (columns_under (take max_columns l) (drop max_columns l))
 
 -- masks and values that are some query's, with those of wildcards behind its columns
 pub record Masked (masks values : List ℕ) : Type 0 where

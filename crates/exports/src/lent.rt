@@ -10,7 +10,8 @@ ghost use Rattle.rules.specs.Memory.{mem};
 ghost use Rattle.exports.specs.Reply.{sent_tallied, begin_tallied, step_tallied, abandon_tallied};
 
 use super::Reply;
-use hall::Hall;
+use checks::Request;
+use hall::MemoriesMut;
 use query::Range;
 use rules::Tally;
 
@@ -27,18 +28,17 @@ pub extern "C" fn mondzafeky_begin_read_tallied(
 ) -> Reply
     ensures { sent_tallied result (mem table.new nodes.new answers.new clients.new) [] tally.new ≡ begin_tallied (mem table.old nodes.old answers.old clients.old) tally.old client (read_of false None query.now) }
 {
-    let c = tallied::begin(
+    let mut memories = MemoriesMut {
         table,
         nodes,
         answers,
         clients,
-        *tally,
-        Hall::READS,
-        false,
-        Range::None,
-        client,
-        query,
-    );
+    };
+    let request = Request::Read {
+        counts: false,
+        range: Range::None,
+    };
+    let c = tallied::begin(&mut memories, *tally, request, client, query);
     *tally = c.tally;
     Reply::from(c.out)
 }
@@ -56,18 +56,17 @@ pub extern "C" fn mondzafeky_begin_count_tallied(
 ) -> Reply
     ensures { sent_tallied result (mem table.new nodes.new answers.new clients.new) [] tally.new ≡ begin_tallied (mem table.old nodes.old answers.old clients.old) tally.old client (read_of true None query.now) }
 {
-    let c = tallied::begin(
+    let mut memories = MemoriesMut {
         table,
         nodes,
         answers,
         clients,
-        *tally,
-        Hall::READS,
-        true,
-        Range::None,
-        client,
-        query,
-    );
+    };
+    let request = Request::Read {
+        counts: true,
+        range: Range::None,
+    };
+    let c = tallied::begin(&mut memories, *tally, request, client, query);
     *tally = c.tally;
     Reply::from(c.out)
 }
@@ -88,22 +87,21 @@ pub extern "C" fn mondzafeky_begin_read_within_tallied(
 ) -> Reply
     ensures { sent_tallied result (mem table.new nodes.new answers.new clients.new) [] tally.new ≡ begin_tallied (mem table.old nodes.old answers.old clients.old) tally.old client (read_of false (Between column lowest highest) query.now) }
 {
-    let c = tallied::begin(
+    let mut memories = MemoriesMut {
         table,
         nodes,
         answers,
         clients,
-        *tally,
-        Hall::READS,
-        false,
-        Range::Between {
-            column: column,
-            lowest: lowest,
-            highest: highest,
+    };
+    let request = Request::Read {
+        counts: false,
+        range: Range::Between {
+            column,
+            lowest,
+            highest,
         },
-        client,
-        query,
-    );
+    };
+    let c = tallied::begin(&mut memories, *tally, request, client, query);
     *tally = c.tally;
     Reply::from(c.out)
 }
@@ -124,22 +122,21 @@ pub extern "C" fn mondzafeky_begin_count_within_tallied(
 ) -> Reply
     ensures { sent_tallied result (mem table.new nodes.new answers.new clients.new) [] tally.new ≡ begin_tallied (mem table.old nodes.old answers.old clients.old) tally.old client (read_of true (Between column lowest highest) query.now) }
 {
-    let c = tallied::begin(
+    let mut memories = MemoriesMut {
         table,
         nodes,
         answers,
         clients,
-        *tally,
-        Hall::READS,
-        true,
-        Range::Between {
-            column: column,
-            lowest: lowest,
-            highest: highest,
+    };
+    let request = Request::Read {
+        counts: true,
+        range: Range::Between {
+            column,
+            lowest,
+            highest,
         },
-        client,
-        query,
-    );
+    };
+    let c = tallied::begin(&mut memories, *tally, request, client, query);
     *tally = c.tally;
     Reply::from(c.out)
 }
@@ -157,18 +154,13 @@ pub extern "C" fn mondzafeky_begin_insert_tallied(
 ) -> Reply
     ensures { sent_tallied result (mem table.new nodes.new answers.new clients.new) [] tally.new ≡ begin_tallied (mem table.old nodes.old answers.old clients.old) tally.old client (insert_of query.now) }
 {
-    let c = tallied::begin(
+    let mut memories = MemoriesMut {
         table,
         nodes,
         answers,
         clients,
-        *tally,
-        Hall::INSERTS,
-        false,
-        Range::None,
-        client,
-        query,
-    );
+    };
+    let c = tallied::begin(&mut memories, *tally, Request::Insert, client, query);
     *tally = c.tally;
     Reply::from(c.out)
 }
@@ -186,18 +178,13 @@ pub extern "C" fn mondzafeky_begin_delete_tallied(
 ) -> Reply
     ensures { sent_tallied result (mem table.new nodes.new answers.new clients.new) [] tally.new ≡ begin_tallied (mem table.old nodes.old answers.old clients.old) tally.old client (delete_of query.now) }
 {
-    let c = tallied::begin(
+    let mut memories = MemoriesMut {
         table,
         nodes,
         answers,
         clients,
-        *tally,
-        Hall::DELETES,
-        false,
-        Range::None,
-        client,
-        query,
-    );
+    };
+    let c = tallied::begin(&mut memories, *tally, Request::Delete, client, query);
     *tally = c.tally;
     Reply::from(c.out)
 }
@@ -215,7 +202,13 @@ pub extern "C" fn mondzafeky_step_tallied(
 ) -> Reply
     ensures { sent_tallied result (mem table.new nodes.new answers.new clients.new) tray.new tally.new ≡ step_tallied (mem table.old nodes.old answers.old clients.old) tally.old client tray.old }
 {
-    let c = tallied::step(table, nodes, answers, clients, tray, *tally, client);
+    let mut memories = MemoriesMut {
+        table,
+        nodes,
+        answers,
+        clients,
+    };
+    let c = tallied::step(&mut memories, tray, *tally, client);
     *tally = c.tally;
     Reply::from(c.out)
 }
@@ -232,7 +225,13 @@ pub extern "C" fn mondzafeky_abandon_tallied(
 ) -> Reply
     ensures { sent_tallied result (mem table.new nodes.new answers.new clients.new) [] tally.new ≡ abandon_tallied (mem table.old nodes.old answers.old clients.old) tally.old client }
 {
-    let c = tallied::abandon(table, nodes, answers, clients, *tally, client);
+    let mut memories = MemoriesMut {
+        table,
+        nodes,
+        answers,
+        clients,
+    };
+    let c = tallied::abandon(&mut memories, *tally, client);
     *tally = c.tally;
     Reply::from(c.out)
 }

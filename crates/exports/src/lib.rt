@@ -10,7 +10,7 @@ ghost use Rattle.rules.specs.Memory.{mem};
 ghost use Rattle.rules.specs.Calls.{open_result, begin_result, step_result, abandon_result, evict_answer_result, evict_node_result, renew_result};
 ghost use Rattle.exports.specs.Reply.{reply_of, sent, sent_by, sent_with, sent_by_step};
 
-use hall::Hall;
+use hall::{Hall, MemoriesMut};
 use rules::Outcome;
 
 pub mod lent; // lent.rt: the calls that are lent a tally
@@ -68,7 +68,13 @@ pub extern "C" fn mondzafeky_open(
 ) -> Reply
     ensures { sent result (mem table.new nodes.new answers.new clients.new) ≡ sent_by (open_result (mem table.old nodes.old answers.old clients.old) k) }
 {
-    let out = calls::opening::open(table, nodes, answers, clients, k);
+    let mut memories = MemoriesMut {
+        table,
+        nodes,
+        answers,
+        clients,
+    };
+    let out = calls::opening::open(&mut memories, k);
     Reply::from(out)
 }
 
@@ -84,7 +90,13 @@ pub extern "C" fn mondzafeky_begin_read(
 ) -> Reply
     ensures { sent result (mem table.new nodes.new answers.new clients.new) ≡ sent_by (begin_result (mem table.old nodes.old answers.old clients.old) client (read_of false None query.now)) }
 {
-    let out = calls::begins::begin_read(table, nodes, answers, clients, client, query);
+    let mut memories = MemoriesMut {
+        table,
+        nodes,
+        answers,
+        clients,
+    };
+    let out = calls::begins::begin_read(&mut memories, client, query);
     Reply::from(out)
 }
 
@@ -100,7 +112,13 @@ pub extern "C" fn mondzafeky_begin_count(
 ) -> Reply
     ensures { sent result (mem table.new nodes.new answers.new clients.new) ≡ sent_by (begin_result (mem table.old nodes.old answers.old clients.old) client (read_of true None query.now)) }
 {
-    let out = calls::begins::begin_count(table, nodes, answers, clients, client, query);
+    let mut memories = MemoriesMut {
+        table,
+        nodes,
+        answers,
+        clients,
+    };
+    let out = calls::begins::begin_count(&mut memories, client, query);
     Reply::from(out)
 }
 
@@ -120,8 +138,14 @@ pub extern "C" fn mondzafeky_begin_read_within(
 ) -> Reply
     ensures { sent result (mem table.new nodes.new answers.new clients.new) ≡ sent_by (begin_result (mem table.old nodes.old answers.old clients.old) client (read_of false (Between column lowest highest) query.now)) }
 {
+    let mut memories = MemoriesMut {
+        table,
+        nodes,
+        answers,
+        clients,
+    };
     let out = calls::begins::begin_read_within(
-        table, nodes, answers, clients, client, query, column, lowest, highest,
+        &mut memories, client, query, column, lowest, highest,
     );
     Reply::from(out)
 }
@@ -141,8 +165,14 @@ pub extern "C" fn mondzafeky_begin_count_within(
 ) -> Reply
     ensures { sent result (mem table.new nodes.new answers.new clients.new) ≡ sent_by (begin_result (mem table.old nodes.old answers.old clients.old) client (read_of true (Between column lowest highest) query.now)) }
 {
+    let mut memories = MemoriesMut {
+        table,
+        nodes,
+        answers,
+        clients,
+    };
     let out = calls::begins::begin_count_within(
-        table, nodes, answers, clients, client, query, column, lowest, highest,
+        &mut memories, client, query, column, lowest, highest,
     );
     Reply::from(out)
 }
@@ -159,7 +189,13 @@ pub extern "C" fn mondzafeky_begin_insert(
 ) -> Reply
     ensures { sent result (mem table.new nodes.new answers.new clients.new) ≡ sent_by (begin_result (mem table.old nodes.old answers.old clients.old) client (insert_of query.now)) }
 {
-    let out = calls::begins::begin_insert(table, nodes, answers, clients, client, query);
+    let mut memories = MemoriesMut {
+        table,
+        nodes,
+        answers,
+        clients,
+    };
+    let out = calls::begins::begin_insert(&mut memories, client, query);
     Reply::from(out)
 }
 
@@ -175,7 +211,13 @@ pub extern "C" fn mondzafeky_begin_delete(
 ) -> Reply
     ensures { sent result (mem table.new nodes.new answers.new clients.new) ≡ sent_by (begin_result (mem table.old nodes.old answers.old clients.old) client (delete_of query.now)) }
 {
-    let out = calls::begins::begin_delete(table, nodes, answers, clients, client, query);
+    let mut memories = MemoriesMut {
+        table,
+        nodes,
+        answers,
+        clients,
+    };
+    let out = calls::begins::begin_delete(&mut memories, client, query);
     Reply::from(out)
 }
 
@@ -191,7 +233,13 @@ pub extern "C" fn mondzafeky_step(
 ) -> Reply
     ensures { sent_with result (mem table.new nodes.new answers.new clients.new) tray.new ≡ sent_by_step (step_result (mem table.old nodes.old answers.old clients.old) tray.old client) }
 {
-    let out = calls::desks::step(table, nodes, answers, clients, tray, client);
+    let mut memories = MemoriesMut {
+        table,
+        nodes,
+        answers,
+        clients,
+    };
+    let out = calls::desks::step(&mut memories, tray, client);
     Reply::from(out)
 }
 
@@ -206,7 +254,13 @@ pub extern "C" fn mondzafeky_abandon(
 ) -> Reply
     ensures { sent result (mem table.new nodes.new answers.new clients.new) ≡ sent_by (abandon_result (mem table.old nodes.old answers.old clients.old) client) }
 {
-    let out = calls::desks::abandon(table, nodes, answers, clients, client);
+    let mut memories = MemoriesMut {
+        table,
+        nodes,
+        answers,
+        clients,
+    };
+    let out = calls::desks::abandon(&mut memories, client);
     Reply::from(out)
 }
 
@@ -221,7 +275,13 @@ pub extern "C" fn mondzafeky_evict_answer(
 ) -> Reply
     ensures { sent result (mem table.new nodes.new answers.new clients.new) ≡ sent_by (evict_answer_result (mem table.old nodes.old answers.old clients.old) place) }
 {
-    let out = calls::upkeep::evict_answer(table, nodes, answers, clients, place);
+    let mut memories = MemoriesMut {
+        table,
+        nodes,
+        answers,
+        clients,
+    };
+    let out = calls::upkeep::evict_answer(&mut memories, place);
     Reply::from(out)
 }
 
@@ -236,7 +296,13 @@ pub extern "C" fn mondzafeky_evict_node(
 ) -> Reply
     ensures { sent result (mem table.new nodes.new answers.new clients.new) ≡ sent_by (evict_node_result (mem table.old nodes.old answers.old clients.old) place) }
 {
-    let out = calls::upkeep::evict_node(table, nodes, answers, clients, place);
+    let mut memories = MemoriesMut {
+        table,
+        nodes,
+        answers,
+        clients,
+    };
+    let out = calls::upkeep::evict_node(&mut memories, place);
     Reply::from(out)
 }
 
@@ -250,6 +316,12 @@ pub extern "C" fn mondzafeky_renew(
 ) -> Reply
     ensures { sent result (mem table.new nodes.new answers.new clients.new) ≡ sent_by (renew_result (mem table.old nodes.old answers.old clients.old)) }
 {
-    let out = calls::upkeep::renew(table, nodes, answers, clients);
+    let mut memories = MemoriesMut {
+        table,
+        nodes,
+        answers,
+        clients,
+    };
+    let out = calls::upkeep::renew(&mut memories);
     Reply::from(out)
 }

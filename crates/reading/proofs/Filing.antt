@@ -1,19 +1,19 @@
--- Laws of the fetch and of the file step: which filed answer is given, what is filed, and what the client holds given. Leans on rules, on
--- clients and on ReadClient. Assumes nothing.
-use mathlib.Core.Path.{◌≡◌, refl, sym, ap, ◌∙◌}
+-- Laws of the fetch and of the file step: which filed answer is given, and what is filed. Leans on rules, on answers, on clients and on
+-- ReadClient. Assumes nothing.
+use mathlib.Core.Path.{◌≡◌, refl, sym, ◌∙◌}
 use mathlib.Core.Bool.{Bool, true, false, cond, not, ◌&&◌}
 use mathlib.Core.List.{List, []}
-use Prim.Native.Nat.{ℕ, ◌+◌, ◌≤◌, ◌<◌}
+use Prim.Native.Nat.{ℕ, ◌+◌, ◌<◌}
 use native.Mathlib.Omega.{arith}
 use lib.Dec.{ltb}
 use lib.ListN.{length, get_or}
-use borrow.Author.Tests.{lt-ltb, le-ltb}
-use Rattle.std.specs.Prelude.{Option, Some, None}
+use borrow.Author.Tests.{lt-ltb, le-ltb, ltb-true}
+use Rattle.std.specs.Prelude.{Some, None}
 use Rattle.std.proofs.lemmas.Option.{none-some}
 use Rattle.lists.specs.Lists.{written}
 use Rattle.rules.specs.declared.Outcome.{Outcome}
 use Rattle.rules.specs.declared.Outcome.TheVariants.{Accepted, Answered}
-use Rattle.rules.specs.Answers.{Entry, length_in, list_in, value_in, fetch_place, filed, is_long}
+use Rattle.rules.specs.Answers.{Entry, length_in, list_in, value_in, fetch_place, filed}
 use Rattle.rules.specs.Client.{Client, saw_pending, entry_of, idle, stepped}
 use Rattle.rules.specs.Memory.{current, mem, client_in, with_client, answers_in, with_answers}
 use Rattle.rules.specs.Outcome.{result_with}
@@ -36,9 +36,9 @@ module _ (n : ℕ) (x : Entry) (es : List Entry) where
   closed true e = refl
   closed false e = le-ltb (fetch_place n x es) (length es) (fetched_none n x es e)
 
-  opened : (b : Bool) (j : ℕ) → cond b None (fetched n x es) ≡ Some j → (b ≡ false) × ((fetch_place n x es ≡ j) × (fetch_place n x es < length es))
+  opened : (b : Bool) (j : ℕ) → cond b None (fetched n x es) ≡ Some j → (b ≡ false) × (ltb (fetch_place n x es) (length es) ≡ true) × (fetch_place n x es ≡ j)
   opened true j e = absurd (none-some j e)
-  opened false j e = (refl, fetched_some n x es j e)
+  opened false j e = let f = fetched_some n x es j e in (refl, lt-ltb (fetch_place n x es) (length es) f.1, f.0)
 
 -- the answer that was found is there
 pub found_there : (s : List ℕ) (c : Client) (n j : ℕ) → found_for s c n ≡ Some j → j < get_or s answer_count_offset 0
@@ -46,25 +46,28 @@ unfolding found_for
 found_there s c n j e =
     let o = opened n (entry_of c) (answers_in current s) (saw_pending c) j e in
     let l = count_is s in
-    omega (arith, o.1.0, o.1.1)
+    let f = ltb-true (fetch_place n (entry_of c) (answers_in current s)) (length (answers_in current s)) o.1 in
+    omega (arith, o.2)
 
-module _ {h : Held} {clients : List ℕ} {d : ℕ} (r : Reader h clients d) (p : made clients d ≡ looks clients d) (s tray : List ℕ) (i : Option ℕ) (e : i ≡ found_for s (client_in current clients d) h.steps) where
-  found : i ≡ cond (saw_pending (client_in current clients d)) None (fetched (looks clients d) (entry_of (client_in current clients d)) (answers_in current s))
+module _ {h : Held} {clients : List ℕ} {d : ℕ} (r : Reader h clients d) (p : made clients d ≡ looks clients d) (s tray : List ℕ) where
+  found : found_for s (client_in current clients d) h.steps
+      ≡ cond (saw_pending (client_in current clients d)) None (fetched (looks clients d) (entry_of (client_in current clients d)) (answers_in current s))
   unfolding found_for
-  found = e ∙ rw (r.held.steps, p)
+  found = rw (r.held.steps, p)
 
-  pub fetch_not : i ≡ None → (clients' : List ℕ) → clients' ≡ with_client current clients d (stepped (client_in current clients d)) → (t n : List ℕ)
+  pub fetch_not : found_for s (client_in current clients d) h.steps ≡ None → (clients' : List ℕ) → clients' ≡ with_client current clients d (stepped (client_in current clients d)) → (t n : List ℕ)
       → result_with Accepted (mem t n s clients') tray ≡ read_result (mem t n s clients) tray d (asked_at clients d) (made clients d)
   unfolding fetch_result now_at client
   fetch_not g clients' u t n =
-      rw (fetch_is (mem t n s clients) tray d (asked_at clients d) (made clients d) p, closed _ _ _ _ (sym found ∙ g), u)
+      let e = closed (looks clients d) (entry_of (client_in current clients d)) (answers_in current s) (saw_pending (client_in current clients d)) (sym found ∙ g) in
+      rw (fetch_is (mem t n s clients) tray d (asked_at clients d) (made clients d) p, e, u)
 
-  pub fetch_given : (j : ℕ) → i ≡ Some j → (count : ℕ) (tray' clients' : List ℕ) → answers.Gave h.query.k (get_or (answers_in current s) j []) tray count tray' → clients' ≡ with_client current clients d idle → (t n : List ℕ)
+  pub fetch_given : (j : ℕ) → found_for s (client_in current clients d) h.steps ≡ Some j → (count : ℕ) (tray' clients' : List ℕ) → answers.Gave h.query.k (get_or (answers_in current s) j []) tray count tray' → clients' ≡ with_client current clients d idle → (t n : List ℕ)
       → result_with (Answered count true) (mem t n s clients') tray' ≡ read_result (mem t n s clients) tray d (asked_at clients d) (made clients d)
   unfolding fetch_result answered value_in now_at client
   fetch_given j g count tray' clients' w u t n =
-      let o = opened _ _ _ _ j (sym found ∙ g) in
-      rw (fetch_is (mem t n s clients) tray d (asked_at clients d) (made clients d) p, o.0, lt-ltb _ _ o.1.1, o.1.0, u, w.count, w.list, r.held.columns)
+      let o = opened (looks clients d) (entry_of (client_in current clients d)) (answers_in current s) (saw_pending (client_in current clients d)) j (sym found ∙ g) in
+      rw (fetch_is (mem t n s clients) tray d (asked_at clients d) (made clients d) p, o.0, o.1, o.2, u, w.count, w.list, r.held.columns)
 
 -- ---- the file step: o, tray', clients' are what giving the client's own list or count returns and leaves
 module _ {h : Held} {clients : List ℕ} {d : ℕ} (r : Reader h clients d) (p : made clients d ≡ looks clients d + 2) where
@@ -76,13 +79,3 @@ module _ {h : Held} {clients : List ℕ} {d : ℕ} (r : Reader h clients d) (p :
   unfolding file_result answered value_in now_at client
   file_left s tray x s' tray' clients' o f e a g u t n =
       rw (file_is (mem t n s clients) tray d (asked_at clients d) (made clients d) p, e, a, g, u, r.held.columns, f)
-
--- ---- the client's own list or count, given: x is its entry as it was lent
-module _ (c : Client) (x : List ℕ) (e : x ≡ entry_of c) where
-  pub short_own : is_long (entry_of c) ≡ false → is_long x ≡ false
-  short_own h = rw e h
-
-  pub given_own : (k count : ℕ) (tray tray' : List ℕ) → answers.Gave k x tray count tray'
-      → (Answered count false ≡ Answered (length_in (entry_of c)) false) × (tray' ≡ written tray 0 (list_in (shape_of k) (entry_of c)))
-  given_own k count tray tray' g =
-      (ap (λ (i : ℕ). Answered i false) (g.count ∙ ap length_in e), g.list ∙ ap (λ (y : List ℕ). written tray 0 (list_in (shape_of k) y)) e)

@@ -6,17 +6,17 @@ use mathlib.Core.List.{List}
 use mathlib.Core.Option.{Option as Maybe, none, some}
 use Rattle.std.specs.Prelude.{Option, None, Some}
 use Rattle.std.specs.Bool.{then_some}
-use Prim.Native.Nat.{ℕ, ◌+◌, ◌≤◌, ◌<◌}
+use Prim.Native.Nat.{ℕ, ◌+◌, ◌<◌}
 use lib.Dec.{ltb, leb}
 use lib.ListN.{length}
 use borrow.Author.Tests.{ltb-true, ltb-false, le-leb, lt-leb, not-true, not-false}
 use Rattle.laws.proofs.TestLaws.{by_test}
 use Rattle.rules.specs.declared.Count.{Count}
 use Rattle.rules.specs.declared.Count.TheVariants.{FromFile, FromTable, EndedLong}
-use Rattle.rules.specs.Layout.{max_list, answer_count_offset}
+use Rattle.rules.specs.Layout.{max_list}
 use Rattle.rules.specs.Nodes.{Words, Store}
-use Rattle.rules.specs.Work.{Value, list_within, value_of, may_answer}
-use Rattle.rules.specs.Client.{saw_pending, range_at}
+use Rattle.rules.specs.Work.{Value, value_of, may_answer}
+use Rattle.rules.specs.Client.{saw_pending}
 use Rattle.rules.specs.Memory.{current, Mem, mem, client_in, records_in}
 use Rattle.rules.specs.Outcome.{StepResult}
 use Rattle.rules.specs.Refusals.{client}
@@ -55,15 +55,15 @@ module _ {h : Held} {clients : List ℕ} {d : ℕ} (r : Reader h clients d) wher
   unfolding file_result answered count_of
   file_raises p t n a y = rw (file_is (mem t n a clients) y d (asked_at clients d) (made clients d) p)
 
-  -- i: the place of the filed answer that was found
-  module _ (p : made clients d ≡ looks clients d) (s : List ℕ) (i : Option ℕ) (e : i ≡ found_for s (client_in current clients d) h.steps) (t n y : List ℕ) where
-    pub none_raises : i ≡ None → None ≡ due (mem t n s clients) y
+  -- j: the place of the filed answer that is found
+  module _ (p : made clients d ≡ looks clients d) (s t n y : List ℕ) where
+    pub none_raises : found_for s (client_in current clients d) h.steps ≡ None → None ≡ due (mem t n s clients) y
     unfolding count_of
-    none_raises g = ap raises (fetch_not r p s y i e g _ refl t n)
+    none_raises g = ap raises (fetch_not r p s y g _ refl t n)
 
-    pub filed_raises : (j : ℕ) → i ≡ Some j → Some FromFile ≡ due (mem t n s clients) y
+    pub filed_raises : (j : ℕ) → found_for s (client_in current clients d) h.steps ≡ Some j → Some FromFile ≡ due (mem t n s clients) y
     unfolding count_of
-    filed_raises j g = ap raises (fetch_given r p s y i e j g _ _ _ (record { count = refl; list = refl }) refl t n)
+    filed_raises j g = ap raises (fetch_given r p s y j g _ _ _ (record { count = refl; list = refl }) refl t n)
 
   -- ---- the table step
   -- a count is never too long

@@ -1,5 +1,6 @@
 -- What a reading client is known to hold, and which step is due. Leans on rules and on the laws of clients. Assumes nothing.
 use mathlib.Core.Path.{◌≡◌, ap, ◌∙◌}
+use mathlib.Core.Bool.{true, false}
 use mathlib.Core.List.{List, []}
 use Prim.Native.Nat.{ℕ, ◌+◌, ◌-◌, ◌≤◌, ◌<◌}
 use native.Mathlib.Omega.{arith}
@@ -7,14 +8,15 @@ use lib.ListN.{length, get_or}
 use borrow.Author.Tests.{lt-ltb, le-ltb, eq-eqb, ne_eqb}
 use Rattle.query.specs.Query.{Query, read_count}
 use Rattle.query.specs.declared.Range.{Range}
+use Rattle.query.specs.Range.{is_range, is_reversed}
+use Rattle.query.specs.Shape.{shape_of}
 use Rattle.query.proofs.EncodingLaws.{columns_length}
 use Rattle.rules.specs.Work.{Ask, list_within, value_of, read_labels, ask_in, work_fault, steps_in_all}
 use Rattle.rules.proofs.WorkLaws.{fault_none}
-use Rattle.table.specs.TableContracts.{Fit, RangeFits}
 use Rattle.rules.specs.Nodes.{ensured}
 use Rattle.rules.specs.Answers.{fetch_place}
 use Rattle.rules.specs.Client.{entry_of, query_at, range_at, ask_at}
-use Rattle.rules.specs.Memory.{current, Mem, shape_in, client_in, store_in, answers_in, records_in}
+use Rattle.rules.specs.Memory.{current, Mem, client_in, store_in, answers_in, records_in}
 use Rattle.rules.specs.Refusals.{form, columns, client}
 use Rattle.rules.specs.Steps.{look_result, fetch_result, table_result, file_result, read_result}
 use Rattle.clients.specs.declared.Held.{Held}
@@ -24,25 +26,24 @@ use Rattle.reading.specs.ReadContracts.{looks, made, asked_for}
 
 -- ---- what a reader holds
 module _ {h : Held} {clients : List ℕ} {d : ℕ} (r : Reader h clients d) where
-  pub few_steps : made clients d < looks clients d + 3
+  few_steps : made clients d < looks clients d + 3
   unfolding steps_in_all
   few_steps = r.busy.going
 
   -- q: the query that the code makes of what was read, g: the range that it reads
   module _ (q : Query) (e : q ≡ held_query h) where
-    query_width : length q ≡ h.query.k
+    pub query_width : length q ≡ h.query.k
     query_width = ap length e ∙ columns_length h.query.k h.query.marks h.query.values
-
-    pub table_fits : (s : List ℕ) → Fit h.query.k s → Fit (length q) s
-    table_fits s f = rw query_width f
 
     module _ (g : Range) (a : g ≡ range_at (client_in current clients d)) where
       -- they are such as a begin takes
-      pub range_fits : RangeFits (length q) q g
+      pub range_there : is_range (shape_of (length q)) q g ≡ true
       unfolding work_fault ask_at ask_in query_at range_at
-      range_fits =
-          let f = fault_none (asked_at clients d) r.busy.fault in
-          record { there = rw (query_width, e ∙ at_query r, a, r.held.columns) f.0; ordered = rw a f.1 }
+      range_there = rw (query_width, e ∙ at_query r, a, r.held.columns) (fault_none (asked_at clients d) r.busy.fault).0
+
+      pub range_ordered : is_reversed g ≡ false
+      unfolding work_fault ask_at ask_in range_at
+      range_ordered = rw a (fault_none (asked_at clients d) r.busy.fault).1
 
       -- and what they take of a table is what the client asks for
       pub takes : (s : List ℕ) → list_within g q (records_in (length q) s) ≡ asked_for h.query.k s clients d

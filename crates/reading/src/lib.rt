@@ -26,6 +26,7 @@ use rules::Outcome;
 pub mod would; // would.rt: which count of a tally the step that is due would raise
 
 // A look: the next node's revision is noted, and whether writes are pending there.
+#[tactic(auto, using(crate::proofs::Looking::look_below, clients::proofs::HeldLaws::at_steps, clients::proofs::HeldLaws::reader_few))]
 fn look_step(nodes: &mut [u32], clients: &mut [u32], d: usize, h: Held) -> Result<Outcome, Refusal>
     requires { Looks nodes.old clients.old d h }
     ensures { (t a y : List ℕ) → result_with (outcome_of result) (mem t nodes.new a clients.new) y ≡ read_result (mem t nodes.old a clients.old) y d (asked_at clients.old d) (made clients.old d) }
@@ -50,6 +51,7 @@ fn find_filed(answers: &[u32], clients: &[u32], d: usize, n: usize) -> Option<us
 }
 
 // The fetch: a filed answer that is recent enough is answered with.
+#[tactic(auto, using(crate::proofs::Filing::found_there, crate::proofs::Filing::fetch_not, answers::proofs::AnswerScan::short_answer, clients::proofs::HeldLaws::at_steps, clients::proofs::HeldLaws::reader_few))]
 fn fetch_step(answers: &[u32], clients: &mut [u32], tray: &mut [u32], d: usize, h: Held) -> Outcome
     requires { Fetches answers.now clients.old tray.old d h }
     ensures { (t n : List ℕ) → result_with result (mem t n answers.now clients.new) tray.new ≡ read_result (mem t n answers.now clients.old) tray.old d (asked_at clients.old d) (made clients.old d) }
@@ -68,6 +70,7 @@ fn fetch_step(answers: &[u32], clients: &mut [u32], tray: &mut [u32], d: usize, 
 
 // Writes the list that client d asks for, at most 32 records of it, into the client's place for it, and says how many there are, if there are no
 // more.
+#[tactic(auto, using(crate::proofs::ReadClient::query_width, crate::proofs::ReadClient::range_there, crate::proofs::ReadClient::range_ordered, crate::proofs::ReadClient::takes, crate::proofs::Listing::gather_left))]
 fn gather_list(table: &[u32], clients: &mut [u32], d: usize, h: Held) -> Option<usize>
     requires { Gathers table.now clients.old d h }
     ensures value { result ≡ gathered (asked_for h.query.k table.now clients.old d) }
@@ -80,6 +83,7 @@ fn gather_list(table: &[u32], clients: &mut [u32], d: usize, h: Held) -> Option<
 }
 
 // How many records client d asks for, be they more than a read lists.
+#[tactic(auto, using(crate::proofs::ReadClient::query_width, crate::proofs::ReadClient::range_there, crate::proofs::ReadClient::range_ordered, crate::proofs::ReadClient::takes))]
 fn count_records(table: &[u32], clients: &[u32], d: usize, h: Held) -> usize
     requires { Gathers table.now clients.now d h }
     ensures { result ≡ length (asked_for h.query.k table.now clients.now d) }
@@ -104,6 +108,7 @@ fn answer_held(clients: &mut [u32], tray: &mut [u32], d: usize, k: usize) -> Out
 
 // The table step of a count: the records in the query's subspace and within the client's range are counted, and the client holds the count.
 // Where a look saw a mark it is answered with and not filed. It is lent no tray: whatever that holds stays.
+#[tactic(auto, using(crate::proofs::Listing::count_most, crate::proofs::Listing::count_given, clients::proofs::HeldLaws::at_steps))]
 fn count_step(table: &[u32], clients: &mut [u32], d: usize, h: Held) -> Outcome
     requires { Counts table.now clients.old d h }
     ensures { (n a y : List ℕ) → result_with result (mem table.now n a clients.new) y ≡ read_result (mem table.now n a clients.old) y d (asked_at clients.old d) (made clients.old d) }
@@ -123,6 +128,7 @@ fn count_step(table: &[u32], clients: &mut [u32], d: usize, h: Held) -> Outcome
 
 // The table step: the list is taken, and the client holds it. Where it is too long the read ends; where a look saw a mark it is answered with
 // and not filed. A count has its own.
+#[tactic(auto, using(crate::proofs::Listing::list_few, crate::proofs::Listing::list_fits, crate::proofs::Listing::steps_kept, clients::proofs::HeldLaws::at_steps))]
 fn table_step(table: &[u32], clients: &mut [u32], tray: &mut [u32], d: usize, h: Held) -> Outcome
     requires { Lists table.now clients.old tray.old d h }
     ensures { (n a : List ℕ) → result_with result (mem table.now n a clients.new) tray.new ≡ read_result (mem table.now n a clients.old) tray.old d (asked_at clients.old d) (made clients.old d) }
@@ -158,6 +164,7 @@ fn file_step(
 }
 
 // The step that is due of a read: one look for each node, then fetch, table and file. Only a look may be turned down.
+#[tactic(auto, using(crate::proofs::ReadClient::look_due, crate::proofs::ReadClient::fetch_due, crate::proofs::ReadClient::table_due, crate::proofs::ReadClient::file_due))]
 pub fn read_step(
     table: &[u32],
     nodes: &mut [u32],

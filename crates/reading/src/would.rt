@@ -17,6 +17,7 @@ use rules::Count;
 const LIST: usize = Hall::LIST as usize;
 
 // The fetch: the read is answered from file, or goes on.
+#[tactic(auto, using(crate::proofs::Foreseeing::none_raises, crate::proofs::Foreseeing::filed_raises, clients::proofs::HeldLaws::reader_few))]
 fn fetch_would(answers: &[u32], clients: &[u32], d: usize, h: Held) -> Option<Count>
     requires { ForeseesFetch answers.now clients.now d h }
     ensures { (t n y : List ℕ) → result ≡ count_of None (read_result (mem t n answers.now clients.now) y d (asked_at clients.now d) (made clients.now d)).out }
@@ -26,6 +27,7 @@ fn fetch_would(answers: &[u32], clients: &[u32], d: usize, h: Held) -> Option<Co
 }
 
 // Whether a list's table step would find more than 32 records. A count is never too long: no pass over the table is made for it.
+#[tactic(auto, using(crate::proofs::Foreseeing::count_short, crate::proofs::Foreseeing::list_long))]
 fn is_long(table: &[u32], clients: &[u32], d: usize, h: Held) -> bool
     requires { ForeseesTable table.now clients.now d h }
     ensures { result ≡ not (may_answer (asked_at clients.now d) (value_of (asked_at clients.now d) (records_in h.query.k table.now))) }
@@ -34,6 +36,7 @@ fn is_long(table: &[u32], clients: &[u32], d: usize, h: Held) -> bool
 }
 
 // The table step: a list of more than 32 ends the read; where a look saw a mark it is answered from the table; else it goes on.
+#[tactic(auto, using(crate::proofs::Foreseeing::long_raises, crate::proofs::Foreseeing::taken_raises))]
 fn table_would(table: &[u32], clients: &[u32], d: usize, h: Held) -> Option<Count>
     requires { ForeseesTable table.now clients.now d h }
     ensures { (n a y : List ℕ) → result ≡ count_of None (read_result (mem table.now n a clients.now) y d (asked_at clients.now d) (made clients.now d)).out }
@@ -45,6 +48,7 @@ fn table_would(table: &[u32], clients: &[u32], d: usize, h: Held) -> Option<Coun
 }
 
 // The step that is due: a look ends nothing, a file step answers from the table.
+#[tactic(auto, using(crate::proofs::ReadClient::look_due, crate::proofs::ReadClient::fetch_due, crate::proofs::ReadClient::table_due, crate::proofs::ReadClient::file_due, crate::proofs::Foreseeing::look_raises, crate::proofs::Foreseeing::file_raises))]
 pub fn step_would(
     table: &[u32],
     answers: &[u32],

@@ -28,7 +28,7 @@ use Rattle.columns.specs.MaskContracts.{lies_under}
 use Rattle.columns.specs.BoundContracts.{bounds_of, bounded_under, finds_none, NamesWords}
 use Rattle.columns.proofs.ColumnLoops.{four_back}
 use Rattle.columns.proofs.MaskLaws.{lies_four}
-use Rattle.columns.proofs.BoundLaws.{Fitting, bound_test}
+use Rattle.columns.proofs.BoundLaws.{Fitting, bounds_test}
 use Rattle.rules.specs.Layout.{max_list, record_count_offset}
 use Rattle.rules.specs.Table.{Table, list_of, delete, effect}
 use Rattle.rules.specs.Work.{list_within}
@@ -146,7 +146,7 @@ module _ (q : Query) (range : Range) (c low high : ℕ) (e : range ≡ Between c
       let l = lent_long k s f in
       ap (keep (bounded_under (bounds_of q c low high))) (whole_records k f.columns.0 n (lent k s) l)
       ∙ rows_kept (bounded_under (bounds_of q c low high)) (λ (r : Record). lies q r && within range r) k n (lent k s)
-      (λ r m fit. rw e (bound_test q f.columns.1 r m names fit c low high column_in column_free ends_ordered small some))
+      (λ r m fit. rw e (bounds_test q f.columns.1 r m names fit c low high column_in column_free ends_ordered small some))
       (omega arith) (take_words (n * k) (drop 8 s) (drop_words 8 s words))
       ∙ keep_both (lies q) (within range) (rows k n (lent k s))
       ∙ ap (λ (t : Table). keep (within range) (keep (lies q) t)) (sym (whole_records k f.columns.0 n (lent k s) l) ∙ lent_records k s f)

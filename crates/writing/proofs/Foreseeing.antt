@@ -4,7 +4,8 @@ use mathlib.Core.Path.{◌≡◌, refl, sym, ◌∙◌}
 use mathlib.Core.Bool.{Bool, true, false, cond, true≢false}
 use mathlib.Core.List.{List, [], ◌∷◌}
 use mathlib.Core.Option.{Option as Maybe, none, some}
-use Rattle.std.specs.Prelude.{Option, None, Some}
+use Rattle.std.specs.Prelude.{Option, None, Some, Result, Ok, Err, is_ok}
+use Rattle.std.specs.Result.{result_ok}
 use Prim.Native.Nat.{ℕ, ◌+◌, ◌-◌, ◌≤◌, ◌<◌}
 use native.Mathlib.Omega.{arith}
 use lib.Dec.{eqb, ltb}
@@ -18,7 +19,7 @@ use Rattle.rules.specs.Table.{Change}
 use Rattle.rules.specs.Nodes.{Words, Store, announced, retired}
 use Rattle.rules.specs.Client.{Client, did_change, found_full}
 use Rattle.rules.specs.Memory.{current, Mem, mem, client_in, store_in}
-use Rattle.rules.specs.Outcome.{Result, StepResult}
+use Rattle.rules.specs.Outcome.{Result as Left, StepResult}
 use Rattle.rules.specs.Refusals.{client}
 use Rattle.rules.specs.Steps.{announce_result, write_table_result, end_of, raise_result, write_result}
 use Rattle.rules.specs.Calls.{announced_labels, labels_left, retire_result}
@@ -42,19 +43,15 @@ end_any x c k = go (found_full k) (did_change k)
     go false true = refl
     go false false = refl
 
-module _ (k : Client) (b : Bool) (e : b ≡ found_full k) where
-  pub full_raises : b ≡ true → Some EndedUnchanged ≡ count_of None (end_of k)
-  unfolding end_of count_of
-  full_raises h = rw (← e, h)
+-- whether a test went well, by what is left of its result
+module _ {A E : Type 0} where
+  pub went_not : (r : Result A E) → result_ok r ≡ None → is_ok r ≡ false
+  went_not (Ok a) h = cc
+  went_not (Err e) h = refl
 
-  module _ (h : b ≡ false) (x : Bool) (f : x ≡ did_change k) where
-    pub changed_raises : x ≡ true → Some EndedChanged ≡ count_of None (end_of k)
-    unfolding end_of count_of
-    changed_raises g = rw (← e, h, ← f, g)
-
-    pub unchanged_raises : x ≡ false → Some EndedUnchanged ≡ count_of None (end_of k)
-    unfolding end_of count_of
-    unchanged_raises g = rw (← e, h, ← f, g)
+  pub went_well : (r : Result A E) (a : A) → result_ok r ≡ Some a → is_ok r ≡ true
+  went_well (Ok b) a h = refl
+  went_well (Err e) a h = cc
 
 -- ---- a step
 module _ (m : Mem) (y : List ℕ) (d : ℕ) where
@@ -113,7 +110,7 @@ module _ (s n : List ℕ) (d : ℕ) where
     last_raises z r f = f ∙ unfold client in rw raising (last_well (mem t n a s) y d _ (said lift _ b c ps _ e n g z))
 
 -- ---- an abandoning
-abbrev given : Result → Option Count
+abbrev given : Left → Option Count
 given x = count_of (Some WriteAbandoned) x.out
 
 module _ (m : Mem) (d : ℕ) (x : Outcome) where

@@ -1,6 +1,6 @@
 -- What a step's refusals and an abandoning's have ruled out once none applies, for the callers: that a client which is no reader is a
 -- writer, and that its next step or its abandoning is the call's. Leans on rules, clients and table. Assumes nothing.
-use mathlib.Core.Path.{◌≡◌, ◌∙◌}
+use mathlib.Core.Path.{◌≡◌, refl, ◌∙◌}
 use mathlib.Core.List.{List}
 use Prim.Native.Nat.{ℕ}
 use native.Mathlib.Omega.{arith}
@@ -14,19 +14,28 @@ use Rattle.rules.specs.Sound.{Sound}
 use Rattle.rules.specs.Steps.{progress_of, progress}
 use Rattle.rules.specs.Calls.{unless, step_result, abandoned_of, abandoned, abandon_result}
 use Rattle.rules.proofs.PassedChecks.{AtWork, step_passed, abandon_passed}
+use Rattle.hall.specs.declared.kind.Kind.{Kind}
+use Rattle.hall.specs.declared.kind.Kind.TheVariants.{Read, Insert, Delete}
+use Rattle.hall.specs.Kind.{kind_number}
 use Rattle.table.specs.TableContracts
 use Rattle.clients.specs.declared.Held.{Held}
 use Rattle.clients.specs.ClientContracts.{IsHeld, Writer, written_at}
 use Rattle.writing.specs.WriteContracts.{step_of, abandon_of}
 
+-- the number of a read is no other kind's
+reads_read : (k : Kind) → kind_number k ≡ reads → k ≡ Read
+reads_read Read e = refl
+reads_read Insert e = absurd (omega arith)
+reads_read Delete e = absurd (omega arith)
+
 -- h is what was read of the client
 -- the table has as many columns as were read
-pub table_held : (m : Mem) (d : ℕ) (h : Held) → IsHeld h m.clients d → Sound m → TableContracts.Fit h.columns m.table
+pub table_held : (m : Mem) (d : ℕ) (h : Held) → IsHeld h m.clients d → Sound m → TableContracts.Fit h.query.k m.table
 table_held m d h i s =
     let e = i.columns in
     record { columns = (let l = s.least in omega arith, let l = s.most in omega arith); long = s.long.table; few = s.records }
 
-module _ (tb nd an cl : List ℕ) (d : ℕ) (h : Held) (i : IsHeld h cl d) (x : h.kind ≡ reads → ⊥) where
+module _ (tb nd an cl : List ℕ) (d : ℕ) (h : Held) (i : IsHeld h cl d) (x : h.kind ≡ Read → ⊥) where
   -- the memories of the call
   abbrev m : Mem
   m = mem tb nd an cl
@@ -34,7 +43,7 @@ module _ (tb nd an cl : List ℕ) (d : ℕ) (h : Held) (i : IsHeld h cl d) (x : 
   -- it is at work on what it writes
   writes : work_at (shape m) (client m d) ≡ writing (written_at cl d)
   unfolding work_at work_in write_at client
-  writes = rw (ne_eqb (kind (client_in current cl d)) reads (λ y. x (i.kind ∙ y)))
+  writes = rw (ne_eqb (kind (client_in current cl d)) reads (λ y. x (reads_read h.kind (i.kind ∙ y))))
 
   pub writer_at : AtWork m d → Writer h cl d
   unfolding client

@@ -8,13 +8,13 @@ use Prim.Native.Nat.{ℕ, zero, suc, ◌+◌, ◌-◌, ◌≤◌, ◌<◌}
 use native.Mathlib.Numerals.{add-one}
 use native.Mathlib.Omega.{arith}
 use lib.Dec.{ltb}
-use lib.ListN.{length, get_or, take, drop, set, length-set, drop_of_length-le}
+use lib.ListN.{length, get_or, take, drop, set, drop_of_length-le}
 use lib.Seq.{drop-cons, take-suc-set}
 use borrow.Author.Tests.{ltb-true}
+use Rattle.std.proofs.Common.{Result, Ok, Err, is_ok, IfErr}
 use Rattle.lists.specs.Lists.{same, listed}
 use Rattle.laws.proofs.ListLaws.{ne_same, and_left, and_right, listed_snoc}
 use Rattle.query.specs.Query.{Query, write_node, write_count}
-use Rattle.query.specs.Encoding.{columns_in}
 use Rattle.query.specs.Shape.{max_columns}
 use Rattle.query.proofs.NodeLists.{write_count_most, write_nodes_differ}
 use Rattle.query.proofs.EncodingLaws.{columns_length, label_words_injective}
@@ -22,10 +22,11 @@ use Rattle.rules.specs.Layout.{max_revision, look_room}
 use Rattle.rules.specs.Nodes.{Words, Store, pending, revision, node_place, is_present, node_of, is_pending}
 use Rattle.rules.specs.Nodes.{released, lifted, may_retire, retired}
 use Rattle.rules.specs.Memory.{current, store_in, with_store}
-use Rattle.nodes.specs.NodeContracts as contracts
-use Rattle.nodes.specs.NodeContracts.{Fit, tried, node_at, retirable_spot, retired_at}
-use Rattle.nodes.specs.declared.Spot.{Spot}
-use Rattle.nodes.specs.declared.Spot.TheVariants.{At, Nowhere}
+use Rattle.hall.specs.declared.refusal.Refusal.{Refusal}
+use Rattle.hall.specs.declared.refusal.Refusal.TheVariants.{Unsound}
+use Rattle.columns.specs.declared.marked.Marked.{Marked}
+use Rattle.columns.specs.MarkedContracts.{marked_query}
+use Rattle.nodes.specs.NodeContracts.{Fit, attempt, telling, tried, node_at, retirable_place, retired_at}
 use Rattle.nodes.proofs.NodeStores.{Keeps, count_nodes, sized_in, store_back, store_self, store_twice}
 use Rattle.rules.proofs.NodeSizes.{Sized}
 use Rattle.nodes.proofs.NodeSpots.{place_retired, retired_at_law, length_retired_at, sized_retired_at}
@@ -101,61 +102,57 @@ module _ (lift : Bool) (q : Query) (i n : ℕ) (s : List ℕ) where
       test_stop z = sym (e ∙ rw (rest_more q i n j h, ← f, ← g, z))
 
 -- ---- the places kept from the test
-spot_given : (b : Bool) (i j : ℕ) → At i ≡ cond b (At j) Nowhere → (b ≡ true) × (i ≡ j)
-spot_given true i j e = (refl, cc)
-spot_given false i j e = let z : ◌≡◌ {A = ℕ} 0 1 = cc in absurd (omega arith)
+module _ (lift : Bool) (p : Words) (s : Store) (r : Result ℕ Refusal) (e : r ≡ retirable_place lift p s) where
+  pub place_there : (i : ℕ) → r ≡ Ok i → (may_retire current lift p s ≡ true) × (i ≡ node_place p s.nodes)
+  unfolding retirable_place
+  place_there i f = go (may_retire current lift p s) (sym f ∙ e)
+    where
+      go : (b : Bool) → Ok i ≡ cond b (Ok (node_place p s.nodes)) (Err Unsound) → (b ≡ true) × (i ≡ node_place p s.nodes)
+      go true g = (refl, cc)
+      go false g = cc
 
-spot_none : (b : Bool) (j : ℕ) → Nowhere ≡ cond b (At j) Nowhere → b ≡ false
-spot_none true j e = let z : ◌≡◌ {A = ℕ} 0 1 = cc in absurd (omega arith)
-spot_none false j e = refl
+  pub place_missing : (x : Refusal) → r ≡ Err x → (may_retire current lift p s ≡ false) × (x ≡ Unsound)
+  unfolding retirable_place
+  place_missing x f = go (may_retire current lift p s) (sym f ∙ e)
+    where
+      go : (b : Bool) → Err x ≡ cond b (Ok (node_place p s.nodes)) (Err Unsound) → (b ≡ false) × (x ≡ Unsound)
+      go true g = cc
+      go false g = (refl, cc)
 
-module _ (lift : Bool) (p : Words) (s : Store) (x : Spot) (e : x ≡ retirable_spot lift p s) where
-  pub spot_there : (i : ℕ) → x ≡ At i → (may_retire current lift p s ≡ true) × (i ≡ node_place p s.nodes)
-  unfolding retirable_spot
-  spot_there i f = spot_given (may_retire current lift p s) i (node_place p s.nodes) (sym f ∙ e)
+-- the refusal of a search goes on
+module _ {A : Type 0} (r : Result A Refusal) (e : Refusal) (h : r ≡ Err e) where
+  pub goes_on : (b : Bool) → false ≡ b → is_ok r ≡ b
+  goes_on b f = ap is_ok h ∙ f
 
-  pub spot_missing : x ≡ Nowhere → may_retire current lift p s ≡ false
-  unfolding retirable_spot
-  spot_missing f = spot_none (may_retire current lift p s) (node_place p s.nodes) (sym f ∙ e)
+  pub goes_unsound : e ≡ Unsound → IfErr r (λ x. x ≡ Unsound)
+  goes_unsound f = rw h f
 
 places_snoc : (ps : List Words) (p : Words) (s : Store) → places_of (ps ++ (p ∷ [])) s ≡ places_of ps s ++ (node_place p s.nodes ∷ [])
 unfolding places_of
 places_snoc [] p s = refl
 places_snoc (q ∷ ps) p s = ap (λ (l : List ℕ). node_place q s.nodes ∷ l) (places_snoc ps p s)
 
--- after the first j from number i on: their places are kept, in a memory as long as it was
-pub record Kept (q : Query) (i : ℕ) (s : Store) (l₀ l : List ℕ) (j : ℕ) : Type 0 where
-  pub size : length l ≡ length l₀
-  pub are : take j l ≡ places_of (labels_from q i j) s
+-- after the first j from number i on: l begins with their places
+module _ (q : Query) (i : ℕ) (s : Store) where
+  pub kept_none : [] ≡ places_of (labels_from q i 0) s
+  unfolding labels_from listed places_of
+  kept_none = refl
 
-pub kept_none : (q : Query) (i : ℕ) (s : Store) (l : List ℕ) → Kept q i s l l 0
-unfolding labels_from listed places_of
-kept_none q i s l = record { size = refl; are = refl }
-
-pub kept_more : (q : Query) (i : ℕ) (s : Store) (l₀ l : List ℕ) (j : ℕ) → Kept q i s l₀ l j → j < length l₀ → (p : Words) (x : ℕ)
-    → p ≡ label_at q (i + j) → x ≡ node_place p s.nodes → Kept q i s l₀ (set l j x) (j + 1)
-unfolding labels_from
-kept_more q i s l₀ l j k h p x e f =
-    let w : length l ≡ length l₀ = k.size in
-    record {
-      size = length-set l j x ∙ w;
-      are =
-          ap (λ (m : ℕ). take m (set l j x)) (add-one j) ∙ take-suc-set l j x (omega arith)
-          ∙ ap₂ (λ (a : List ℕ) (y : ℕ). a ++ (y ∷ [])) k.are (f ∙ ap (λ (y : Words). node_place y s.nodes) e)
-          ∙ sym (places_snoc (listed (label_at q) i j) (label_at q (i + j)) s)
-          ∙ ap (λ (ps : List Words). places_of ps s) (sym (listed_snoc (label_at q) i j));
-    }
-
-pub kept_all : (q : Query) (i : ℕ) (s : Store) (l₀ l : List ℕ) (j n : ℕ) → Kept q i s l₀ l j → j ≡ n
-    → take n l ≡ places_of (labels_from q i n) s
-kept_all q i s l₀ l j n x e = rw (← e) x.are
+  pub kept_more : (l : List ℕ) (j : ℕ) → take j l ≡ places_of (labels_from q i j) s → j < length l → (p : Words) (x : ℕ) → p ≡ label_at q (i + j)
+      → x ≡ node_place p s.nodes → take (j + 1) (set l j x) ≡ places_of (labels_from q i (j + 1)) s
+  unfolding labels_from
+  kept_more l j k h p x e f =
+      ap (λ (m : ℕ). take m (set l j x)) (add-one j) ∙ take-suc-set l j x h
+      ∙ ap₂ (λ (a : List ℕ) (y : ℕ). a ++ (y ∷ [])) k (f ∙ ap (λ (y : Words). node_place y s.nodes) e)
+      ∙ sym (places_snoc (listed (label_at q) i j) (label_at q (i + j)) s)
+      ∙ ap (λ (ps : List Words). places_of ps s) (sym (listed_snoc (label_at q) i j))
 
 -- at most 16 nodes
-pub few_nodes : (k m : ℕ) (vs : List ℕ) (n : ℕ) → n ≤ write_count (columns_in k m vs) → k ≤ max_columns → n ≤ look_room
-few_nodes k m vs n e l =
-    let w : length (columns_in k m vs) ≡ k = columns_length k m vs in
-    let most : write_count (columns_in k m vs) ≤ look_room = write_count_most (columns_in k m vs) (omega arith) in
-    omega arith
+pub few_nodes : (q : Marked) → write_count (marked_query q) ≤ look_room
+few_nodes q =
+    let w : length (marked_query q) ≡ q.k = columns_length q.k q.marks q.values in
+    let f : q.k ≤ max_columns = q.few in
+    write_count_most (marked_query q) (omega arith)
 
 -- ---- one taken off each
 -- after the first j: what is left to do leads where all would have led
@@ -269,13 +266,14 @@ module _
   can_take_off = subst (λ (m : List ℕ). CanTakeOff lift m (store_in current s)) (sym e) (by_places lift ps (store_in current s) o).0
 
   pub took_off : (u : List ℕ) → u ≡ with_store current s (taken_off lift l (store_in current s))
-      → contracts.attempt true u ≡ tried s (retired current lift ps (store_in current s))
-  unfolding tried
+      → attempt (Ok tt) u ≡ tried s (retired current lift ps (store_in current s))
+  unfolding telling
   took_off u f =
-      ap (contracts.attempt true) (f ∙ ap (λ (m : List ℕ). with_store current s (taken_off lift m (store_in current s))) e)
+      ap (attempt (Ok tt)) (f ∙ ap (λ (m : List ℕ). with_store current s (taken_off lift m (store_in current s))) e)
       ∙ ap (tried s) (sym (by_places lift ps (store_in current s) o).1)
 
-pub took_none : (s : List ℕ) (o : Option Store) → is_found o ≡ false → contracts.attempt false s ≡ tried s o
-unfolding tried is_found
-took_none s none h = refl
-took_none s (some t) h = let z : ◌≡◌ {A = ℕ} 0 1 = cc in absurd (omega arith)
+pub took_none : (s : List ℕ) (o : Option Store) (e : Refusal) → false ≡ is_found o → e ≡ Unsound → (r : Result (Unit {0}) Refusal) → r ≡ Err e
+    → attempt r s ≡ tried s o
+unfolding telling is_found
+took_none s none e h f r g = ap (λ (x : Result (Unit {0}) Refusal). attempt x s) (g ∙ ap Err f)
+took_none s (some t) e h f r g = cc

@@ -17,10 +17,14 @@ use Rattle.rules.specs.Outcome.{Result, StepResult}
 use Rattle.rules.specs.Refusals.{form}
 use Rattle.rules.specs.Steps.{write_result, end_of}
 use Rattle.rules.specs.Calls.{announced_labels, labels_left, retire_result, abandoned_write}
+use Rattle.hall.specs.Kind.{kind_number}
 use Rattle.nodes.specs.NodeContracts.{node_at, retired_at}
 use Rattle.clients.specs.declared.Held.{Held}
 use Rattle.clients.specs.ClientContracts.{held_query, written_at}
+use Rattle.table.specs.declared.Inserted.{Inserted}
+use Rattle.table.specs.declared.Inserted.TheVariants.{Added, Present, Full as NoRoom}
 use Rattle.writing.specs.declared.Report.{Report}
+use Rattle.writing.specs.declared.Report.TheVariants.{Changed, Unchanged, Full}
 
 -- how many steps the write has made; the labels of its nodes, and how many there are
 abbrev pub step_at : List ℕ → ℕ → ℕ
@@ -51,20 +55,22 @@ abandon_of m d = abandoned_write m d (written_at m.clients d) (step_at m.clients
 
 -- what a write does to the table, by what was read of its client
 unfoldable pub held_change : Held → Change
-held_change h = cond (eqb h.kind inserts) (insert (take h.columns h.values)) (delete (held_query h))
+held_change h = cond (eqb (kind_number h.kind) inserts) (insert (take h.query.k h.query.values)) (delete (held_query h))
 
--- what a write's table step says of the table
-abbrev pub report : Bool → Bool → Report
-report b f = record { changed = b; full = f }
-
+-- what a write's table step says of the table; of an insert, by what that says
 unfoldable pub reported : Change → Table → Report
-reported w t = report (changes w t) (no_room w t)
+reported w t = cond (no_room w t) Full (cond (changes w t) Changed Unchanged)
+
+abbrev pub report_of : Inserted → Report
+report_of Added = Changed
+report_of Present = Unchanged
+report_of NoRoom = Full
 
 -- after a raise: the last one ends the write
-unfoldable pub raise_end : Bool → Client → Outcome
+abbrev pub raise_end : Bool → Client → Outcome
 raise_end is_last c = cond is_last (end_of c) Accepted
 
-unfoldable pub raise_left : Bool → Client → Client
+abbrev pub raise_left : Bool → Client → Client
 raise_left is_last c = cond is_last idle (stepped c)
 
 -- ---- marks taken off, by the labels of the nodes and by their places

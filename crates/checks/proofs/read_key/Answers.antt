@@ -1,5 +1,5 @@
 -- `checks::read_key` meets its contract: a range that stands beside its query is on one of the four columns. Assumes nothing.
-use Rattle.std.proofs.Common.{sym, arith}
+use Rattle.std.proofs.Common.{sym}
 use Rattle.checks.proofs.BeginKeys.{range_near}
 use Rattle.checks.proofs.read_key.Goals as goal
 

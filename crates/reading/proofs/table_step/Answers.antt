@@ -1,24 +1,12 @@
 -- `reading::table_step` meets its contract: a list: too long, kept for the file step, or given at once. Assumes nothing.
-use Rattle.std.proofs.Common.{arith, rules}
-use Rattle.clients.proofs.HeldLaws.{at_steps}
-use Rattle.reading.proofs.Listing.{list_few, list_fits, steps_kept, held_short, table_long, table_held, table_given}
+use Rattle.std.proofs.Common.{rules}
+use Rattle.reading.proofs.Listing.{held_short, table_long, table_held, table_given}
 use Rattle.reading.proofs.table_step.Goals as goal
 
 pub returns-in_default : goal.returns-in_default
 returns-in_default c =
     let p = c.requires in
     table_long p.read _ p.fit _ c.gather_list.ensures.clients_after c.if-h.false c.in_default.ensures.value _ c.set_idle.ensures p.step _
-
-pub overflow_mul-n : goal.overflow_mul-n
-overflow_mul-n c = omega (arith, list_fits c.requires.read _ c.requires.fit _ c.in-Some.ensures.value)
-
-pub set_value-requires : goal.set_value-requires
-set_value-requires c =
-    let p = c.requires in
-    let l = c.in-Some.ensures.value in (
-      search rules,
-      (omega (arith, list_few _ _ l), (list_fits p.read _ p.fit _ l, omega (arith, at_steps p.read, steps_kept p.read _ p.fit _ c.gather_list.ensures.clients_after))),
-    )
 
 pub returns-then-not-saw : goal.returns-then-not-saw
 returns-then-not-saw c =
@@ -32,7 +20,7 @@ answer_held-requires c =
       client = search rules;
       few = c.args.h.query.few;
       short = held_short p.read _ p.fit _ c.gather_list.ensures.clients_after c.if-h.false _ c.in-Some.ensures.value _ (c.set_value.ensures _);
-      room = search rules;
+      room = p.room;
     }
 
 pub returns : goal.returns

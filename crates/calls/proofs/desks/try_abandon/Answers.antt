@@ -4,7 +4,7 @@ use Rattle.rules.specs.Refusals.{abandon_code}
 use Rattle.rules.proofs.PassedChecks.{abandon_passed}
 use Rattle.writing.proofs.PassedWrite.{gives_up, abandon_due}
 use Rattle.checks.proofs.SoundMemories.{nodes_fit, client_fit}
-use Rattle.calls.proofs.CallLaws.{passed, held_there, not_reads, reader_gives_up}
+use Rattle.calls.proofs.CallLaws.{passed, held_there, reader_gives_up}
 use Rattle.calls.proofs.desks.try_abandon.Goals as goal
 
 pub set_idle-requires : goal.set_idle-requires
@@ -20,7 +20,7 @@ returns-in-Read-clause-leaves c =
 pub abandon_write-requires-clause-writer : goal.abandon_write-requires-clause-writer
 abandon_write-requires-clause-writer c =
     let z = passed c.view.ensures (λ m. abandon_code m c.args.client) c.in_ok-held.ensures.code in
-    gives_up _ _ _ _ _ _ (held_there c.view.ensures _ c.in_ok-held.ensures.ok) (not_reads _ c.in_default.not-Read) z
+    gives_up _ _ _ _ _ _ (held_there c.view.ensures _ c.in_ok-held.ensures.ok) c.in_default.not-Read z
 
 pub abandon_write-requires-clause-fit : goal.abandon_write-requires-clause-fit
 abandon_write-requires-clause-fit c =
@@ -30,4 +30,4 @@ abandon_write-requires-clause-fit c =
 pub returns-in_default-clause-leaves : goal.returns-in_default-clause-leaves
 returns-in_default-clause-leaves c =
     let z = passed c.view.ensures (λ m. abandon_code m c.args.client) c.in_ok-held.ensures.code in
-    c.abandon_write.ensures _ _ ∙ abandon_due _ _ _ _ _ _ (held_there c.view.ensures _ c.in_ok-held.ensures.ok) (not_reads _ c.in_default.not-Read) z
+    c.abandon_write.ensures _ _ ∙ abandon_due _ _ _ _ _ _ (held_there c.view.ensures _ c.in_ok-held.ensures.ok) c.in_default.not-Read z

@@ -6,7 +6,7 @@ use Rattle.reading.proofs.PassedRead.{reads_on, read_due}
 use Rattle.writing.proofs.PassedWrite.{table_held, writes_on, write_due}
 use Rattle.hall.specs.Memories.{lent_mut}
 use Rattle.checks.proofs.SoundMemories.{nodes_fit}
-use Rattle.calls.proofs.CallLaws.{passed, held_there, not_reads}
+use Rattle.calls.proofs.CallLaws.{passed, held_there}
 use Rattle.calls.proofs.desks.try_step.Goals as goal
 
 pub read_step-requires : goal.read_step-requires
@@ -22,7 +22,7 @@ returns-in-Read-clause-leaves c =
 pub write_step-requires-clause-writer : goal.write_step-requires-clause-writer
 write_step-requires-clause-writer c =
     let z = passed c.view.ensures (λ m. step_code m c.args.tray.now c.args.client) c.in_ok-held.ensures.code in
-    writes_on _ _ _ _ _ _ (held_there c.view.ensures _ c.in_ok-held.ensures.ok) (not_reads _ c.in_default.not-Read) _ z
+    writes_on _ _ _ _ _ _ (held_there c.view.ensures _ c.in_ok-held.ensures.ok) c.in_default.not-Read _ z
 
 pub write_step-requires-clause-fit : goal.write_step-requires-clause-fit
 write_step-requires-clause-fit c =
@@ -37,4 +37,4 @@ write_step-requires-clause-fit_2 c =
 pub returns-in_default-clause-leaves : goal.returns-in_default-clause-leaves
 returns-in_default-clause-leaves c =
     let z = passed c.view.ensures (λ m. step_code m c.args.tray.now c.args.client) c.in_ok-held.ensures.code in
-    c.write_step.ensures _ _ ∙ write_due _ _ _ _ _ _ (held_there c.view.ensures _ c.in_ok-held.ensures.ok) (not_reads _ c.in_default.not-Read) _ z
+    c.write_step.ensures _ _ ∙ write_due _ _ _ _ _ _ (held_there c.view.ensures _ c.in_ok-held.ensures.ok) c.in_default.not-Read _ z
