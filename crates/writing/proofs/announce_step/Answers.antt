@@ -8,7 +8,6 @@ returns-in_err-announce c = λ t a y.
     let p = c.requires in
     announce_refused t _ a _ y _ _ _ _ _ _ (announce_label p.writer _ c.write_label.ensures p.due) c.announce.ensures p.due _ c.in_err-announce.was c.from_residual.result (search rules)
 
-
 pub returns : goal.returns
 returns c = λ t a y.
     let p = c.requires in

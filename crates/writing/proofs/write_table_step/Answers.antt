@@ -22,7 +22,6 @@ full_said Full = refl
 kept : (r : Report) (b f : Bool) → b ≡ sameb the_type r Changed → f ≡ sameb the_type r Full → (c : Client) → wrote b f c ≡ wrote (says_changed r) (says_full r) c
 kept r b f e g c = ap₂ (λ x y. wrote x y c) (e ∙ changed_said r) (g ∙ full_said r)
 
-
 pub returns : goal.returns
 returns c =
     let p = c.requires in
