@@ -1,6 +1,6 @@
 -- `writing::announce_step` meets its contract. Assumes nothing.
-use Rattle.std.proofs.Common.{arith, rules}
-use Rattle.writing.proofs.WriteSteps.{step_small, announce_label, announce_refused, announce_done}
+use Rattle.std.proofs.Common.{rules}
+use Rattle.writing.proofs.WriteSteps.{announce_label, announce_refused, announce_done}
 use Rattle.writing.proofs.announce_step.Goals as goal
 
 pub returns-in_err-announce : goal.returns-in_err-announce
