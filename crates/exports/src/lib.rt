@@ -145,7 +145,12 @@ pub extern "C" fn mondzafeky_begin_read_within(
         clients,
     };
     let out = calls::begins::begin_read_within(
-        &mut memories, client, query, column, lowest, highest,
+        &mut memories,
+        client,
+        query,
+        column,
+        lowest,
+        highest,
     );
     Reply::from(out)
 }
@@ -172,7 +177,12 @@ pub extern "C" fn mondzafeky_begin_count_within(
         clients,
     };
     let out = calls::begins::begin_count_within(
-        &mut memories, client, query, column, lowest, highest,
+        &mut memories,
+        client,
+        query,
+        column,
+        lowest,
+        highest,
     );
     Reply::from(out)
 }

@@ -3,16 +3,15 @@
 use mathlib.Core.Path.{◌≡◌, refl, sym, ap, ◌∙◌}
 use mathlib.Core.Bool.{Bool, true, false}
 use mathlib.Core.List.{List, [], ◌∷◌, ◌++◌}
-use Prim.Native.Nat.{ℕ, ◌+◌, ◌*◌, ◌/◌, ◌≤◌, ◌<◌}
+use Prim.Native.Nat.{ℕ, ◌+◌, ◌*◌, ◌/◌, ◌≤◌, ◌<◌, min}
 use native.Mathlib.Nat.{add-zero}
 use native.Mathlib.Numerals.{add-one}
 use native.Mathlib.Omega.{arith}
-use mir.Val.{bool_byte}
-use lib.Dec.{eqb}
+use lib.Dec.{eqb, ltb}
 use lib.ListN.{length, get_or, take, drop, set}
 use Rattle.std.proofs.lemmas.List.{get_or_default}
 use lib.Seq.{take_all, take-suc, length-take-le}
-use borrow.Author.Tests.{eqb-true, eqb-false}
+use borrow.Author.Tests.{eqb-true, eqb-false, ltb-true, ltb-false}
 use Rattle.std.proofs.Common.{Option, Some, None, Less, Equal, Greater, is_eq, is_gt}
 use Rattle.std.specs.List.{enumerate_from}
 use Rattle.lists.specs.Lists.{before, place, rows}
@@ -50,14 +49,15 @@ module _ {A : Type 0} (p : A → Bool) (l : List A) (x : A) where
       (λ z. let h : place p l ≡ length l = eqb-true _ _ z in place_behind p l (x ∷ []) h ∙ ap (λ (m : ℕ). length l + m) (place_here p x [] e) ∙ add-zero (length l) ∙ sym h)
       (λ z. place_stays (eqb-false _ _ z))
 
--- where the loop stands: none of the first i records is r, and its spot among them is known
+-- where the loop stands: none of the first i records is r, and the first greater one of them is at the spot, or it is behind all n
 pub record Seeking (r : Record) (t : Table) (i spot : ℕ) : Type 0 where
   pub none : has r (take i t) ≡ false
-  pub spot_is : spot ≡ place (before r) (take i t)
+  pub met : place (before r) (take i t) < i → spot ≡ place (before r) (take i t)
+  pub unmet : place (before r) (take i t) ≡ i → spot ≡ length t
 
-pub seek_none : (r : Record) (t : Table) → Seeking r t 0 0
+pub seek_none : (r : Record) (t : Table) (n : ℕ) → n ≡ length t → Seeking r t 0 n
 unfolding has place
-seek_none r t = record { none = refl; spot_is = refl }
+seek_none r t n e = record { none = refl; met = λ h. absurd (omega arith); unmet = λ _. e }
 
 -- x: the record that the scan stands at
 module _ (r : Record) (t : Table) (i spot : ℕ) (a : Seeking r t i spot) (h : i < length t) (x : Record) (y : x ≡ get_or t i x) (w : length x ≡ length r) where
@@ -67,32 +67,47 @@ module _ (r : Record) (t : Table) (i spot : ℕ) (a : Seeking r t i spot) (h : i
   upto : length (take i t) ≡ i
   upto = length-take-le i t (omega arith)
 
-  pub spot_few : spot ≤ i
-  spot_few = let u = upto in let p = place_le (before r) (take i t) in omega (arith, a.spot_is)
-
-  turn : (spot' : ℕ) → is_eq (order_of x r) ≡ false → spot' ≡ place (before r) (take i t ++ (x ∷ [])) → Seeking r t (i + 1) spot'
-  turn spot' e f =
-      record {
-        none = rw last_is (has_snoc r (take i t) x a.none (same_is x r ∙ e));
-        spot_is = f ∙ ap (place (before r)) (sym last_is);
-      }
+  none_now : is_eq (order_of x r) ≡ false → has r (take (i + 1) t) ≡ false
+  none_now e = rw last_is (has_snoc r (take i t) x a.none (same_is x r ∙ e))
 
   greater : before r x ≡ is_gt (order_of x r)
   greater = above_is x r w
 
-  pub turn_less : (b : ℕ) → order_of x r ≡ Less → b ≡ bool_byte (eqb spot i) → Seeking r t (i + 1) (spot + b)
-  turn_less b o f =
-      let u = upto in
-      by_test (eqb spot i)
-      (λ z. let g : place (before r) (take i t) ≡ length (take i t) = sym a.spot_is ∙ eqb-true spot i z ∙ sym u in
-      let d : place (before r) (take i t ++ (x ∷ [])) ≡ length (take i t) + 1 = place_on (before r) (take i t) x g (greater ∙ ap is_gt o) in
-      let c : b ≡ 1 = f ∙ ap bool_byte z in
-      turn (spot + b) (ap is_eq o) (let e = eqb-true spot i z in omega arith))
-      (λ z. let c : b ≡ 0 = f ∙ ap bool_byte z in
-      turn (spot + b) (ap is_eq o) (rw (c, add-zero) (a.spot_is ∙ sym (place_stays (before r) (take i t) x (λ e. eqb-false spot i z (a.spot_is ∙ e ∙ upto))))))
+  within : place (before r) (take i t) ≤ i
+  within = let u = upto in let p = place_le (before r) (take i t) in omega arith
 
-  pub turn_greater : order_of x r ≡ Greater → Seeking r t (i + 1) spot
-  turn_greater o = turn spot (ap is_eq o) (a.spot_is ∙ sym (place_greater (before r) (take i t) x (greater ∙ ap is_gt o)))
+  -- where a greater one was met, the spot stays
+  front : place (before r) (take i t) < i → place (before r) (take (i + 1) t) ≡ place (before r) (take i t)
+  front m = ap (place (before r)) last_is ∙ place_stays (before r) (take i t) x (λ z. let u = upto in let q : place (before r) (take i t) ≡ length (take i t) = z in omega arith)
+
+  pub turn_less : order_of x r ≡ Less → Seeking r t (i + 1) spot
+  turn_less o =
+      let u = upto in
+      let b = within in
+      let behind : place (before r) (take i t) ≡ i → place (before r) (take (i + 1) t) ≡ i + 1 =
+      (λ e. ap (place (before r)) last_is ∙ place_on (before r) (take i t) x (e ∙ sym u) (greater ∙ ap is_gt o) ∙ ap (λ (m : ℕ). m + 1) u) in
+      record {
+        none = none_now (ap is_eq o);
+        met = λ m. by_test (ltb (place (before r) (take i t)) i)
+            (λ z. let l = ltb-true (place (before r) (take i t)) i z in a.met l ∙ sym (front l))
+            (λ z. absurd (let l = ltb-false (place (before r) (take i t)) i z in let q = behind (omega arith) in omega arith));
+        unmet = λ e. by_test (ltb (place (before r) (take i t)) i)
+            (λ z. absurd (let l = ltb-true (place (before r) (take i t)) i z in let q = front l in omega arith))
+            (λ z. let l = ltb-false (place (before r) (take i t)) i z in a.unmet (omega arith));
+      }
+
+  pub turn_greater : order_of x r ≡ Greater → (spot' : ℕ) → spot' ≡ min spot i → Seeking r t (i + 1) spot'
+  turn_greater o spot' f =
+      let u = upto in
+      let b = within in
+      let here : place (before r) (take (i + 1) t) ≡ place (before r) (take i t) = ap (place (before r)) last_is ∙ place_greater (before r) (take i t) x (greater ∙ ap is_gt o) in
+      record {
+        none = none_now (ap is_eq o);
+        met = λ m. by_test (ltb (place (before r) (take i t)) i)
+            (λ z. let l = ltb-true (place (before r) (take i t)) i z in let q = a.met l in omega arith)
+            (λ z. let l = ltb-false (place (before r) (take i t)) i z in let e : place (before r) (take i t) ≡ i = omega arith in let q = a.unmet e in omega arith);
+        unmet = λ e. absurd (omega arith);
+      }
 
   pub seek_there : order_of x r ≡ Equal → None ≡ spot_of r t
   seek_there o = sym (is_there r t (has_at r t i h (rw (y ∙ default) at (to_same x r o))))
@@ -101,20 +116,25 @@ module _ (r : Record) (t : Table) (i spot : ℕ) (a : Seeking r t i spot) (h : i
       default = get_or_default t i x [] h
 
 -- one turn over the table's records, which are counted
-pub scan_at : (r : Record) (s : List ℕ) (f : Fit (length r) s) (n i : ℕ) (x : Record)
-    → (let l = lent (length r) s in let t = rows (length r) (length l / length r) l in (n < length (enumerate_from 0 t)) × ((i, x) ≡ get_or (enumerate_from 0 t) n (i, x)))
-    → (let t = records_in (length r) s in (n < length t) × (i ≡ n) × (x ≡ get_or t n x) × (length x ≡ length r))
-scan_at r s f n i x t =
-    let l = lent (length r) s in
-    let u = counted_turn (rows (length r) (length l / length r) l) n i x t in
-    let e = records_are (length r) l ∙ lent_records (length r) s f in
-    (rw e at u.0, u.1, rw e at u.2, chunk_long (length r) l n x (u.0, u.2))
+pub scan_at : (k : ℕ) (s : List ℕ) (f : Fit k s) (n i : ℕ) (x : Record)
+    → (let l = lent k s in let t = rows k (length l / k) l in (n < length (enumerate_from 0 t)) × ((i, x) ≡ get_or (enumerate_from 0 t) n (i, x)))
+    → (let t = records_in k s in (n < length t) × (i ≡ n) × (x ≡ get_or t n x) × (length x ≡ k))
+scan_at k s f n i x t =
+    let l = lent k s in
+    let u = counted_turn (rows k (length l / k) l) n i x t in
+    let e = records_are k l ∙ lent_records k s f in
+    (rw e at u.0, u.1, rw e at u.2, chunk_long k l n x (u.0, u.2))
 
 -- all records passed
 pub seek_all : (r : Record) (t : Table) (i spot : ℕ) → Seeking r t i spot → i ≡ length t → Some spot ≡ spot_of r t
 seek_all r t i spot a h =
     let e : take i t ≡ t = take_all i t (omega arith) in
-    rw e at (ap Some a.spot_is) ∙ sym (goes_before r t (rw e at a.none))
+    let l : place (before r) t ≤ length t = place_le (before r) t in
+    let s : spot ≡ place (before r) t =
+    by_test (ltb (place (before r) t) i)
+    (λ z. let m = ltb-true (place (before r) t) i z in rw e at a.met m)
+    (λ z. let m = ltb-false (place (before r) t) i z in let q : place (before r) t ≡ i = omega arith in rw e at a.unmet q ∙ sym h ∙ sym q) in
+    ap Some s ∙ sym (goes_before r t (rw e at a.none))
 
 -- ---- the insert, where the scan has given its spot
 module _ (s : List ℕ) (r : Record) (f : Fit (length r) s) (p : Option ℕ) (e : p ≡ spot_of r (records_in (length r) s)) where

@@ -87,19 +87,32 @@ pub fn count(table: &[u32], query: &Query, range: Range) -> usize
     widths::count(recs, k, &Bounds::of(query, column, lowest, highest)) as usize
 }
 
-// One scan: the place of the first greater record, or none where the record is there, anywhere.
+// The place of the first greater record, or none where the record is there, anywhere.
 fn seek(table: &[u32], rec: &[u32]) -> Option<usize>
     requires { Fit (length rec.now) table.now }
     ensures { result ≡ spot_of rec.now (records_in (length rec.now) table.now) }
 {
-    let k = rec.len();
-    let mut spot = 0;
-    for (i, x) in records(table, k).chunks_exact(k).enumerate() {
+    match rec.len() {
+        4 => seek_in::<4>(table, rec),
+        3 => seek_in::<3>(table, rec),
+        2 => seek_in::<2>(table, rec),
+        _ => seek_in::<1>(table, rec),
+    }
+}
+
+// The same of K columns, in one scan.
+fn seek_in<const K: usize>(table: &[u32], rec: &[u32]) -> Option<usize>
+    requires fit { Fit K table.now }
+    requires width { length rec.now ≡ K }
+    ensures { result ≡ spot_of rec.now (records_in K table.now) }
+{
+    let recs = records(table, K);
+    let mut spot = recs.len() / K;
+    for (i, x) in recs.chunks_exact(K).enumerate() {
         match words::compare(x, rec) {
+            Ordering::Less => {}
             Ordering::Equal => return None,
-            // While no greater one was met, the spot is behind all that were.
-            Ordering::Less => spot += usize::from(spot == i),
-            Ordering::Greater => {}
+            Ordering::Greater => spot = spot.min(i),
         }
     }
     Some(spot)

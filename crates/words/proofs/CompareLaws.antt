@@ -1,8 +1,8 @@
--- Laws of the comparisons: std's `==`, `cmp` and a fold of tests in the words of lists, and what `order_of` tells of `same` and `before`.
+-- Laws of the comparisons: std's `==` and a fold of tests in the words of lists, and what `order_of` tells of `same` and `before`.
 -- Leans on the library's lists and tests. Assumes nothing.
-use Rattle.std.proofs.Common.{◌≡◌, ℕ, ◌<◌, ◌⊎◌, inl, inr, ⊎_elim, refl, sym, ap, ◌∙◌, Bool, true, false, true≢false, ◌&&◌, List, [], ◌∷◌, length, replicate, eqb, ltb, nat_eq, nat_cmp, fold, Ordering, Less, Equal, Greater, is_lt, is_eq, is_gt, arith, ltb-true, ltb-false, lt-ltb, le-ltb, eq-eqb, ne_eqb}
+use Rattle.std.proofs.Common.{◌≡◌, ℕ, ◌+◌, ◌<◌, ◌≤◌, ◌⊎◌, inl, inr, ⊎_elim, refl, sym, ap, ◌∙◌, Bool, true, false, true≢false, ◌&&◌, List, [], ◌∷◌, length, get_or, drop, replicate, cond, eqb, ltb, nat_eq, nat_cmp, fold, Ordering, Less, Equal, Greater, is_lt, is_eq, is_gt, add-one, drop-cons, drop_of_length-le, arith, ltb-true, ltb-false, lt-ltb, le-ltb, eq-eqb, ne_eqb}
 use mathlib.Core.Bool.{and_assoc, and-true}
-use Rattle.std.specs.Cmp.Lexicographic.{pointwise, slice_cmp}
+use Rattle.std.specs.Cmp.Lexicographic.{pointwise}
 use Rattle.lists.specs.Lists.{same, before}
 use Rattle.words.specs.WordContracts.{order_of}
 
@@ -37,17 +37,25 @@ less x y h = (lt-ltb x y h, (ne_eqb x y (λ e. omega arith), le-ltb y x (omega a
 alike : (x y : ℕ) → x ≡ y → (ltb x y ≡ false) × ((eqb x y ≡ true) × (ltb y x ≡ false))
 alike x y h = (le-ltb x y (omega arith), (eq-eqb x y h, le-ltb y x (omega arith)))
 
--- `cmp` of two slices of one length is `order_of`
-pub cmp_is_order : (a b : List ℕ) → length a ≡ length b → slice_cmp nat_cmp a b ≡ order_of a b
+-- number by number: x and y are what stands n numbers on
+module _ (a b : List ℕ) (n x y : ℕ) (t : (n < length a) × (n < length b) × ((d : ℕ) → x ≡ get_or a n d) × ((d : ℕ) → y ≡ get_or b n d)) where
+  step : order_of (drop n a) (drop n b) ≡ cond (ltb x y) Less (cond (ltb y x) Greater (order_of (drop (n + 1) a) (drop (n + 1) b)))
+  unfolding order_of
+  step = rw (add-one, drop-cons a n 0 t.0, drop-cons b n 0 t.1, ← t.2 0, ← t.3 0)
+
+  pub order_differs : (x ≡ y → ⊥) → nat_cmp x y ≡ order_of (drop n a) (drop n b)
+  order_differs e =
+      ⊎_elim (λ h. let t = less x y h in rw (step, t.0))
+      (⊎_elim (λ h. absurd (e h))
+      (λ h. let t = less y x h in rw (step, t.0, t.1.1, ne_eqb x y e)))
+      (three x y)
+
+  pub order_alike : x ≡ y → order_of (drop n a) (drop n b) ≡ order_of (drop (n + 1) a) (drop (n + 1) b)
+  order_alike e = let t = alike x y e in rw (step, t.0, t.1.1)
+
+pub order_end : (a b : List ℕ) (n : ℕ) → length a ≡ length b → length a ≤ n → Equal ≡ order_of (drop n a) (drop n b)
 unfolding order_of
-cmp_is_order [] [] e = refl
-cmp_is_order [] (y ∷ m) e = absurd (omega arith)
-cmp_is_order (x ∷ l) [] e = absurd (omega arith)
-cmp_is_order (x ∷ l) (y ∷ m) e =
-    ⊎_elim (λ h. let t = less x y h in rw t.0)
-    (⊎_elim (λ h. let t = alike x y h in rw (t.0, t.1.0, t.1.1) (cmp_is_order l m (omega arith)))
-    (λ h. let t = less y x h in rw (t.0, t.1.1, ne_eqb x y (λ e. omega arith))))
-    (three x y)
+order_end a b n e h = let g : length b ≤ n = omega arith in rw (drop_of_length-le a h, drop_of_length-le b g)
 
 -- lists are the same exactly where the order is Equal
 pub same_is : (a b : List ℕ) → same a b ≡ is_eq (order_of a b)

@@ -14,7 +14,7 @@ use borrow.Author.Tests.{eq-eqb, ne_eqb, le-ltb}
 use Rattle.rules.specs.declared.Outcome.{Outcome}
 use Rattle.rules.specs.declared.Outcome.TheVariants.{Accepted, Full, Ended}
 use Rattle.rules.specs.declared.Count.{Count}
-use Rattle.rules.specs.declared.Count.TheVariants.{EndedChanged, EndedUnchanged, WriteAbandoned}
+use Rattle.rules.specs.declared.Count.TheVariants.{WriteAbandoned}
 use Rattle.rules.specs.Table.{Change}
 use Rattle.rules.specs.Nodes.{Words, Store, announced, retired}
 use Rattle.rules.specs.Client.{Client, did_change, found_full}

@@ -23,7 +23,7 @@ use Rattle.clients.specs.ClientContracts.{IsHeld, Writer, written_at}
 use Rattle.writing.specs.WriteContracts.{step_of, abandon_of}
 
 -- the number of a read is no other kind's
-reads_read : (k : Kind) → kind_number k ≡ reads → k ≡ Read
+pub reads_read : (k : Kind) → kind_number k ≡ reads → k ≡ Read
 reads_read Read e = refl
 reads_read Insert e = absurd (omega arith)
 reads_read Delete e = absurd (omega arith)

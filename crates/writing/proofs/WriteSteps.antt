@@ -21,7 +21,7 @@ use Rattle.query.proofs.NodeLists.{write_count_least}
 use Rattle.query.proofs.EncodingLaws.{columns_length, query_in_length}
 use Rattle.rules.specs.declared.Outcome.{Outcome}
 use Rattle.rules.specs.declared.Outcome.TheVariants.{Accepted}
-use Rattle.rules.specs.Layout.{max_list, look_room, client_width, inserts}
+use Rattle.rules.specs.Layout.{max_list, client_width, inserts}
 use Rattle.rules.specs.Table.{Table, Change, insert, delete, effect, changes, no_room, SaysChanged}
 use Rattle.rules.specs.Nodes.{Words, Store, announced, retired}
 use Rattle.rules.specs.Work.{Write, write_labels, write_in, change_in, steps_in_all}

@@ -133,13 +133,8 @@ fn after_raise(clients: &mut [u32], d: usize, last: bool) -> Outcome
 
 // A raise at the write's next node: its revision goes up if the client keeps that the list of records changed, else it stays. Refused where the
 // node is missing, has no pending write or cannot be raised; one whose revision stays is not refused for a revision at its largest.
-#[tactic(auto, using(clients::proofs::HeldLaws::writer_announcements, crate::proofs::WriteSteps::step_most, crate::proofs::WriteSteps::step_small))]
-fn raise_step(
-    nodes: &mut [u32],
-    clients: &mut [u32],
-    d: usize,
-    h: Held,
-) -> Result<Outcome, Refusal>
+#[tactic(auto, using(clients::proofs::HeldLaws::writer_announcements, crate::proofs::WriteSteps::step_most))]
+fn raise_step(nodes: &mut [u32], clients: &mut [u32], d: usize, h: Held) -> Result<Outcome, Refusal>
     requires writer { Writer h clients.old d }
     requires fit { NodeContracts.Fit nodes.old }
     requires due { count_at clients.old d < step_at clients.old d }
@@ -154,7 +149,7 @@ fn raise_step(
 
 // ---- The next step
 // One step of a write: its marks come first, then the table, then its raises.
-#[tactic(auto, using(clients::proofs::HeldLaws::writer_announcements, std::proofs::lemmas::Cmp::ranked))]
+#[tactic(auto, using(clients::proofs::HeldLaws::writer_announcements))]
 pub fn write_step(
     table: &mut [u32],
     nodes: &mut [u32],
@@ -197,12 +192,7 @@ fn release_all(
 // the client keeps that the list of records changed, else they stay. Refused where one of the nodes is missing, has no pending write or cannot
 // be raised, as at a raise step.
 #[tactic(auto, using(clients::proofs::HeldLaws::writer_announcements, crate::proofs::WriteSteps::step_most))]
-fn raise_all(
-    nodes: &mut [u32],
-    clients: &mut [u32],
-    d: usize,
-    h: Held,
-) -> Result<Outcome, Refusal>
+fn raise_all(nodes: &mut [u32], clients: &mut [u32], d: usize, h: Held) -> Result<Outcome, Refusal>
     requires writer { Writer h clients.old d }
     requires fit { NodeContracts.Fit nodes.old }
     requires late { count_at clients.old d < step_at clients.old d }

@@ -18,7 +18,6 @@ by_number Read = refl
 by_number Insert = refl
 by_number Delete = refl
 
-
 pub returns-then-eq : goal.returns-then-eq
 returns-then-eq c =
     let said = c.insert.ensures in

@@ -1,12 +1,12 @@
 -- `writing::write_table_step` meets its contract: the client keeps what the change said. Assumes nothing.
-use Rattle.std.proofs.Common.{◌≡◌, Bool, ap, ap₂, ◌∙◌, refl, arith}
+use Rattle.std.proofs.Common.{◌≡◌, Bool, ap, ap₂, ◌∙◌, refl}
 use denote.Enum.Bare.{sameb}
 use Rattle.rules.specs.Client.{Client, wrote}
 use Rattle.rules.specs.Memory.{current, client_in, with_client}
 use Rattle.writing.specs.declared.Report.{Report}
 use Rattle.writing.specs.declared.Report.TheVariants.{Changed, Unchanged, Full}
 use Rattle.writing.specs.contracts.Report.{the_type}
-use Rattle.writing.proofs.WriteSteps.{step_small, held_change_law, held_width, says_changed, says_full, table_done, table_says}
+use Rattle.writing.proofs.WriteSteps.{held_change_law, held_width, says_changed, says_full, table_done, table_says}
 use Rattle.writing.proofs.write_table_step.Goals as goal
 
 changed_said : (r : Report) → sameb the_type r Changed ≡ says_changed r
@@ -21,7 +21,6 @@ full_said Full = refl
 
 kept : (r : Report) (b f : Bool) → b ≡ sameb the_type r Changed → f ≡ sameb the_type r Full → (c : Client) → wrote b f c ≡ wrote (says_changed r) (says_full r) c
 kept r b f e g c = ap₂ (λ x y. wrote x y c) (e ∙ changed_said r) (g ∙ full_said r)
-
 
 pub returns : goal.returns
 returns c =

@@ -7,7 +7,6 @@ use Rattle.writing.proofs.retire.can_retire.Goals as goal
 pub loop-j-init : goal.loop-j-init
 loop-j-init c = record { left = test_start _ _ _ _ _ c.requires.within; kept = kept_none _ _ _; size = search rules }
 
-
 pub returns-in_err-places-clause-found : goal.returns-in_err-places-clause-found
 returns-in_err-places-clause-found c =
     let x = place_missing _ _ _ _ c.find_retirable.ensures _ c.in_err-places.was in
@@ -16,8 +15,6 @@ returns-in_err-places-clause-found c =
 pub returns-in_err-places-clause-refusal : goal.returns-in_err-places-clause-refusal
 returns-in_err-places-clause-refusal c =
     goes_unsound _ _ (search rules) (place_missing _ _ _ _ c.find_retirable.ensures _ c.in_err-places.was).1
-
-
 
 pub loop-j-preserved : goal.loop-j-preserved
 loop-j-preserved c =
