@@ -1,4 +1,4 @@
-// The begins: what arrives is checked and taken, and the client keeps its kind and its key. Leans on checks for the refusals and the key.
+// The begins, each a call of its own for callers (docs/CALLS.md) over `begin`: what arrives is checked and taken, and the client keeps its kind and its key. Leans on checks for the refusals and the key.
 ghost use Rattle.std.specs.Prelude.{◌≡◌, true, false};
 ghost use Rattle.query.specs.declared.Range.TheVariants.{None, Between};
 ghost use Rattle.rules.specs.Work.{read_of, insert_of, delete_of};

@@ -54,6 +54,7 @@ fn client(clients: &[u32], d: usize) -> &[u32]
     &clients[at..at + Hall::CLIENT_WIDTH]
 }
 
+// Three flags, each a number of its own. They are three functions: one with the place as a parameter would say less where it is called.
 // Whether a look saw a mark.
 #[tactic(auto, unfolding(rules::specs::Client::saw_pending))]
 pub fn saw_pending(clients: &[u32], d: usize) -> bool

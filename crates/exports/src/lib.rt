@@ -1,6 +1,6 @@
 // The calls for programs in C and Rust: each of the twelve public calls over plain slices and numbers, under a name of its own. Nothing is decided
 // here: an export makes one call of the library and turns its outcome into three numbers. Leans on calls; specs/Reply.antt
-// says what is sent back. The calls that may be lent a tally stand in lent.rt.
+// says what is sent back. The calls that may be lent a tally stand in lent.rt. Four slices, and a function for each call: C lends and calls them so.
 #![tactic(auto, unfolding(crate::specs::Reply::sent_by, crate::specs::Reply::sent_by_step))]
 
 ghost use Rattle.std.specs.Prelude.{◌≡◌, true, false};

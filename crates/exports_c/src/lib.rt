@@ -1,6 +1,7 @@
 // The static library for programs in C and Rust: what tools/archive makes libmondzafeky.a of. Each function hands its arguments on to the function of the
 // same name in `exports`, and promises the same: its clauses are that function's, word for word. Nothing else is done here. (A library of Rattle
-// is for crates or for C, and not for both.) The calls that are lent a tally stand in lent.rt.
+// is for crates or for C, and not for both.) The calls that are lent a tally stand in lent.rt. Four slices, and a function for each call: C's
+// interface.
 #![tactic(auto)]
 
 ghost use Rattle.std.specs.Prelude.{◌≡◌, true, false};

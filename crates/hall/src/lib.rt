@@ -19,6 +19,7 @@ mod memories; // memories.rt: the four lent memories together
 pub mod refusal; // refusal.rt: why a call is turned down
 
 // The name that the sizes and the functions of every hall stand under. A hall itself lies in the lent memories, its number of columns too.
+// Document 01 names this form, sizes as associated constants and a function for each memory's cleared state; the refusals' numbers are C's.
 #[derive(Clone, Copy)]
 pub struct Hall;
 

@@ -1,5 +1,6 @@
 // The code over the table memory: its count at place 0, its records one after another from place 8 on (docs/LAYOUT.md).
 // What is listed, added and removed are the rules' definitions; specs/TableContracts.antt names what they leave open.
+// The memory is lent as a slice, and what it has to hold is asked by `Fit`: for a struct the reason against stands at the nodes.
 #![tactic(auto)]
 
 ghost use Rattle.std.specs.Prelude.{◌≡◌, ◌+◌, ◌*◌, ◌≤◌, length, take, drop, slice_index};

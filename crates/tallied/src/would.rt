@@ -74,6 +74,7 @@ pub fn abandoned_count(memories: Memories<'_>, client: u32) -> Option<Count>
     ensures { LeavesCount result (lent memories.entry) client }
 {
     let at = Hall::HEADER + client as usize * Hall::CLIENT_WIDTH + Hall::KIND_OFFSET;
+    // The number as it stands there: it may be no kind's.
     let kind = *memories.clients.get(at)?;
     if kind == Hall::READS {
         return Some(Count::ReadAbandoned);

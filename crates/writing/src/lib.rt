@@ -1,7 +1,7 @@
 // The steps of a write at its client: a mark for each of its nodes, the table, a raise for each; and its abandoning, which takes back its
 // marks before the table step, and after it makes the raises that are left. A raise, the raises that are left and a taking back are the same
 // removal of marks, with a lift or without: all three call `retire`. h is what the check has read of the client. The rules stand in rules
-// (Steps, Calls), what a function takes for granted in specs/WriteContracts.antt.
+// (Steps, Calls), what a function takes for granted in specs/WriteContracts.antt. Each is lent only the memories that it needs, as slices.
 #![tactic(auto)]
 
 ghost use Rattle.std.specs.Prelude.{◌≡◌, List, ℕ, ◌≤◌, ◌<◌};
