@@ -68,8 +68,8 @@ pub fn abandon_would(memories: Memories<'_>, client: u32) -> Option<Count>
     }
 }
 
-// What an accepted abandoning raises that reports no end, by the kind at the desk. Any contents, any desk: one that is not there is no matter, its
-// abandoning is refused.
+// What an accepted abandoning raises that reports no end, by the kind at the desk. Any contents, any desk: a number that is no kind's, or a desk that
+// is not there, is no matter, its abandoning is refused.
 pub fn abandoned_count(memories: Memories<'_>, client: u32) -> Option<Count>
     ensures { LeavesCount result (lent memories.entry) client }
 {
