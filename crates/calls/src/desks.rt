@@ -21,7 +21,7 @@ fn try_step(
 {
     let held = checks::step_check(memories.view(), tray, client)?;
     let d = client as usize;
-    let table = &mut *memories.table;
+    let table = &mut *memories.table; // a read only reads it
     match held.kind {
         Kind::Read => reading::read_step(
             table,

@@ -68,13 +68,12 @@ pub fn abandon_would(memories: Memories<'_>, client: u32) -> Option<Count>
     }
 }
 
-// What an accepted abandoning raises that reports no end, by the kind at the desk. Any contents, any desk: one that is not there is no matter, its
-// abandoning is refused.
+// What an accepted abandoning raises that reports no end, by the kind at the desk. Any contents, any desk: a number that is no kind's, or a desk that
+// is not there, is no matter, its abandoning is refused.
 pub fn abandoned_count(memories: Memories<'_>, client: u32) -> Option<Count>
     ensures { LeavesCount result (lent memories.entry) client }
 {
     let at = Hall::HEADER + client as usize * Hall::CLIENT_WIDTH + Hall::KIND_OFFSET;
-    // The number as it stands there: it may be no kind's.
     let kind = *memories.clients.get(at)?;
     if kind == Hall::READS {
         return Some(Count::ReadAbandoned);
