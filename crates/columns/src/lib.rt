@@ -47,6 +47,7 @@ pub fn is_query(asked: &[u32], k: u32) -> bool
 }
 
 // The column of a mark and a value.
+#[tactic(auto, unfolding(query::specs::Encoding::column_of))]
 fn column_of(mark: u32, v: u32) -> Column
     ensures { result ≡ column_of mark v }
 {

@@ -203,6 +203,7 @@ impl Hall {
     }
 
     // Empties the table.
+    #[tactic(auto, unfolding(rules::specs::Memory::cleared))]
     pub fn clear_table(table: &mut [u32])
         requires { table_least ≤ length table.old }
         ensures { table.new ≡ cleared table_least table.old }
@@ -220,6 +221,7 @@ impl Hall {
     }
 
     // Empties the answers.
+    #[tactic(auto, unfolding(rules::specs::Memory::cleared))]
     pub fn clear_answers(answers: &mut [u32])
         requires { (sh : Shape) → answers_least current sh ≤ length answers.old }
         ensures { (sh : Shape) → answers.new ≡ cleared (answers_least current sh) answers.old }
@@ -228,6 +230,7 @@ impl Hall {
     }
 
     // Leaves every client idle and sets the number of columns to k.
+    #[tactic(auto, using(crate::proofs::Clearing::done_set))]
     pub fn clear_clients(clients: &mut [u32], k: u32)
         requires { clients_least current (shape_of k) ≤ length clients.old }
         ensures { clients.new ≡ set (cleared (clients_least current (shape_of k)) clients.old) columns_offset k }
@@ -237,6 +240,7 @@ impl Hall {
     }
 
     // Whether a key says "count", by its first number.
+    #[tactic(auto, unfolding(query::specs::Encoding::counts_in))]
     pub fn is_count(first: u32) -> bool
         ensures { (vs : List ℕ) → result ≡ counts_in (first ∷ vs) }
     {
@@ -244,18 +248,13 @@ impl Hall {
     }
 
     // Whether a lent memory is below its least length.
+    #[tactic(auto, unfolding(rules::specs::Refusals::is_short))]
     pub fn is_short(table: &[u32], nodes: &[u32], answers: &[u32], clients: &[u32]) -> bool
         ensures { (sh : Shape) → result ≡ is_short sh (mem table.now nodes.now answers.now clients.now) }
     {
-        if table.len() < Hall::TABLE_LEAST {
-            return true;
-        }
-        if nodes.len() < Hall::NODES_LEAST {
-            return true;
-        }
-        if answers.len() < Hall::ANSWERS_LEAST {
-            return true;
-        }
-        clients.len() < Hall::CLIENTS_LEAST
+        table.len() < Hall::TABLE_LEAST
+            || nodes.len() < Hall::NODES_LEAST
+            || answers.len() < Hall::ANSWERS_LEAST
+            || clients.len() < Hall::CLIENTS_LEAST
     }
 }
