@@ -282,16 +282,19 @@ impl Held {
 }
 
 // What a call needs to know of client d, if it is busy: refusal 3 where it is unsound, 6 where it is idle. Only where it has no kind are all its
-// numbers read.
+// numbers read. In a hall of more columns than any a client with a kind is unsound.
 pub fn read(clients: &[u32], d: usize) -> Result<Held, Refusal>
-    requires fit { Fit clients.now d }
-    requires few { (shape_in clients.now).columns ≤ max_columns }
-    ensures code { code_of result ≡ client_code clients.now d }
+    requires { Fit clients.now d }
+    ensures code { (shape_in clients.now).columns ≤ max_columns → code_of result ≡ client_code clients.now d }
     ensures held { IfOk result (λ h. IsHeld h clients.now d) }
 {
     let client = client(clients, d);
     if client[Hall::KIND_OFFSET] != 0 {
-        return Held::parse(clients[Hall::COLUMNS_OFFSET] as usize, client).ok_or(Refusal::Unsound);
+        let k = clients[Hall::COLUMNS_OFFSET] as usize;
+        if Hall::COLUMN_SLOTS < k {
+            return Err(Refusal::Unsound);
+        }
+        return Held::parse(k, client).ok_or(Refusal::Unsound);
     }
     if is_idle(clients, d) {
         return Err(Refusal::Idle);

@@ -1,12 +1,12 @@
 // Queries as numbers in memory (docs/LAYOUT.md): marks, values, keys, what a read wants, and its range.
-ghost use Rattle.std.specs.Prelude.{◌≡◌, ℕ, ◌-◌, ◌/◌, ◌%◌, ◌^◌, ◌<◌, ◌≤◌, List, ◌∷◌, map, length, take, slice_index, slice_index_or};
+ghost use Rattle.std.specs.Prelude.{◌≡◌, ℕ, ◌-◌, ◌/◌, ◌%◌, ◌^◌, ◌<◌, ◌≤◌, List, ◌∷◌, map, length, take, slice_index, slice_index_or, not, ◌||◌};
 ghost use Rattle.lists.specs.Lists.{padded};
 ghost use Rattle.query.specs.Query.{naming, read_count};
 ghost use Rattle.query.specs.Encoding.{key_width};
 ghost use Rattle.query.specs.Shape.{shape_of, max_columns};
 ghost use Rattle.query.specs.declared.Column.TheVariants.{Wildcard};
 ghost use Rattle.query.specs.Encoding.{column_of, columns_in, column_value, key_words, is_key, range_unit, range_of, bare_key};
-ghost use Rattle.query.specs.Range.{is_ranged, is_named};
+ghost use Rattle.query.specs.Range.{is_ranged, is_named, is_range, is_reversed};
 ghost use Rattle.columns.specs.KeyContracts.{keeps, zero_under, query_width};
 
 use hall::Hall;
@@ -143,9 +143,26 @@ pub fn query_width(range: Range) -> usize
 }
 
 // Whether the column at a place names a value, by the marks.
-pub(crate) fn is_named(marks: u32, column: u32) -> bool
+fn is_named(marks: u32, column: u32) -> bool
     requires { column < max_columns }
     ensures { (k : ℕ) (vs : List ℕ) → column < k → result ≡ is_named (slice_index_or (columns_in k marks vs) column Wildcard) }
 {
     (marks >> column) % 2 == 1
+}
+
+// Whether a begin would turn a range down, beside a query of k columns that has these marks: its column is past the last, or named too, or its
+// ends are reversed.
+pub fn bad_range(k: usize, marks: u32, range: Range) -> bool
+    requires { k ≤ max_columns }
+    ensures { (vs : List ℕ) → result ≡ (not (is_range (shape_of k) (columns_in k marks vs) range) || is_reversed range) }
+{
+    let Range::Between {
+        column,
+        lowest,
+        highest,
+    } = range
+    else {
+        return false;
+    };
+    k <= column as usize || is_named(marks, column) || highest < lowest
 }

@@ -73,14 +73,6 @@ impl Marked {
     pub fn bad_range(&self, range: Range) -> bool
         ensures { result ≡ (not (is_range (shape_of self.now.k) (marked_query self.now) range) || is_reversed range) }
     {
-        let Range::Between {
-            column,
-            lowest,
-            highest,
-        } = range
-        else {
-            return false;
-        };
-        self.k <= column as usize || keys::is_named(self.marks, column) || highest < lowest
+        keys::bad_range(self.k, self.marks, range)
     }
 }
