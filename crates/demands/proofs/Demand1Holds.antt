@@ -5,7 +5,7 @@ use mathlib.Core.Logic.{◌⊎◌, inl, inr}
 use mathlib.Core.Bool.{Bool, true, false, cond, not, ◌&&◌, ◌||◌}
 use mathlib.Core.List.{List, []}
 use mathlib.Core.Option.{Option, none, some}
-use Rattle.std.specs.Prelude.{Some}
+use Rattle.std.specs.Prelude.{Option as Possible, Some}
 use Prim.Native.Nat.{ℕ, ◌+◌, ◌*◌, ◌≤◌, ◌<◌}
 use native.Mathlib.Omega.{arith}
 use lib.Dec.{eqb, ltb, leb}
@@ -30,6 +30,7 @@ use Rattle.rules.specs.Steps.{now_at, answered, look_result, fetch_result, table
 use Rattle.rules.specs.Calls.{unless, open_result, begin_result, step_result, past_table, retire_result, abandoned_write, abandoned_of, abandoned, abandon_result, evict_answer_result, evict_node_result, renew_result}
 use Rattle.rules.specs.History.{Call, begin, step, abandon, evict_answer, evict_node, renew, tray_of, untrayed, call_result, is_accepted}
 use Rattle.rules.specs.declared.Tally.{Tally}
+use Rattle.rules.specs.declared.Count.{Count}
 use Rattle.rules.specs.Tally.{raised, count_of, accepted_count, would_raise, is_full, Made, made, is_full_for, is_tally_full, made_result, tally_after}
 use Rattle.rules.specs.Sound.{Sound, Busy}
 use Rattle.rules.proofs.PassedChecks.{open_passed, begin_passed, step_passed, abandon_passed, evict_answer_passed, evict_node_passed, renew_passed}
@@ -326,20 +327,20 @@ made_leaves m x = by_test (is_tally_full m x)
     (λ t. rw t (call_leaves m x.call))
 
 -- a refused call raises no count
-outcome_kept : (m : Mem) (c : Call) (t : Tally) (o : Outcome) → is_accepted (number o) ≡ false → raised t (count_of (accepted_count m c) o) ≡ t
+outcome_kept : (t : Tally) (c : Possible Count) (o : Outcome) → is_accepted (number o) ≡ false → raised t (count_of c o) ≡ t
 unfolding is_accepted number count_of
-outcome_kept m c t (Refused n) e = raised_none t
-outcome_kept m c t Accepted e = clash refl e
-outcome_kept m c t (Answered n b) e = clash refl e
-outcome_kept m c t Long e = clash refl e
-outcome_kept m c t (Ended b) e = clash refl e
-outcome_kept m c t Full e = clash refl e
+outcome_kept t c (Refused n) e = raised_none t
+outcome_kept t c Accepted e = clash refl e
+outcome_kept t c (Answered n b) e = clash refl e
+outcome_kept t c Long e = clash refl e
+outcome_kept t c (Ended b) e = clash refl e
+outcome_kept t c Full e = clash refl e
 
 refused_keeps : (m : Mem) (c : Call) (t : Tally) → is_accepted (number (made_result m (made c (Some t))).out) ≡ false → tally_after m c t ≡ t
 unfolding made_result is_tally_full is_full_for tally_after would_raise
 refused_keeps m c t e = by_test (is_full t (count_of (accepted_count m c) (call_result m c).out))
     (λ k. rw k refl)
-    (λ k. rw k (outcome_kept m c t (call_result m c).out (rw k at e)))
+    (λ k. rw k (outcome_kept t (accepted_count m c) (call_result m c).out (rw k at e)))
 
 pub demand_1 : Demand1
 unfolding tray_of

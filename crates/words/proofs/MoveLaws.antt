@@ -1,6 +1,6 @@
 -- Laws of the moves: std's writes to a part of a slice in the words of lists, and what a move and a write after it leave. On plain lists.
 -- Leans on the library's lists. Assumes nothing.
-use Rattle.std.proofs.Common.{◌≡◌, ℕ, ◌+◌, ◌-◌, ◌≤◌, sym, ap, ◌∙◌, List, [], ◌++◌, append_assoc, append-nil, length, take, drop, replicate, length-append, length-take, length-drop, drop_of_length-le, length-take-le, drop-drop, drop_at, take_at, take-take, arith}
+use Rattle.std.proofs.Common.{◌≡◌, ℕ, ◌+◌, ◌-◌, ◌≤◌, sym, ap, ◌∙◌, List, [], ◌++◌, append_assoc, append-nil, length, take, drop, replicate, length-append, length-take, length-drop, length-replicate, drop_of_length-le, length-take-le, drop-drop, drop_at, take_at, take-take, arith}
 use native.Mathlib.Nat.{sub-zero}
 use Rattle.std.specs.List.{copy_within}
 use borrow.Rule.Slice.PartMut.{put_mid}
@@ -68,3 +68,20 @@ remove_all s t u at w e f g h k =
     let z : drop w (take w (drop (at + n) s)) ≡ [] = drop_of_length-le (take w (drop (at + n) s)) lt in
     let r : drop w (drop (at + n) s) ≡ drop e s = drop-drop w (at + n) s ∙ ap (λ (k : ℕ). drop k s) j in
     rw (g, a, b, m, z, r) (simp (append_assoc, append-nil))
+
+-- what is taken out by a move over it, the freed numbers written over
+pub written_freed : (s : List ℕ) (at w e : ℕ) (h : at + w ≤ e) (k : e ≤ length s) (v : List ℕ) → length v ≡ w
+    → written s at (take (e - (at + w)) (drop (at + w) s) ++ v) ≡ written (removed s at w e) (e - w) v
+unfolding written removed
+written_freed s at w e h k v q =
+    let p : List ℕ = take (e - (at + w)) (drop (at + w) s) in
+    let lm : length p ≡ e - (at + w) = length-take-le (e - (at + w)) (drop (at + w) s) (simp length-drop (omega arith)) in
+    let z : length (replicate {A = ℕ} w 0) ≡ w = length-replicate w 0 in
+    let a : length (take at s) ≡ at = length-take-le at s (omega arith) in
+    let b : length (take at s ++ p) ≡ e - w = rw (length-append, lm, a) (omega arith) in
+    let d : length (take at s ++ p ++ replicate w 0) ≡ e - w + length v = rw (length-append, b, z) (omega arith) in
+    let m : at + length (p ++ v) ≡ e = rw (length-append, lm) (omega arith) in
+    let f : drop (e - w + length v) (take at s ++ p ++ replicate w 0 ++ drop e s) ≡ drop e s = drop_at (take at s ++ p ++ replicate w 0) (drop e s) (e - w + length v) d in
+    let g : take (e - w) (take at s ++ p ++ replicate w 0 ++ drop e s) ≡ take at s ++ p =
+    rw (append_assoc (take at s ++ p) (replicate w 0) (drop e s)) (take_at (take at s ++ p) (replicate w 0 ++ drop e s) (e - w) b) in
+    rw (m, f, g) (simp append_assoc)
