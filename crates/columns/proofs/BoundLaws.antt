@@ -16,6 +16,7 @@ use Rattle.query.specs.declared.Range.TheVariants.{Between}
 use Rattle.query.specs.Query.{Query, Record, is_measured, admits, lies, is_zero, names_zero}
 use Rattle.query.specs.Range.{within}
 use Rattle.query.specs.Encoding.{column_value}
+use Rattle.columns.specs.declared.bounds.Bounds.{Bounds}
 use Rattle.columns.specs.ColumnContracts.{four}
 use Rattle.columns.specs.BoundContracts.{sign_bit, shift_of, limit_of, width_of, shifts_of, limits_of, first_of, bound_words, bounds_of, bounded_under, finds_none, bounded_by, bounded, NamesWords}
 use Rattle.columns.proofs.MaskLaws.{length_four}
@@ -185,6 +186,19 @@ module _ (q : Query) (few : length q ≤ 4) where
           let l : List ℕ = set (limits_of q) c (limit_of (high - first_of low)) in
           let a : length (set (shifts_of q) c x) ≡ 4 = length-set (shifts_of q) c x ∙ length_shifts in
           rw (take_at (set (shifts_of q) c x) l 4 a, drop_at (set (shifts_of q) c x) l 4 a) bounds_test
+
+-- for callers: what shifts and limits say of a record, by their numbers one behind the other; and those of a query
+pub bounded_words : (b : Bounds) (l r : List ℕ) → b.shifts ++ b.limits ≡ l → length b.shifts ≡ 4 → bounded_under b r ≡ bounded (take 4 l) (drop 4 l) r
+unfolding bounded_under
+bounded_words b l r e h = rw (← e, take_at b.shifts b.limits 4 h, drop_at b.shifts b.limits 4 h)
+
+pub bounds_words : (q : Query) (c low high : ℕ) → (bounds_of q c low high).shifts ++ (bounds_of q c low high).limits ≡ bound_words q c low high
+unfolding bound_words bounds_of
+bounds_words q c low high = refl
+
+pub shifts_long : (q : Query) (c low high : ℕ) → length q ≤ 4 → length (bounds_of q c low high).shifts ≡ 4
+unfolding bounds_of
+shifts_long q c low high h = length-set (shifts_of q) c (shift_of (first_of low)) ∙ length_shifts q h
 
 -- ---- The loop: f tells whether all numbers before i fit
 pub bounded_on : (ss ls rec : List ℕ) (i : ℕ) (f : Bool) → i < length ss → i < length ls → i < length rec

@@ -57,7 +57,17 @@ pub words_query : (k : ℕ) (q : Query) → length q ≡ k → k ≤ 4 → query
 unfolding query_under four
 words_query k q e h = rw (under_words q (omega arith)) (take_at q (replicate (4 - length q) Wildcard) k e)
 
--- for callers: what a query of k columns says of a record of k numbers
+-- for callers: the first k columns of a value of `Masks` are the query that the numbers name
+pub words_front : (k : ℕ) (q : Query) → length q ≤ 4 → take k (four q) ≡ query_under k (mask_words q)
+unfolding query_under
+words_front k q h = ap (take k) (sym (under_words q h))
+
+-- and what they say of a record
+pub lies_words : (q : Query) (r : Record) → length q ≤ 4 → lies_under (four q) r ≡ lies (query_under (length r) (mask_words q)) r
+unfolding lies_under
+lies_words q r h = ap (λ (x : Query). lies x r) (words_front (length r) q h)
+
+-- what a query of k columns says of a record of k numbers
 pub lies_four : (q : Query) (r : Record) → length r ≡ length q → lies_under (four q) r ≡ lies q r
 unfolding lies_under
 lies_four q r e = ap (λ (x : Query). lies x r) (four_back (length r) q (sym e))
@@ -75,7 +85,8 @@ module _ (f : Column → ℕ) (z : ℕ) (q : Query) (i : ℕ) (s : List ℕ) (t 
 -- what is made names the query, and wildcards behind its columns
 module _ (q : Query) (few : length q ≤ 4) (ms vs : List ℕ) (e : ms ≡ map mask_of (four q)) (f : vs ≡ map sought_of (four q)) where
   pub masks_made : Masked ms vs
-  masks_made = record { query = q; few = few; masks_are = e; values_are = f }
+  unfolding mask_words
+  masks_made = record { query = q; few = few; words = rw (e, f); masks_are = e; values_are = f }
 
   pub masks_name : columns_under ms vs ≡ four q
   masks_name = rw (e, f) (columns_back (four q))
@@ -98,9 +109,24 @@ column_test Wildcard x h = rw (and_zero_r x)
 
 -- ---- the loop: f tells whether all columns before i fit
 module _ (ms vs : List ℕ) (m : Masked ms vs) where
+  masks_long : length ms ≡ 4
+  masks_long = ap length m.masks_are ∙ length-map (four m.query) mask_of ∙ length_four m.query m.few
+
   -- the columns are those that the numbers were made of, four with the wildcards
   under : columns_under ms vs ≡ four m.query
-  under = masks_name m.query m.few ms vs m.masks_are m.values_are
+  under =
+      let w : columns_under (take 4 (ms ++ vs)) (drop 4 (ms ++ vs)) ≡ four m.query = rw m.words (under_words m.query m.few) in
+      rw (take_at ms vs 4 masks_long, drop_at ms vs 4 masks_long) at w
+
+  -- the numbers are those of every query that has these columns
+  pub masked_words : (q : Query) → columns_under ms vs ≡ four q → ms ++ vs ≡ mask_words q
+  unfolding mask_words
+  masked_words q e = let f : four m.query ≡ four q = sym under ∙ e in m.words ∙ ap (λ (x : Query). map mask_of x ++ map sought_of x) f
+
+  -- and their first k name what the numbers name
+  pub masked_query : (k : ℕ) → query_under k (ms ++ vs) ≡ take k (columns_under ms vs)
+  unfolding query_under
+  masked_query k = rw (take_at ms vs 4 masks_long, drop_at ms vs 4 masks_long)
 
   module _ (i : ℕ) (h : i < 4) where
     in_four : i < length (four m.query)

@@ -66,6 +66,13 @@ module _ (q : Query) (values : List ℕ) (i : ℕ) (t : Taking q values i) where
   pub taking_stops : drop i q ≡ Wildcard ∷ drop (i + 1) q → names_all q ≡ false
   taking_stops h = t.names ∙ ap names_all h ∙ names_wildcard (drop (i + 1) q)
 
+  -- then the values are those before it
+  pub taking_before : drop i q ≡ Wildcard ∷ drop (i + 1) q → values ≡ taken_of q
+  unfolding front
+  taking_before h =
+      let a : front q ≡ t.sofar = t.fronts ∙ ap (λ (y : Query). t.sofar ++ front y) h ∙ append-nil t.sofar in
+      rw a t.are
+
   module _ (h : length q ≤ i) where
     pub taking_named : names_all q ≡ true
     unfolding names_all named

@@ -34,10 +34,11 @@ mask_words q = map mask_of (four q) ++ map sought_of (four q)
 unfoldable pub query_under : ℕ → List ℕ → Query
 query_under k l = take k (columns_under (take max_columns l) (drop max_columns l))
 
--- masks and values that are some query's, with those of wildcards behind its columns
+-- masks and values that are some query's, with those of wildcards behind its columns: one list behind the other, and each list
 pub record Masked (masks values : List ℕ) : Type 0 where
   pub query : Query
   pub few : length query ≤ max_columns
+  pub words : masks ++ values ≡ mask_words query
   pub masks_are : masks ≡ map mask_of (four query)
   pub values_are : values ≡ map sought_of (four query)
 

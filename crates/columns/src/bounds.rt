@@ -3,10 +3,10 @@
 // (S-5), and under a wildcard 0 and the largest. The shift takes the lowest to the least number that a signed comparison knows, and the limit is
 // what it takes the highest to: one sum and one comparison are the whole test. Any shift and limit take some number, so what finds no record at
 // all is told before the pass (finds_none).
-ghost use Rattle.std.specs.Prelude.{◌≡◌, ◌-◌, ◌<◌, ◌≤◌, length};
+ghost use Rattle.std.specs.Prelude.{◌≡◌, ◌++◌, ◌-◌, ◌<◌, ◌≤◌, length};
 ghost use Rattle.query.specs.Query.{is_zero};
 ghost use Rattle.query.specs.Shape.{max_columns};
-ghost use Rattle.columns.specs.BoundContracts.{shift_of, limit_of, width_of, first_of, finds_none, bounds_of, bounded_under, NamesWords};
+ghost use Rattle.columns.specs.BoundContracts.{shift_of, limit_of, width_of, first_of, finds_none, bound_words, bounds_of, bounded_under, NamesWords};
 
 use super::queries::{self, Query};
 use super::record_test::RecordTest;
@@ -84,6 +84,7 @@ impl Bounds {
         requires ordered { lowest ≤ highest }
         requires above { 0 < highest }
         ensures value { result ≡ bounds_of query.now column lowest highest }
+        ensures words { result.shifts ++ result.limits ≡ bound_words query.now column lowest highest }
         ensures names_words { NamesWords (length query.now) query.now }
     {
         let mut shifts = [shift_of(0); Hall::COLUMN_SLOTS];

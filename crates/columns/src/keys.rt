@@ -13,7 +13,7 @@ use hall::Hall;
 use query::Range;
 
 // Two to the k: one above the highest marks of k columns. A shift, since a constant array is made on the stack wherever it is read.
-pub(crate) fn power(k: usize) -> u32
+pub fn power(k: usize) -> u32
     requires { k ≤ max_columns }
     ensures { result ≡ 2 ^ k }
 {
@@ -21,7 +21,7 @@ pub(crate) fn power(k: usize) -> u32
 }
 
 // The marks of a query that names every column: k bits, all 1.
-pub(crate) fn all_marks(k: usize) -> u32
+pub fn all_marks(k: usize) -> u32
     requires { k ≤ max_columns }
     ensures { result ≡ 2 ^ k - 1 }
 {
@@ -32,7 +32,7 @@ pub(crate) fn all_marks(k: usize) -> u32
 const LOOKS: [u8; 16] = [1, 2, 2, 4, 2, 4, 4, 8, 2, 4, 4, 8, 4, 8, 8, 16];
 
 // How many looks a read makes, by its marks.
-pub(crate) fn look_count(k: usize, marks: u32) -> usize
+pub fn look_count(k: usize, marks: u32) -> usize
     requires { (k ≤ max_columns) × (marks < 2 ^ k) }
     ensures { (vs : List ℕ) → result ≡ read_count (columns_in k marks vs) }
 {
@@ -47,10 +47,7 @@ fn value_under(mark: u32, v: u32) -> u32
 }
 
 // The values that have a mark, and 0 in place of the others.
-pub(crate) fn values_under(
-    marks: u32,
-    values: [u32; Hall::COLUMN_SLOTS],
-) -> [u32; Hall::COLUMN_SLOTS]
+pub fn values_under(marks: u32, values: [u32; Hall::COLUMN_SLOTS]) -> [u32; Hall::COLUMN_SLOTS]
     ensures { result ≡ map column_value (columns_in max_columns marks values) }
 {
     std::array::from_fn(|c| value_under(marks >> c, values[c]))
@@ -93,7 +90,7 @@ fn zero_under(marks: u32, values: &[u32]) -> bool
 // Whether marks and the numbers behind them, zeros from where they end, are the key of a query of k columns: marks for k columns at most, and no
 // value without a mark.
 #[tactic(auto, using(crate::proofs::KeyLoops::key_padded))]
-pub(crate) fn is_key(k: usize, marks: u32, values: &[u32]) -> bool
+pub fn is_key(k: usize, marks: u32, values: &[u32]) -> bool
     requires { (k ≤ max_columns) × (length values.now ≤ key_width - 1) }
     ensures { result ≡ is_key (shape_of k) (marks ∷ padded (key_width - 1) values.now) }
 {

@@ -2,12 +2,11 @@
 // Leans on query for the column and for the rules.
 #![tactic(auto)]
 
-ghost use Rattle.std.specs.Prelude.{◌≡◌, ◌*◌, ◌≤◌, cond, length, IfOk};
-ghost use Rattle.query.specs.Shape.{shape_of, max_columns};
+ghost use Rattle.std.specs.Prelude.{◌≡◌, cond, IfOk, IfErr};
+ghost use Rattle.query.specs.Shape.{shape_of};
 ghost use Rattle.query.specs.Encoding.{is_query, column_of, query_of, well_marked, names_all};
-ghost use Rattle.columns.specs.ColumnContracts.{column_marked, taken_of, four};
+ghost use Rattle.columns.specs.ColumnContracts.{column_marked, taken_of, refusal_of, taken_code};
 ghost use Rattle.rules.specs.Layout.{refused_columns};
-ghost use Rattle.hall.specs.Refusal.{code_of};
 
 use hall::Hall;
 use hall::refusal::Refusal;
@@ -58,18 +57,33 @@ fn column_of(mark: u32, v: u32) -> Column
     }
 }
 
+// Why what arrives is no record: a column is a wildcard. It has the values before the first one, zeros behind.
+#[derive(Clone, Copy, Debug)]
+pub struct NoRecord {
+    pub values: [u32; Hall::COLUMN_SLOTS],
+}
+
+impl From<NoRecord> for Refusal {
+    ghost from_gives = { λ found refusal. refusal ≡ refusal_of found };
+
+    fn from(_: NoRecord) -> Refusal {
+        Refusal::Columns
+    }
+}
+
 // An insert takes the values of the columns as they arrive, zeros behind, and refuses a wildcard. What arrives may have more columns than any hall:
 // the memory's number of columns is tested later.
-pub fn take_record(asked: &[u32]) -> Result<[u32; Hall::COLUMN_SLOTS], Refusal>
-    ensures code { code_of result ≡ cond (names_all (query_of asked.now)) 0 refused_columns }
+pub fn take_record(asked: &[u32]) -> Result<[u32; Hall::COLUMN_SLOTS], NoRecord>
+    ensures code { taken_code result ≡ cond (names_all (query_of asked.now)) 0 refused_columns }
     ensures values { IfOk result (λ values. values ≡ taken_of (query_of asked.now)) }
+    ensures before { IfErr result (λ found. found.values ≡ taken_of (query_of asked.now)) }
 {
     let mut values = [0; Hall::COLUMN_SLOTS];
     let (pairs, _) = asked.as_chunks::<2>();
     for (i, &[mark, named]) in pairs.iter().enumerate() {
         let col = column_of(mark, named);
         let Column::Is(v) = col else {
-            return Err(Refusal::Columns);
+            return Err(NoRecord { values });
         };
         if i < Hall::COLUMN_SLOTS {
             values[i] = v;

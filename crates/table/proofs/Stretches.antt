@@ -3,7 +3,7 @@
 -- query, and on TableMemory and Passing. Assumes nothing.
 use mathlib.Core.Path.{◌≡◌, refl, sym, ap, ◌∙◌}
 use mathlib.Core.Bool.{Bool, true, false, cond, ◌&&◌}
-use mathlib.Core.List.{List, [], ◌∷◌}
+use mathlib.Core.List.{List, [], ◌∷◌, ◌++◌}
 use Prim.Native.Nat.{ℕ, zero, suc, ◌+◌, ◌*◌, ◌-◌, ◌≤◌, ◌<◌}
 use native.Mathlib.Nat.{suc-mul, mul-le-mul_left}
 use native.Mathlib.Omega.{arith}
@@ -25,10 +25,11 @@ use Rattle.query.specs.Range.{within, is_range, is_reversed}
 use Rattle.query.proofs.RangeLaws.{not_named, none_within}
 use Rattle.columns.specs.ColumnContracts.{four}
 use Rattle.columns.specs.MaskContracts.{lies_under}
-use Rattle.columns.specs.BoundContracts.{bounds_of, bounded_under, finds_none, NamesWords}
+use Rattle.columns.specs.declared.bounds.Bounds.{Bounds}
+use Rattle.columns.specs.BoundContracts.{bound_words, bounds_of, bounded_under, finds_none, NamesWords}
 use Rattle.columns.proofs.ColumnLoops.{four_back}
-use Rattle.columns.proofs.MaskLaws.{lies_four}
-use Rattle.columns.proofs.BoundLaws.{Fitting, bounds_test}
+use Rattle.columns.proofs.MaskLaws.{words_front, words_query, lies_words}
+use Rattle.columns.proofs.BoundLaws.{Fitting, bounded_words, bounds_words, shifts_long, bound_test}
 use Rattle.rules.specs.Layout.{max_list, record_count_offset}
 use Rattle.rules.specs.Table.{Table, list_of, delete, effect}
 use Rattle.rules.specs.Work.{list_within}
@@ -68,8 +69,10 @@ pub kept_plain : (s : List ℕ) (q : Query) (range : Range) → range ≡ None �
     → keep (lies_under (four q)) (records_of (length q) (lent (length q) s)) ≡ list_within range q (records_in (length q) s)
 unfolding list_of
 kept_plain s q range e f =
+    let say_same : (r : Record) → length r ≡ length q → lies_under (four q) r ≡ lies q r =
+    (λ r h. lies_words q r f.columns.1 ∙ ap (λ (x : Query). lies x r) (words_query (length r) q (sym h) (omega (arith, f.columns.1)))) in
     ap (keep (lies_under (four q))) (lent_records (length q) s f)
-    ∙ keep_same (lies_under (four q)) (lies q) (length q) (records_in (length q) s) (wide_records (length q) s f) (lies_four q)
+    ∙ keep_same (lies_under (four q)) (lies q) (length q) (records_in (length q) s) (wide_records (length q) s f) say_same
     ∙ sym (rw e (list_unranged q (records_in (length q) s)))
 
 -- numbers of a memory
@@ -137,24 +140,38 @@ module _ (q : Query) (range : Range) (c low high : ℕ) (e : range ≡ Between c
   unfolding is_reversed
   ends_ordered = ltb-false high low (rw e at g.ordered)
 
-  pub kept_ranged : (s : List ℕ) → Fit (length q) s → NamesWords (length q) q → high < 4294967296 → finds_none q high ≡ false → Words s
-      → keep (bounded_under (bounds_of q c low high)) (records_of (length q) (lent (length q) s)) ≡ list_within range q (records_in (length q) s)
+  -- these shifts and limits are the query's and the range's
+  pub kept_bounded : (b : Bounds) → b.shifts ++ b.limits ≡ bound_words q c low high → length b.shifts ≡ 4 → (s : List ℕ) → Fit (length q) s → NamesWords (length q) q
+      → high < 4294967296 → finds_none q high ≡ false → Words s
+      → keep (bounded_under b) (records_of (length q) (lent (length q) s)) ≡ list_within range q (records_in (length q) s)
   unfolding list_of list_within
-  kept_ranged s f names small some words =
+  kept_bounded b w four_long s f names small some words =
       let k : ℕ = length q in
       let n = get_or s record_count_offset 0 in
       let l = lent_long k s f in
-      ap (keep (bounded_under (bounds_of q c low high))) (whole_records k f.columns.0 n (lent k s) l)
-      ∙ rows_kept (bounded_under (bounds_of q c low high)) (λ (r : Record). lies q r && within range r) k n (lent k s)
-      (λ r m fit. rw e (bounds_test q f.columns.1 r m names fit c low high column_in column_free ends_ordered small some))
+      ap (keep (bounded_under b)) (whole_records k f.columns.0 n (lent k s) l)
+      ∙ rows_kept (bounded_under b) (λ (r : Record). lies q r && within range r) k n (lent k s)
+      (λ r m fit. bounded_words b _ r w four_long ∙ rw e (bound_test q f.columns.1 r m names fit c low high column_in column_free ends_ordered small some))
       (omega arith) (take_words (n * k) (drop 8 s) (drop_words 8 s words))
       ∙ keep_both (lies q) (within range) (rows k n (lent k s))
       ∙ ap (λ (t : Table). keep (within range) (keep (lies q) t)) (sym (whole_records k f.columns.0 n (lent k s) l) ∙ lent_records k s f)
 
+  pub kept_ranged : (s : List ℕ) → Fit (length q) s → NamesWords (length q) q → high < 4294967296 → finds_none q high ≡ false → Words s
+      → keep (bounded_under (bounds_of q c low high)) (records_of (length q) (lent (length q) s)) ≡ list_within range q (records_in (length q) s)
+  kept_ranged s f names small some words =
+      kept_bounded (bounds_of q c low high) (bounds_words q c low high) (shifts_long q c low high f.columns.1) s f names small some words
+
 -- ---- a delete, for the width that is its query's
-pub deleted_is : (q v : Query) (m : ℕ) → length q ≡ m → v ≡ four q → (s s' : List ℕ) (r : ℕ)
-    → r ≡ gone (take m v) (records_in m s) → s' ≡ with_records m s (effect (delete (take m v)) (records_in m s))
-    → (r ≡ gone q (records_in (length q) s)) × (s' ≡ with_records (length q) s (effect (delete q) (records_in (length q) s)))
-deleted_is q v m e f s s' r x y =
-    let z : take m v ≡ q = ap (take m) f ∙ four_back m q e in
-    (rw (z, ← e) at x, rw (z, ← e) at y)
+module _ (q v : Query) (m : ℕ) (e : length q ≡ m) where
+  deleted_as : take m v ≡ q → (s s' : List ℕ) (r : ℕ) → r ≡ gone (take m v) (records_in m s) → s' ≡ with_records m s (effect (delete (take m v)) (records_in m s))
+      → (r ≡ gone q (records_in (length q) s)) × (s' ≡ with_records (length q) s (effect (delete q) (records_in (length q) s)))
+  deleted_as z s s' r x y = (rw (z, ← e) at x, rw (z, ← e) at y)
+
+  pub deleted_is : v ≡ four q → (s s' : List ℕ) (r : ℕ) → r ≡ gone (take m v) (records_in m s) → s' ≡ with_records m s (effect (delete (take m v)) (records_in m s))
+      → (r ≡ gone q (records_in (length q) s)) × (s' ≡ with_records (length q) s (effect (delete q) (records_in (length q) s)))
+  deleted_is f = deleted_as (ap (take m) f ∙ four_back m q e)
+
+  -- by the masks and values, which name the query
+  pub deleted_words : length q ≤ 4 → v ≡ four q → (s s' : List ℕ) (r : ℕ) → r ≡ gone (take m v) (records_in m s) → s' ≡ with_records m s (effect (delete (take m v)) (records_in m s))
+      → (r ≡ gone q (records_in (length q) s)) × (s' ≡ with_records (length q) s (effect (delete q) (records_in (length q) s)))
+  deleted_words few f = deleted_as (ap (take m) f ∙ words_front m q few ∙ words_query m q e (omega arith))

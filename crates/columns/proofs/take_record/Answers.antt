@@ -2,7 +2,7 @@
 use Rattle.std.proofs.Common.{arith}
 use Rattle.query.specs.declared.Column.TheVariants.{Is}
 use Rattle.columns.proofs.PairLaws.{next_column, columns_done}
-use Rattle.columns.proofs.TakeLoop.{taking_none, taking_more, taking_past, taking_stops, taking_named, taking_all}
+use Rattle.columns.proofs.TakeLoop.{taking_none, taking_more, taking_past, taking_stops, taking_before, taking_named, taking_all}
 use Rattle.columns.proofs.take_record.Goals as goal
 use Rattle.columns.proofs.take_record.Goals.{then-i-lt-COLUMN_SLOTS, else-i-lt-COLUMN_SLOTS}
 
@@ -13,6 +13,11 @@ pub returns-in_default-clause-code : goal.returns-in_default-clause-code
 returns-in_default-clause-code c =
     let l = c.loop-i in
     rw (taking_stops _ _ l.i l.invariant (next_column _ _ c.as_chunks.ensures.front l.i _ (omega arith) (cc)))
+
+pub returns-in_default-clause-before : goal.returns-in_default-clause-before
+returns-in_default-clause-before c =
+    let l = c.loop-i in
+    taking_before _ _ l.i l.invariant (next_column _ _ c.as_chunks.ensures.front l.i _ (omega arith) (cc))
 
 pub loop-i-preserved : goal.loop-i-preserved
 loop-i-preserved c =

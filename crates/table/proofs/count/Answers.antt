@@ -1,7 +1,7 @@
 -- `table::count` meets its contract: what the pass counts, without a range and with one, or 0 where nothing is to be found. Assumes nothing.
 use Rattle.std.proofs.Common.{length, sym, ap, ◌∙◌, arith, rules}
 use Rattle.columns.proofs.BoundLaws.{finds_some}
-use Rattle.table.proofs.Stretches.{kept_plain, none_counted, column_in, ends_ordered, kept_ranged}
+use Rattle.table.proofs.Stretches.{kept_plain, none_counted, column_in, ends_ordered, kept_bounded}
 use Rattle.table.proofs.count.Goals as goal
 
 pub returns-in_default : goal.returns-in_default
@@ -24,5 +24,5 @@ of-requires-2-clause-above c = (finds_some _ _ (sym c.finds_none.ensures ∙ c.i
 pub returns : goal.returns
 returns c =
     let a = c.args in
-    rw (c.records-recs.ensures, c.width-k.ensures.is, c.of-2.ensures.value) at c.count-2.ensures
-    ∙ ap length (kept_ranged a.query.now a.range _ _ _ c.in-Between.is c.requires.1 a.table.now c.requires.0 c.of-2.ensures.names_words (search rules) (sym c.finds_none.ensures ∙ c.if-finds_none.false) (λ i. omega (arith, c.type_inv.table i)))
+    rw (c.records-recs.ensures, c.width-k.ensures.is) at c.count-2.ensures
+    ∙ ap length (kept_bounded a.query.now a.range _ _ _ c.in-Between.is c.requires.1 c.of-2.result c.of-2.ensures.words (search rules) a.table.now c.requires.0 c.of-2.ensures.names_words (search rules) (sym c.finds_none.ensures ∙ c.if-finds_none.false) (λ i. omega (arith, c.type_inv.table i)))

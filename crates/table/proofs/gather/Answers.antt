@@ -4,7 +4,7 @@ use Rattle.columns.proofs.BoundLaws.{finds_some}
 use Rattle.lists.specs.Lists.{written, flat}
 use Rattle.rules.specs.Layout.{max_list}
 use Rattle.table.specs.TableContracts.{gathered, up_to}
-use Rattle.table.proofs.Stretches.{kept_plain, none_gathered, none_written, column_in, ends_ordered, kept_ranged}
+use Rattle.table.proofs.Stretches.{kept_plain, none_gathered, none_written, column_in, ends_ordered, kept_bounded}
 use Rattle.table.proofs.gather.Goals as goal
 
 pub returns-in_default : goal.returns-in_default
@@ -36,8 +36,8 @@ unfolding gathered
 returns c =
     let a = c.args in
     let f = c.requires.fit in
-    let k = kept_ranged a.query.now a.range _ _ _ c.in-Between.is f.1 a.table.now f.0 c.of-2.ensures.names_words (search rules) (sym c.finds_none.ensures ∙ c.if-finds_none.false) (λ i. omega (arith, c.type_inv.table i)) in
+    let k = kept_bounded a.query.now a.range _ _ _ c.in-Between.is f.1 c.of-2.result c.of-2.ensures.words (search rules) a.table.now f.0 c.of-2.ensures.names_words (search rules) (sym c.finds_none.ensures ∙ c.if-finds_none.false) (λ i. omega (arith, c.type_inv.table i)) in
     record {
-      value = rw (c.records-recs.ensures, c.width-k.ensures.is, c.of-2.ensures.value) at c.list-2.ensures.value ∙ ap (λ t. up_to (length t)) k;
-      out_after = rw (c.records-recs.ensures, c.width-k.ensures.is, c.of-2.ensures.value) at c.list-2.ensures.out_after ∙ ap (λ t. written a.out.now 0 (flat (take max_list t))) k;
+      value = rw (c.records-recs.ensures, c.width-k.ensures.is) at c.list-2.ensures.value ∙ ap (λ t. up_to (length t)) k;
+      out_after = rw (c.records-recs.ensures, c.width-k.ensures.is) at c.list-2.ensures.out_after ∙ ap (λ t. written a.out.now 0 (flat (take max_list t))) k;
     }

@@ -3,7 +3,7 @@ use Rattle.std.proofs.Common.{◌≡◌, ◌<◌, ◌≤◌, ◌∙◌, length, 
 use Rattle.query.specs.declared.Column.{Column}
 use Rattle.query.specs.declared.Column.TheVariants.{Is}
 use Rattle.query.specs.Encoding.{column_value}
-use Rattle.columns.specs.BoundContracts.{shift_of, limit_of, width_of, shifts_of, limits_of, bounds_of}
+use Rattle.columns.specs.BoundContracts.{shift_of, limit_of, width_of, shifts_of, limits_of, bound_words, bounds_of}
 use Rattle.columns.proofs.FillLoop.{fill_none}
 use Rattle.columns.proofs.MaskLaws.{made_more, made_all}
 use Rattle.columns.proofs.BoundLaws.{words_more, first_below}
@@ -38,3 +38,7 @@ limits_are c = made_all (λ (c : Column). limit_of (width_of c)) _ _ _ _ c.loop-
 pub returns-clause-value : goal.returns-clause-value
 unfolding bounds_of
 returns-clause-value c = rw (shifts_are c, limits_are c, c.shift_of-2.ensures.is, c.limit_of-2.ensures, c.first_of-first.ensures) refl
+
+pub returns-clause-words : goal.returns-clause-words
+unfolding bound_words
+returns-clause-words c = rw (shifts_are c, limits_are c, c.shift_of-2.ensures.is, c.limit_of-2.ensures, c.first_of-first.ensures) refl
