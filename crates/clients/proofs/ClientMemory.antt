@@ -5,10 +5,10 @@ use mathlib.Core.List.{List, ◌++◌, append_assoc}
 use Prim.Native.Nat.{ℕ, ◌+◌, ◌-◌, ◌≤◌, ◌<◌}
 use native.Mathlib.Omega.{arith}
 use lib.ListN.{length, get_or, take, drop, set, replicate, length-drop, length-replicate}
-use lib.Seq.{length-take-le, get_or-take, get_or-drop, drop-append-add, drop-append-le, take-append-add, take-append-le}
+use lib.Seq.{length-take-le, get_or-take, get_or-drop, drop-drop, take-take, drop-append-add, drop-append-le, take-append-add, take-append-le}
 use borrow.Rule.Slice.PartMut.{put_mid}
 use Rattle.lists.specs.Lists.{written}
-use Rattle.laws.proofs.WrittenLaws.{mid_written, length_written, written_over, written_self, set_inside}
+use Rattle.laws.proofs.WrittenLaws.{mid_written, drop_take, length_written, written_over, written_self, set_inside}
 use Rattle.rules.specs.Client.{kind}
 use Rattle.rules.specs.Memory.{current, client_in, with_client}
 use Rattle.rules.specs.Layout.{max_clients, kind_offset, client_width, client_offset}
@@ -44,6 +44,12 @@ module _ (s : List ℕ) (d : ℕ) where
   pub word_at : (j : ℕ) → j < client_width → get_or (client_in current s d) j 0 ≡ get_or s (client_offset current d + j) 0
   unfolding client_in
   word_at j h = get_or-take client_width (drop (client_offset current d) s) j 0 h ∙ get_or-drop (client_offset current d) s j 0
+
+  pub part_at : (j n : ℕ) → j + n ≤ client_width → take n (drop j (client_in current s d)) ≡ take n (drop (client_offset current d + j) s)
+  unfolding client_in
+  part_at j n h =
+      ap (take n) (drop_take j client_width (drop (client_offset current d) s)) ∙ take-take n (client_width - j) (drop j (drop (client_offset current d) s)) (omega arith)
+      ∙ ap (take n) (drop-drop j (client_offset current d) s)
 
   -- its kind, for a reader of that number alone
   pub kind_at : get_or s (client_offset current d + kind_offset) 0 ≡ kind (client_in current s d)

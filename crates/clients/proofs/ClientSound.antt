@@ -30,8 +30,9 @@ use Rattle.hall.specs.Kind.{Decodes}
 use Rattle.hall.specs.Refusal.{code_of}
 use Rattle.hall.specs.declared.refusal.Refusal.TheVariants.{Unsound}
 use Rattle.rules.specs.Memory.{current, shape_in, client_in}
+use Rattle.clients.specs.declared.Numbers.{Numbers}
 use Rattle.clients.specs.declared.Held.{Held}
-use Rattle.clients.specs.ClientContracts.{client_code, steps_of_kind, fits}
+use Rattle.clients.specs.ClientContracts.{IsNumbers, client_code, steps_of_kind, fits}
 
 -- a range that a begin would refuse
 fault_is : (x : Ask) → not (eqb (ask_fault x) 0) ≡ not (is_range x.shape x.query x.range) || is_reversed x.range
@@ -44,14 +45,23 @@ fault_is x = go (is_range x.shape x.query x.range) (is_reversed x.range)
     go false b = refl
 
 -- ---- Clients without a kind, and with none of the three
-module _ (sh : Shape) (c : Client) where
-  module _ (some : kind c ≡ 0 → ⊥) where
-    kind_busy : is_idle c ≡ false
-    kind_busy = by_test (is_idle c) (λ e. absurd (some (idle_kind c e))) (λ e. e)
+-- a client with a kind is not idle
+pub kind_busy : (c : Client) → (kind c ≡ 0 → ⊥) → is_idle c ≡ false
+kind_busy c h = by_test (is_idle c) (λ e. absurd (h (idle_kind c e))) (λ e. e)
 
-    pub bad_kind : deletes < kind c → is_bad sh c ≡ true
-    unfolding is_bad
-    bad_kind g = rw (kind_busy, ne_eqb (kind c) 0 some, lt-ltb deletes (kind c) g)
+module _ (sh : Shape) (c : Client) where
+  pub bad_none : (r : Bool) → r ≡ is_idle c → kind c ≡ 0 → not r ≡ is_bad sh c
+  unfolding is_bad
+  bad_none true e h = rw (← e)
+  bad_none false e h = rw (← e, h)
+
+  -- a client that is not bad and has no kind is idle
+  pub none_idle : false ≡ is_bad sh c → kind c ≡ 0 → true ≡ is_idle c
+  none_idle g h = sym (not-false (is_idle c) (bad_none (is_idle c) refl h ∙ sym g))
+
+  pub bad_kind : (kind c ≡ 0 → ⊥) → deletes < kind c → is_bad sh c ≡ true
+  unfolding is_bad
+  bad_kind some g = rw (kind_busy c some, ne_eqb (kind c) 0 some, lt-ltb deletes (kind c) g)
 
 -- a number that is not 0 and no kind's is above all three
 pub none_decoded : (n : ℕ) (r : Result Kind UnknownKind) → Decodes n r → result_ok r ≡ None → (n ≡ 0 → ⊥) → deletes < n
@@ -75,7 +85,7 @@ module _ (s : List ℕ) (d : ℕ) where
   pub code_parsed : (r : Option Held) → (kind (client_in current s d) ≡ 0 → ⊥) → is_some r ≡ not (is_bad (shape_in s) (client_in current s d)) → code_of (ok_or r Unsound) ≡ client_code s d
   unfolding client_code
   code_parsed None h e = rw (not-false (is_bad (shape_in s) (client_in current s d)) (sym e))
-  code_parsed (Some x) h e = rw (not-true (is_bad (shape_in s) (client_in current s d)) (sym e), kind_busy (shape_in s) (client_in current s d) h)
+  code_parsed (Some x) h e = rw (not-true (is_bad (shape_in s) (client_in current s d)) (sym e), kind_busy (client_in current s d) h)
 
 -- ---- Clients of one of the three kinds
 number_some : (x : Kind) → kind_number x ≡ 0 → ⊥
@@ -129,7 +139,7 @@ module _ (sh : Shape) (c : Client) where
     whole =
         let some : kind c ≡ 0 → ⊥ = λ e. number_some x (is ∙ e) in
         let most : kind c ≤ deletes = (let z = number_most x in omega arith) in
-        rw (kind_busy sh c some, ne_eqb (kind c) 0 some, le-ltb deletes (kind c) most, key_tests sh c wide few, fault_law, steps_law)
+        rw (kind_busy c some, ne_eqb (kind c) 0 some, le-ltb deletes (kind c) most, key_tests sh c wide few, fault_law, steps_law)
 
     pub bad_key : is_key sh (bare_key (key_in (entry_of c))) ≡ false → is_bad sh c ≡ true
     bad_key e = rw (whole, e)
@@ -167,3 +177,7 @@ pub passed : (k : ℕ) (c : Client) (x : Kind) (q : Marked) (counts : Bool) (g :
     ≡ not (is_bad (shape_of k) c)
 passed k c x q counts g w f is e a m b r =
     rw (m, a, b, r, length_test (entry_of c), and_tests) (sym (tests_passed (shape_of k) c w f x is e))
+
+-- ---- What was read of any client
+pub few_held : {n : Numbers} {s : List ℕ} {d : ℕ} → IsNumbers n s d → n.columns ≤ max_columns → (shape_in s).columns ≤ max_columns
+few_held i l = let e = i.columns in omega arith

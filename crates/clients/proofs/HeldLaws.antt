@@ -24,7 +24,7 @@ use Rattle.rules.proofs.ClientLaws.{writes_at, asked_counts, steps_at, look_coun
 use Rattle.columns.specs.declared.marked.Marked.{Marked}
 use Rattle.columns.specs.MarkedContracts.{marked_query}
 use Rattle.clients.specs.declared.Held.{Held}
-use Rattle.clients.specs.ClientContracts.{held_query, At}
+use Rattle.clients.specs.ClientContracts.{IsHeld, held_query, At}
 use Rattle.clients.proofs.ClientReads.{bare_values}
 
 -- ---- The query
@@ -44,6 +44,9 @@ query_law q k c a b v =
     let few : k ≤ max_columns = (let z = q.few in omega arith) in
     rw (a, b, v, ← bare_values key) (columns_take k (get_or (bare_key key) 0 0) max_columns (drop 1 (bare_key key)) few)
 
+pub held_query_law : (h : Held) (s : List ℕ) (d : ℕ) → IsHeld h s d → held_query h ≡ query_at (shape_in s) (client_in current s d)
+held_query_law h s d i = query_law h.query _ _ i.columns i.marks i.values
+
 -- ---- A sound, busy client
 steps_most : (sh : Shape) (c : Client) → sh.columns ≤ max_columns → steps_in_all (work_at sh c) ≤ look_room + 1 + look_room
 unfolding query_at
@@ -58,7 +61,7 @@ steps_most sh c l =
 
 module _ {h : Held} {s : List ℕ} {d : ℕ} {w : Work} (a : At h s d w) where
   pub at_query : held_query h ≡ query_at (shape_in s) (client_in current s d)
-  at_query = query_law h.query _ _ a.held.columns a.held.marks a.held.values
+  at_query = held_query_law h s d a.held
 
   -- it has made few steps
   pub at_steps : steps (client_in current s d) < look_room + 1 + look_room

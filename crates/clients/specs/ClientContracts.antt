@@ -18,12 +18,23 @@ use Rattle.hall.specs.declared.kind.Kind.{Kind}
 use Rattle.hall.specs.declared.kind.Kind.TheVariants.{Read, Insert, Delete}
 use Rattle.hall.specs.Kind.{kind_number}
 use Rattle.columns.specs.MarkedContracts.{marked_query}
+use Rattle.clients.specs.declared.Numbers.{Numbers}
 use Rattle.clients.specs.declared.Held.{Held}
 
 -- a memory that holds all clients, and one of them
 pub record Fit (s : List ℕ) (d : ℕ) : Type 0 where
   pub long : clients_end current ≤ length s
   pub below : d < max_clients
+
+-- n are the numbers of client d: the hall's columns, and of the client its kind, its steps, of its key the marks, whether it says "count", and the
+-- values
+pub record IsNumbers (n : Numbers) (s : List ℕ) (d : ℕ) : Type 0 where
+  pub columns : n.columns ≡ (shape_in s).columns
+  pub kind : n.kind ≡ kind (client_in current s d)
+  pub steps : n.steps ≡ steps (client_in current s d)
+  pub marks : n.marks ≡ get_or (bare_key (key_in (entry_of (client_in current s d)))) 0 0
+  pub counts : n.counts ≡ is_count (entry_of (client_in current s d))
+  pub values : n.values ≡ take max_columns (drop 1 (key_in (entry_of (client_in current s d))))
 
 -- h is what was read of a client's numbers in a hall of k columns: its query's columns, its kind, its steps, of its key the marks, whether it says
 -- "count", and the values

@@ -4,9 +4,10 @@
 // `range(m.clients, d)`, since a caller alters the memory in between.
 #![tactic(auto)]
 
-ghost use Rattle.std.specs.Prelude.{◌≡◌, ◌≢◌, ◌≤◌, ◌<◌, ◌+◌, not, length, set, is_some, if◌then◌else◌, IfOk, IfSome};
+ghost use Rattle.std.specs.Prelude.{◌≡◌, ◌≢◌, ◌≤◌, ◌<◌, ◌+◌, not, ◌||◌, length, set, is_some, if◌then◌else◌, IfOk, IfSome};
 ghost use Rattle.lists.specs.Lists.{all_below};
 ghost use Rattle.query.specs.Encoding.{key_width, range_in};
+ghost use Rattle.query.specs.Range.{is_ranged};
 ghost use Rattle.query.specs.Shape.{Shape, shape_of, max_columns};
 ghost use Rattle.rules.specs.Client.{kind, steps, saw_pending, did_change, found_full, entry_of, idle, is_idle, range_at, is_bad, stepped, noted, wrote};
 ghost use Rattle.rules.specs.Layout.{max_records, max_list, max_clients, max_word, look_room, list_room, entry_width, client_width, client_offset, clients_end, held_list_offset};
@@ -15,7 +16,7 @@ ghost use Rattle.rules.specs.Memory.{current, shape_in, client_in, with_client};
 ghost use Rattle.hall.specs.Refusal.{code_of};
 ghost use Rattle.hall.specs.Kind.{kind_number};
 ghost use Rattle.columns.specs.MarkedContracts.{marked_query};
-ghost use Rattle.clients.specs.ClientContracts.{Fit, IsRead, IsHeld, idle_at, client_code, begun_with, steps_of_kind, fits, value_set};
+ghost use Rattle.clients.specs.ClientContracts.{Fit, IsNumbers, IsRead, IsHeld, idle_at, client_code, begun_with, steps_of_kind, fits, value_set};
 
 use columns::marked::Marked;
 use hall::{Hall, Kind, Refusal};
@@ -23,6 +24,18 @@ use query::Range;
 
 // How many clients there are.
 const CLIENTS: usize = Hall::CLIENTS as usize;
+
+// The numbers of a client that a call goes by, whatever they are: of an idle client or an unsound one too. Beside the hall's columns its kind, its
+// steps, of its key the marks and the values, and whether it says "count".
+#[derive(Clone, Copy)]
+pub struct Numbers {
+    pub columns: usize,
+    pub kind: u32,
+    pub steps: usize,
+    pub marks: u32,
+    pub counts: bool,
+    pub values: [u32; Hall::COLUMN_SLOTS],
+}
 
 // What a call reads of its client, once: the client's kind, how many steps it has made, whether it wants a count, and its query. Whoever is called
 // next gets it by value. A range is read by itself where it is tested and where records are taken: most reads have none, and every step would
@@ -142,6 +155,23 @@ pub fn range(clients: &[u32], d: usize) -> Range
     range_in(entry(clients, d))
 }
 
+// The numbers of client d, be it idle or unsound: this cannot fail. A call that asks for a busy one reads it by `read_held`.
+pub fn read(clients: &[u32], d: usize) -> Numbers
+    requires { Fit clients.now d }
+    ensures { IsNumbers result clients.now d }
+{
+    let client = client(clients, d);
+    let entry = entry_of(client);
+    Numbers {
+        columns: clients[Hall::COLUMNS_OFFSET] as usize,
+        kind: client[Hall::KIND_OFFSET],
+        steps: client[Hall::STEPS_OFFSET] as usize,
+        marks: columns::keys::bare_marks(entry[0]),
+        counts: Hall::is_count(entry[0]),
+        values: [entry[1], entry[2], entry[3], entry[4]],
+    }
+}
+
 // Where a client's list stands in the memory of a hall of k columns: at the same place for every k.
 pub fn list_at(d: usize, k: usize) -> usize
     requires { d < max_clients }
@@ -168,13 +198,14 @@ pub fn set_idle(clients: &mut [u32], d: usize)
     clients[at..at + Hall::CLIENT_WIDTH].fill(0);
 }
 
-// Begins a read or a write at client d: its kind and its query's key, all the rest 0.
-pub fn begin(clients: &mut [u32], d: usize, kind: Kind, key: &[u32])
+// Begins a read or a write at client d: its kind and its query's key, all the rest 0. The kind is any number: one that is no kind's is kept too, and
+// what is read back is then unsound.
+pub fn begin(clients: &mut [u32], d: usize, kind: u32, key: &[u32])
     requires { Fit clients.old d × (length key.now ≡ key_width) }
-    ensures { clients.new ≡ with_client current clients.old d (begun_with (kind_number kind) key.now) }
+    ensures { clients.new ≡ with_client current clients.old d (begun_with kind key.now) }
 {
     set_idle(clients, d);
-    put(clients, d, Hall::KIND_OFFSET, kind.number());
+    put(clients, d, Hall::KIND_OFFSET, kind);
     let at = place(d) + Hall::ENTRY_OFFSET;
     clients[at..at + Hall::KEY_WIDTH].copy_from_slice(key);
 }
@@ -233,6 +264,13 @@ fn steps_in_all(kind: Kind, query: &Marked) -> usize
     }
 }
 
+// Whether neither a count is wanted nor a range given: only a read may want one or have one.
+fn is_plain(counts: bool, range: Range) -> bool
+    ensures { result ≡ not (counts || is_ranged range) }
+{
+    !counts && !columns::keys::is_ranged(range)
+}
+
 // Whether a begin would take such work: a read with its range; an insert of a value for every column, and a delete, neither with a range or for a
 // count.
 fn fits(kind: Kind, counts: bool, range: Range, query: &Marked) -> bool
@@ -240,8 +278,8 @@ fn fits(kind: Kind, counts: bool, range: Range, query: &Marked) -> bool
 {
     match kind {
         Kind::Read => !query.bad_range(range),
-        Kind::Insert => !counts && !columns::keys::is_ranged(range) && query.names_all(),
-        Kind::Delete => !counts && !columns::keys::is_ranged(range),
+        Kind::Insert => is_plain(counts, range) && query.names_all(),
+        Kind::Delete => is_plain(counts, range),
     }
 }
 
@@ -283,7 +321,7 @@ impl Held {
 
 // What a call needs to know of client d, if it is busy: refusal 3 where it is unsound, 6 where it is idle. Only where it has no kind are all its
 // numbers read. In a hall of more columns than any a client with a kind is unsound.
-pub fn read(clients: &[u32], d: usize) -> Result<Held, Refusal>
+pub fn read_held(clients: &[u32], d: usize) -> Result<Held, Refusal>
     requires { Fit clients.now d }
     ensures code { (shape_in clients.now).columns ≤ max_columns → code_of result ≡ client_code clients.now d }
     ensures held { IfOk result (λ h. IsHeld h clients.now d) }

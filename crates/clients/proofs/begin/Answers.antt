@@ -9,7 +9,7 @@ pub returns : goal.returns
 unfolding idle
 returns c =
     let f = c.requires.0 in
-    let x : ℕ = c.number.result in
+    let x : ℕ = c.args.kind in
     let kind = put_more _ _ f _ _ idle 0 x c.set_idle.ensures c.put.ensures idle_wide in
     let wide = length-set idle 0 x ∙ idle_wide in
-    rw (c.copy_from_slice.ensures.after, ← c.number.ensures) (begun_left _ _ f _ _ x _ _ kind wide c.place-at.ensures c.requires.1 (key_behind x c.args.key.now c.requires.1))
+    rw c.copy_from_slice.ensures.after (begun_left _ _ f _ _ x _ _ kind wide c.place-at.ensures c.requires.1 (key_behind x c.args.key.now c.requires.1))

@@ -1,21 +1,19 @@
--- `clients::read` meets its contract: idle, unsound or busy. Assumes nothing.
-use Rattle.std.proofs.Common.{◌∙◌, sym}
-use Rattle.rules.specs.Client.{kind}
-use Rattle.clients.proofs.ClientSound.{code_none, code_zero, code_parsed}
+-- `clients::read` meets its contract: each number from its place. Assumes nothing.
+use Rattle.std.proofs.Common.{◌∙◌, refl, ap}
+use Rattle.rules.specs.Client.{kind, steps, entry_of}
+use Rattle.clients.proofs.ClientReads.{marks_read, counts_read, four_read}
 use Rattle.clients.proofs.read.Goals as goal
 
-pub parse-requires-clause-some : goal.parse-requires-clause-some
-unfolding kind
-parse-requires-clause-some c = c.if-client-ne0.true
-
-pub returns-then-client-ne0-clause-code : goal.returns-then-client-ne0-clause-code
-unfolding kind
-returns-then-client-ne0-clause-code c =
-    λ few. rw c.ok_or.ensures.value (code_parsed c.args.clients.now c.args.d c.parse.result (rw c.client-client.ensures.own at c.if-client-ne0.true) (rw c.client-client.ensures.own at c.parse.ensures.sound))
-
-pub returns-then-is_idle-clause-code : goal.returns-then-is_idle-clause-code
-returns-then-is_idle-clause-code c = λ few. code_zero c.args.clients.now c.args.d (sym c.is_idle.ensures ∙ c.if-is_idle.true)
-
-pub returns-clause-code : goal.returns-clause-code
-unfolding kind
-returns-clause-code c = λ few. code_none c.args.clients.now c.args.d (rw c.client-client.ensures.own at c.if-client-ne0.false) (sym c.is_idle.ensures ∙ c.if-is_idle.false)
+pub returns : goal.returns
+unfolding kind steps
+returns c =
+    let own = c.entry_of-entry.ensures.own ∙ ap entry_of c.client-client.ensures.own in
+    let wide = c.entry_of-entry.ensures.wide in
+    record {
+      columns = refl;
+      kind = ap kind c.client-client.ensures.own;
+      steps = ap steps c.client-client.ensures.own;
+      marks = marks_read _ _ own wide _ c.bare_marks.ensures;
+      counts = counts_read _ _ own wide _ c.is_count.ensures;
+      values = four_read _ _ own wide;
+    }
