@@ -1,7 +1,8 @@
 -- Laws of the moves: std's writes to a part of a slice in the words of lists, and what a move and a write after it leave. On plain lists.
 -- Leans on the library's lists. Assumes nothing.
-use Rattle.std.proofs.Common.{◌≡◌, ℕ, ◌+◌, ◌-◌, ◌≤◌, sym, ap, ◌∙◌, List, [], ◌++◌, append_assoc, append-nil, length, take, drop, replicate, length-append, length-take, length-drop, length-replicate, drop_of_length-le, length-take-le, drop-drop, drop_at, take_at, take-take, arith}
+use Rattle.std.proofs.Common.{◌≡◌, ℕ, ◌+◌, ◌-◌, ◌≤◌, sym, ap, ◌∙◌, List, [], ◌++◌, append_assoc, append-nil, length, take, drop, replicate, length-append, length-take, length-drop, drop_of_length-le, length-take-le, drop-drop, drop_at, take_at, take-take, arith}
 use native.Mathlib.Nat.{sub-zero}
+use Rattle.std.proofs.lemmas.List.{length-replicate}
 use Rattle.std.specs.List.{copy_within}
 use borrow.Rule.Slice.PartMut.{put_mid}
 use Rattle.lists.specs.Lists.{written}
