@@ -6,8 +6,9 @@ use Prim.Native.Nat.{ℕ, zero, suc, ◌+◌, ◌*◌, ◌≤◌, ◌<◌}
 use native.Mathlib.Omega.{arith}
 use lib.Dec.{eqb, ltb}
 use lib.ListN.{length, get_or, take}
-use borrow.Author.Tests.{eqb-true, ltb-true}
+use borrow.Author.Tests.{eqb-true, eq-eqb, ne_eqb, ltb-true}
 use Rattle.laws.proofs.ListLaws.{and_left}
+use Rattle.laws.proofs.TestLaws.{by_test}
 use Rattle.query.specs.declared.Column.TheVariants.{Is, Wildcard}
 use Rattle.query.specs.declared.Range.{Range}
 use Rattle.query.specs.Range.{is_named, is_range}
@@ -18,13 +19,13 @@ use Rattle.query.proofs.EncodingLaws.{is_query_length}
 use Rattle.columns.specs.ColumnContracts.{taken_of}
 use Rattle.columns.specs.KeyContracts.{IsNear}
 use Rattle.columns.proofs.TakeLoop.{taken_key}
-use Rattle.rules.specs.Layout.{refused_columns}
+use Rattle.rules.specs.Layout.{reads, inserts, refused_columns}
 use Rattle.rules.specs.Table.{target}
-use Rattle.rules.specs.Work.{ask_fault, key_of, ask_key, read_of, insert_of, delete_of, ask_of, work_of, fault_of}
+use Rattle.rules.specs.Work.{ask_fault, key_of, ask_key, read_of, insert_of, delete_of, is_write, ask_of, work_of, fault_of}
 use Rattle.rules.proofs.WorkLaws.{fault_none}
 use Rattle.checks.specs.declared.Request.{Request}
 use Rattle.checks.specs.declared.Request.TheVariants.{Read, Insert, Delete}
-use Rattle.checks.specs.CheckContracts.{request_of}
+use Rattle.checks.specs.CheckContracts.{request_of, numbered_request}
 
 -- k: the hall's number of columns, a: the numbers that arrive
 module _ (k : ℕ) (a : List ℕ) where
@@ -52,6 +53,16 @@ module _ (k : ℕ) (a : List ℕ) where
     pub key_of_insert : k ≤ max_columns → names_all (query_of a) ≡ true → key_words (naming (take k (taken_of (query_of a)))) ≡ key_of (work_of (shape_of k) (insert_of a))
     unfolding key_of work_of target
     key_of_insert l n = taken_key (query_of a) k (taken_of (query_of a)) _ refl (is_query_length (shape_of k) a q) l n refl
+
+-- ---- By the number of its kind: 1 alone is a read, and every other number is a write
+module _ (x : ℕ) (b : Bool) (g : Range) (a : List ℕ) where
+  pub reads_only : x ≡ reads → is_write (numbered_request x b g a) ≡ false
+  unfolding is_write
+  reads_only h = rw (eq-eqb x reads h)
+
+  pub writes_only : (x ≡ reads → ⊥) → is_write (numbered_request x b g a) ≡ true
+  unfolding is_write
+  writes_only h = by_test (eqb x inserts) (λ i. rw (ne_eqb x reads h, i)) (λ i. rw (ne_eqb x reads h, i))
 
 -- ---- A read's range
 -- a column names a value where its mark as it arrives is not 0

@@ -1,8 +1,9 @@
 -- What the checks find, by the numbers of the refusals: parts of the refusals that several of them share, and what begins, where
 -- crates/rules/specs has no name for it. Leans on rules and clients. Definitions only. Assumes nothing.
-use Rattle.std.specs.Prelude.{not, ◌&&◌, List, [], ℕ, eqb, leb, get_or}
+use Rattle.std.specs.Prelude.{Bool, cond, not, ◌&&◌, List, [], ℕ, eqb, leb, get_or}
+use Rattle.query.specs.declared.Range.{Range}
 use Rattle.query.specs.Shape.{Shape}
-use Rattle.rules.specs.Layout.{answer_count_offset, node_count_offset, refused_short, refused_unsound, refused_no_client, refused_taken}
+use Rattle.rules.specs.Layout.{answer_count_offset, node_count_offset, reads, inserts, refused_short, refused_unsound, refused_no_client, refused_taken}
 use Rattle.rules.specs.Layout.{refused_no_entry, refused_pending, refused_worn}
 use Rattle.rules.specs.Work.{Request, read_of, insert_of, delete_of, is_write, fault_of}
 use Rattle.rules.specs.Nodes.{is_worn, is_free}
@@ -24,6 +25,10 @@ abbrev pub request_of : begins.Request → List ℕ → Request
 request_of (Read counts range) a = read_of counts range a
 request_of Insert a = insert_of a
 request_of Delete a = delete_of a
+
+-- what begins by the number of its kind, of a read whether it wants a count and its range, and the numbers that arrive
+abbrev pub numbered_request : ℕ → Bool → Range → List ℕ → Request
+numbered_request kind counts range a = cond (eqb kind reads) (read_of counts range a) (cond (eqb kind inserts) (insert_of a) (delete_of a))
 
 -- 3 unsound, by the number of columns alone
 abbrev pub columns_code : Shape → ℕ

@@ -13,7 +13,7 @@ ghost use Rattle.nodes.specs.NodeContracts;
 ghost use Rattle.hall.specs.Kind.{kind_number};
 ghost use Rattle.hall.specs.Memories.{lent};
 ghost use Rattle.hall.specs.Refusal.{code_of};
-ghost use Rattle.checks.specs.CheckContracts.{sound_code, request_of, columns_code, asked_code, fresh_code, desk_code, answer_code, node_code, evict_code};
+ghost use Rattle.checks.specs.CheckContracts.{sound_code, request_of, numbered_request, columns_code, asked_code, fresh_code, desk_code, answer_code, node_code, evict_code};
 
 use clients::Held;
 use columns::queries::Query;
@@ -69,7 +69,7 @@ fn at_client(memories: Memories<'_>, d: u32) -> Result<Held, Refusal>
     if Hall::CLIENTS <= d {
         return Err(Refusal::NoClient);
     }
-    clients::read(memories.clients, d as usize)
+    clients::read_held(memories.clients, d as usize)
 }
 
 // ---- What begins
@@ -82,6 +82,18 @@ pub enum Request {
 }
 
 impl Request {
+    // What begins by the number of its kind: 1 a read, 2 an insert, every other number a delete. Whether a count is wanted, and the range, are asked
+    // of a read alone.
+    pub fn of_kind(kind: u32, counts: bool, range: Range) -> Request
+        ensures { (a : List ℕ) → request_of result a ≡ numbered_request kind counts range a }
+    {
+        match kind {
+            Hall::READS => Request::Read { counts, range },
+            Hall::INSERTS => Request::Insert,
+            _ => Request::Delete,
+        }
+    }
+
     // The kind that its client keeps.
     #[tactic(auto, unfolding(rules::specs::Work::kind_of, rules::specs::Work::work_of, rules::specs::Work::change_kind))]
     pub fn kind(self) -> Kind

@@ -7,11 +7,11 @@ use Rattle.checks.proofs.CheckCodes.{client_there}
 use Rattle.checks.proofs.SoundMemories.{client_fit}
 use Rattle.checks.proofs.at_client.Goals as goal
 
-pub read-requires : goal.read-requires
-read-requires c = client_fit (sound _ c.requires (sym c.is_unsound.ensures ∙ c.if-is_unsound.false)) _ (omega arith)
+pub read_held-requires : goal.read_held-requires
+read_held-requires c = client_fit (sound _ c.requires (sym c.is_unsound.ensures ∙ c.if-is_unsound.false)) _ (omega arith)
 
 pub returns-clause-code : goal.returns-clause-code
 returns-clause-code c =
     let u = sym c.is_unsound.ensures ∙ c.if-is_unsound.false in
     let g : Sound (lent c.args.memories) = sound _ c.requires u in
-    c.read.ensures.code (omega (arith, g.most)) ∙ sym (client_there _ _ _ _ _ u (omega arith))
+    c.read_held.ensures.code (omega (arith, g.most)) ∙ sym (client_there _ _ _ _ _ u (omega arith))
