@@ -42,10 +42,10 @@ pub struct Numbers {
 // carry it.
 #[derive(Clone, Copy)]
 pub struct Held {
-    pub kind: Kind,
-    pub steps: usize,
-    pub counts: bool,
     pub query: Marked,
+    pub steps: usize,
+    pub kind: Kind,
+    pub counts: bool,
 }
 
 // ---- Reading
