@@ -25,7 +25,12 @@ fn try_begin(
     ensures same { SamePlaces memories.old memories.new }
 {
     let key = checks::begin_check(memories.view(), request, client, asked)?;
-    clients::begin(memories.clients, client as usize, request.kind(), &key);
+    clients::begin(
+        memories.clients,
+        client as usize,
+        request.kind().number(),
+        &key,
+    );
     Ok(Outcome::Accepted)
 }
 

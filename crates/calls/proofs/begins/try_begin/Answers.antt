@@ -20,6 +20,6 @@ pub returns-clause-leaves : goal.returns-clause-leaves
 returns-clause-leaves c =
     let x = request_of c.args.request c.args.asked.now in
     begin_done (lent_mut c.args.memories.now) _ _ _ _ x (passed c.view.ensures (λ m. begin_code m c.args.client x) c.in_ok-key.ensures.code)
-    (c.kind.ensures _ _)
+    (c.number.ensures ∙ c.kind.ensures _ _)
     (c.in_ok-key.ensures.ok ∙ ap (λ (m : Mem). key_of (work_of (shape m) x)) c.view.ensures)
     c.begin.ensures
