@@ -13,7 +13,7 @@ use Rattle.lists.specs.Lists.{without}
 use Rattle.laws.proofs.EntryLaws.{with_self, with_with}
 use Rattle.laws.proofs.TestLaws.{by_test}
 use Rattle.laws.proofs.ListLaws.{length_without}
-use Rattle.laws.proofs.RowLaws.{Wide, wide_snoc, wide_without, wide_at}
+use Rattle.laws.proofs.RowLaws.{Wide, wide_nil, wide_snoc, wide_without, wide_at}
 use Rattle.rules.specs.Answers.{Entry, key_place, filed}
 use Rattle.rules.specs.Layout.{max_answers, answer_count_offset, entry_width}
 use Rattle.rules.specs.Memory.{current, answers_in, with_answers}
@@ -56,7 +56,10 @@ module _ (s : List ℕ) (fit : Fit s) (es : List Entry) (kept : Kept es) where
       let n = count_back in
       record { long = omega arith; few = omega arith }
 
--- ---- one more, one filed
+-- ---- none, one out, one filed
+pub none_kept : Kept []
+none_kept = record { wide = wide_nil entry_width; few = omega arith }
+
 snoc_kept : (x : Entry) (l : List Entry) → length x ≡ entry_width → Wide entry_width l → length l < max_answers → Kept (l ++ (x ∷ []))
 snoc_kept x l h w k = let a = length-append l (x ∷ []) in record { wide = wide_snoc entry_width l x w h; few = omega arith }
 
@@ -82,6 +85,12 @@ module _ (x : Entry) (es : List Entry) where
   beside_full h k = rw (le-ltb (key_place x es) (length es) h, le-ltb (length es) max_answers k)
 
 module _ (es : List Entry) (kept : Kept es) where
+  pub without_kept : (i : ℕ) → i < length es → Kept (without i es)
+  without_kept i h =
+      let b = kept.few in
+      let l = length_without i es h in
+      record { wide = wide_without entry_width i es kept.wide; few = omega arith }
+
   -- what stays where x is filed: x goes behind it
   pub beside_few : (x : Entry) → length (beside x es) < max_answers
   unfolding beside
@@ -123,6 +132,25 @@ stays s fit es kept = record { fit = fit_kept s fit es kept; same_length = lengt
 module _ (s : List ℕ) (fit : Fit s) where
   pub file_stays : (x : Entry) → length x ≡ entry_width → Stays s (filed x (answers_in current s))
   file_stays x h = stays s fit (filed x (answers_in current s)) (filed_kept (answers_in current s) (answers_kept s fit) x h)
+
+  pub evict_stays : (i : ℕ) → i < get_or s answer_count_offset 0 → Stays s (without i (answers_in current s))
+  evict_stays i h = let l = count_is s in stays s fit (without i (answers_in current s)) (without_kept (answers_in current s) (answers_kept s fit) i (omega arith))
+
+  pub empty_stays : Stays s []
+  empty_stays = stays s fit [] none_kept
+
+  -- where one is out, or fewer are kept than may be, one more has room
+  module _ (t : List ℕ) where
+    pub room_behind : (i : ℕ) → i < get_or s answer_count_offset 0 → t ≡ with_answers current s (without i (answers_in current s)) → Fit t × (get_or t answer_count_offset 0 < max_answers)
+    room_behind i h e =
+        let k = fit.few in
+        let l = count_is s in
+        let w = length_without i (answers_in current s) (omega arith) in
+        let n = count_back s fit (without i (answers_in current s)) (without_kept (answers_in current s) (answers_kept s fit) i (omega arith)) in
+        (rw e (evict_stays i h).fit, rw (e, n) (omega arith))
+
+    pub room_there : (get_or s answer_count_offset 0 ≡ max_answers → ⊥) → t ≡ s → Fit t × (get_or t answer_count_offset 0 < max_answers)
+    room_there h e = let k = fit.few in (rw e fit, rw e (omega arith))
 
   -- ---- filing: what stays, whichever way it comes about, and then the entry behind it
   module _ (t : List ℕ) (x : Entry) where
