@@ -1,6 +1,8 @@
 pub mod TableLists
 pub mod TableMemory
 pub mod Passing
+pub mod Counting
+pub mod Skipping
 pub mod Listing
 pub mod Stretches
 pub mod Seeking

@@ -140,14 +140,17 @@ pub fn insert(table: &mut [u32], rec: &[u32]) -> Inserted
     Inserted::Added
 }
 
-// Copies a record to where it is to stand; while nothing has gone it stands there.
+// Copies a record of K columns to where it is to stand; while nothing has gone it stands there. It is read whole and then written, so that nothing asks
+// which of its numbers goes first.
 #[tactic(auto, using(crate::proofs::Deleting::settled))]
-fn settle(table: &mut [u32], from: usize, to: usize, k: usize)
-    requires { (to ≤ from) × (from + k ≤ length table.old) }
-    ensures { table.new ≡ written table.old to (take k (drop from table.old)) }
+fn settle<const K: usize>(table: &mut [u32], from: usize, to: usize)
+    requires { (to ≤ from) × (from + K ≤ length table.old) }
+    ensures { table.new ≡ written table.old to (take K (drop from table.old)) }
 {
     if to != from {
-        words::slide(table, from, to, k);
+        let mut rec = [0u32; K];
+        rec.copy_from_slice(&table[from..from + K]);
+        words::write(table, to, &rec);
     }
 }
 
@@ -178,7 +181,7 @@ fn delete_in<const K: usize>(table: &mut [u32], test: &Masks) -> usize
         let from = Hall::HEADER + i * K;
         let stays = !test.lies(&table[from..from + K]);
         if stays {
-            settle(table, from, Hall::HEADER + j * K, K);
+            settle::<K>(table, from, Hall::HEADER + j * K);
         }
         // By arithmetic too, as where records are listed (passes).
         j += usize::from(stays);

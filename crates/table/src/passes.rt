@@ -1,7 +1,7 @@
 // Passes over records that stand one after another, by any record test. The number of their columns, K, and how many of them make a block are
 // constants, so that the compiler makes a loop for each width.
-ghost use Rattle.std.specs.Prelude.{◌≡◌, ◌-◌, ◌*◌, ◌+◌, ◌≤◌, length, take};
-ghost use Rattle.lists.specs.Lists.{written, flat, keep};
+ghost use Rattle.std.specs.Prelude.{◌≡◌, ◌-◌, ◌*◌, ◌/◌, ◌+◌, ◌≤◌, length, take, drop};
+ghost use Rattle.lists.specs.Lists.{written, flat, keep, place};
 ghost use Rattle.rules.specs.Layout.{max_list, list_room};
 ghost use Rattle.table.specs.TableContracts.{Stretch, Block, records_of, some, up_to};
 
@@ -44,15 +44,36 @@ fn skip<'a, T: RecordTest, const K: usize, const BLOCK: usize>(
     ensures kept { keep (T.says test.now) (records_of K result.now) ≡ keep (T.says test.now) (records_of K recs.now) }
     ensures stretch { Stretch K result.now }
     ensures short { length result.now ≤ length recs.now }
+    ensures place { result.now ≡ drop (place (T.says test.now) (records_of K recs.now) / BLOCK * BLOCK * K) recs.now }
 {
     let mut at = 0;
     for block in recs.chunks_exact(BLOCK * K) {
         if some_in::<T, K>(block, test) {
-            break;
+            return &recs[at..];
         }
         at += BLOCK * K;
     }
     &recs[at..]
+}
+
+// How many records pass the test, block by block. Whether nothing is left is asked at each block, beside whether a whole one is: so the compiler tests
+// the records as they stand, and doesn't take a column of several of them at once, which of four columns takes longer.
+fn count_blocks<T: RecordTest, const K: usize, const BLOCK: usize>(recs: &[u32], test: &T) -> u32
+    requires stretch { Stretch K recs.now }
+    requires block { Block BLOCK }
+    ensures { result ≡ length (keep (T.says test.now) (records_of K recs.now)) }
+{
+    let mut rest = recs;
+    let mut j = 0;
+    while !rest.is_empty() {
+        if rest.len() < BLOCK * K {
+            return j + count_in::<T, K>(rest, test);
+        }
+        let (block, behind) = rest.split_at(BLOCK * K);
+        j += count_in::<T, K>(block, test);
+        rest = behind;
+    }
+    j
 }
 
 // How many records pass the test, where passing blocks is faster than counting: those before the first block that has one are
@@ -65,7 +86,7 @@ pub fn skip_and_count<T: RecordTest, const K: usize, const BLOCK: usize>(
     requires block { Block BLOCK }
     ensures { result ≡ length (keep (T.says test.now) (records_of K recs.now)) }
 {
-    count_in::<T, K>(skip::<T, K, BLOCK>(recs, test), test)
+    count_blocks::<T, K, BLOCK>(skip::<T, K, BLOCK>(recs, test), test)
 }
 
 // Writes the records that pass the test behind those that `out` had, at most 32 in all, and says how many there are then, if there are no more.

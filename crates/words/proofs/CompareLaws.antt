@@ -1,6 +1,6 @@
 -- Laws of the comparisons: std's `==` and a fold of tests in the words of lists, and what `order_of` tells of `same` and `before`.
 -- Leans on the library's lists and tests. Assumes nothing.
-use Rattle.std.proofs.Common.{◌≡◌, ℕ, ◌+◌, ◌<◌, ◌≤◌, ◌⊎◌, inl, inr, ⊎_elim, refl, sym, ap, ◌∙◌, Bool, true, false, true≢false, ◌&&◌, List, [], ◌∷◌, length, get_or, drop, replicate, cond, eqb, ltb, nat_eq, nat_cmp, fold, Ordering, Less, Equal, Greater, is_lt, is_eq, is_gt, add-one, drop-cons, drop_of_length-le, arith, ltb-true, ltb-false, lt-ltb, le-ltb, eq-eqb, ne_eqb}
+use Rattle.std.proofs.Common.{◌≡◌, ℕ, ◌+◌, ◌<◌, ◌≤◌, ◌⊎◌, inl, inr, ⊎_elim, refl, sym, ap, ◌∙◌, Bool, true, false, true≢false, ◌&&◌, List, [], ◌∷◌, length, get_or, drop, replicate, cond, eqb, ltb, nat_eq, fold, Ordering, Less, Equal, Greater, is_lt, is_eq, is_gt, add-one, drop-cons, drop_of_length-le, arith, ltb-true, ltb-false, lt-ltb, le-ltb, eq-eqb, ne_eqb}
 use mathlib.Core.Bool.{and_assoc, and-true}
 use Rattle.std.specs.Cmp.Lexicographic.{pointwise}
 use Rattle.lists.specs.Lists.{same, before}
@@ -43,15 +43,14 @@ module _ (a b : List ℕ) (n x y : ℕ) (t : (n < length a) × (n < length b) ×
   unfolding order_of
   step = rw (add-one, drop-cons a n 0 t.0, drop-cons b n 0 t.1, ← t.2 0, ← t.3 0)
 
-  pub order_differs : (x ≡ y → ⊥) → nat_cmp x y ≡ order_of (drop n a) (drop n b)
-  order_differs e =
-      ⊎_elim (λ h. let t = less x y h in rw (step, t.0))
-      (⊎_elim (λ h. absurd (e h))
-      (λ h. let t = less y x h in rw (step, t.0, t.1.1, ne_eqb x y e)))
-      (three x y)
+  pub order_before : x < y → Less ≡ order_of (drop n a) (drop n b)
+  order_before h = let t = less x y h in rw (step, t.0)
 
-  pub order_alike : x ≡ y → order_of (drop n a) (drop n b) ≡ order_of (drop (n + 1) a) (drop (n + 1) b)
-  order_alike e = let t = alike x y e in rw (step, t.0, t.1.1)
+  pub order_after : y < x → Greater ≡ order_of (drop n a) (drop n b)
+  order_after h = let t = less y x h in rw (step, t.0, t.1.1)
+
+  pub order_on : y ≤ x → x ≤ y → order_of (drop n a) (drop n b) ≡ order_of (drop (n + 1) a) (drop (n + 1) b)
+  order_on h g = let t = alike x y (omega arith) in rw (step, t.0, t.1.1)
 
 pub order_end : (a b : List ℕ) (n : ℕ) → length a ≡ length b → length a ≤ n → Equal ≡ order_of (drop n a) (drop n b)
 unfolding order_of
