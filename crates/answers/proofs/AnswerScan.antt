@@ -1,18 +1,18 @@
 -- Laws of one filed answer, of where it stands in the memory, and of a search of them all, in the terms of the code that makes it.
 -- Leans on the rules' definitions, on their laws of the memories and on laws. Assumes nothing.
 use mathlib.Core.Path.{◌≡◌, refl, sym, ap, ◌∙◌}
-use mathlib.Core.Bool.{Bool, true, false, cond, not, and-true}
+use mathlib.Core.Bool.{Bool, true, false, cond, not, ◌&&◌, and-true}
 use mathlib.Core.List.{List, [], ◌∷◌}
 use Prim.Native.Nat.{ℕ, suc, ◌+◌, ◌*◌, ◌-◌, ◌≤◌, ◌<◌}
 use native.Mathlib.Omega.{arith}
-use lib.Dec.{ltb, leb}
+use lib.Dec.{eqb, ltb, leb}
 use lib.ListN.{length, get_or, take, drop, length-take, length-drop}
-use lib.Seq.{get_or-take, get_or-drop}
+use lib.Seq.{get_or-take, get_or-drop, length-take-le}
 use borrow.Author.Tests.{lt-ltb, le-ltb, ltb-false}
 use Rattle.std.specs.Prelude.{Some, None, ◌/◌}
 use Rattle.std.specs.Simd.{first_chunks}
 use Rattle.std.specs.List.{list_all, list_any, zip}
-use Rattle.lists.specs.Lists.{place, all_below}
+use Rattle.lists.specs.Lists.{same, place, all_below}
 use Rattle.laws.proofs.TestLaws.{by_test}
 use Rattle.laws.proofs.SearchLaws.{place_before}
 use Rattle.laws.proofs.WalkLaws.{found, not_found, any_place, entries_cut, all_zip}
@@ -48,6 +48,22 @@ module _ (e : Entry) (c : Bool) (h : (vs : List ℕ) → c ≡ counts_in (get_or
   pub long_count : c ≡ true → ltb max_records (get_or e length_offset 0) ≡ is_long e
   unfolding is_long most_in length_in
   long_count f = rw (← counts_first e c h, f)
+
+-- ---- the keys
+-- two lists of one length, compared number by number
+zip_same : (a b : List ℕ) → length a ≡ length b → list_all (λ p. eqb p.0 p.1) (zip a b) ≡ same a b
+unfolding same
+zip_same [] [] h = refl
+zip_same [] (y ∷ m) h = absurd (omega arith)
+zip_same (x ∷ l) [] h = absurd (omega arith)
+zip_same (x ∷ l) (y ∷ m) h = ap (λ t. eqb x y && t) (zip_same l m (omega arith))
+
+pub key_is : (e x : Entry) → length e ≡ entry_width → key_width ≤ length x → list_all (λ p. eqb p.0 p.1) (zip (take key_width e) (take key_width x)) ≡ has_key_of x e
+unfolding has_key_of key_in
+key_is e x h l =
+    let a : length (take key_width e) ≡ key_width = length-take-le key_width e (omega arith) in
+    let b : length (take key_width x) ≡ key_width = length-take-le key_width x l in
+    zip_same (take key_width e) (take key_width x) (omega arith)
 
 -- ---- the revisions
 -- the first n of them, as the code lends them

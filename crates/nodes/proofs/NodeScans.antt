@@ -1,10 +1,11 @@
 -- Laws of the scans over the nodes: the nodes as the library cuts them out of the memory, a label compared with the five numbers of a node, the
 -- tests of a node, and the first that passes one. Leans on the rules' definitions and on the laws of lists and searches. Assumes nothing.
-use Rattle.std.proofs.Common.{◌≡◌, sym, ap, ◌∙◌, true, false, not, List, [], ℕ, ◌+◌, ◌*◌, ◌-◌, ◌/◌, ◌≤◌, ◌<◌, arith, length, get_or, take, drop, fold, max, ◌||◌}
+use Rattle.std.proofs.Common.{◌≡◌, sym, ap, ◌∙◌, true, false, not, List, [], ℕ, ◌+◌, ◌*◌, ◌-◌, ◌/◌, ◌≤◌, ◌<◌, arith, length, get_or, take, drop, fold, max}
 use lib.Bits.{bit_or, bit_xor, xor_self, xor_add_and, or_add_and, and_le_l, and_le_r}
 use lib.Dec.{eqb, ltb}
 use lib.Seq.{get_or-take, length-take-le}
 use borrow.Author.Tests.{lt-ltb, le-ltb, eqb-true, eqb-false}
+use Rattle.std.specs.List.{list_any}
 use Rattle.std.specs.Simd.{first_chunks}
 use Rattle.lists.specs.Lists.{header, same}
 use Rattle.laws.proofs.ListLaws.{eq_same, ne_same}
@@ -95,9 +96,16 @@ module _ (s : List ℕ) (i at : ℕ) (h : i < get_or s node_count_offset 0) (e :
   revision_at = rw e (node_word s i 6 h (omega arith))
 
 -- ---- whether the floor or a revision is too high
-pub worn_highest : (sh : Shape) (s : List ℕ) (h : ℕ) → h ≡ fold (λ x n. max x (get_or n revision_offset 0)) (get_or s floor_offset 0) (store_in current s).nodes
-    → ltb (worn_above current sh) h ≡ is_worn current sh (store_in current s)
-unfolding is_worn is_high revision
-worn_highest sh s h e =
-    rw (e, floor_in s) (above_largest revision (worn_above current sh) (get_or s floor_offset 0) (store_in current s).nodes
-    ∙ ap (λ b. ltb (worn_above current sh) (get_or s floor_offset 0) || b) (any_place (is_high current sh) (store_in current s).nodes))
+pub high_highest : (sh : Shape) (ns : List Node) (h : ℕ) → h ≡ fold (λ x n. max x (get_or n revision_offset 0)) 0 ns → ltb (worn_above current sh) h ≡ list_any (is_high current sh) ns
+unfolding is_high revision
+high_highest sh ns h e = rw e (above_largest revision (worn_above current sh) 0 ns)
+
+module _ (sh : Shape) (s : List ℕ) where
+  pub worn_floor : worn_above current sh < get_or s floor_offset 0 → true ≡ is_worn current sh (store_in current s)
+  unfolding is_worn
+  worn_floor h = rw (floor_in s, lt-ltb (worn_above current sh) (get_or s floor_offset 0) h)
+
+  pub worn_nodes : get_or s floor_offset 0 ≤ worn_above current sh → list_any (is_high current sh) (store_in current s).nodes ≡ is_worn current sh (store_in current s)
+  unfolding is_worn
+  worn_nodes h =
+      rw (floor_in s, le-ltb (worn_above current sh) (get_or s floor_offset 0) h) (any_place (is_high current sh) (store_in current s).nodes)

@@ -5,9 +5,10 @@
 #![tactic(auto)]
 
 ghost use Rattle.std.specs.Prelude.{◌≡◌, true, [], ◌+◌, ◌*◌, ◌≤◌, ◌<◌, length, get_or, position, IfOk};
+ghost use Rattle.std.specs.List.{list_any};
 ghost use Rattle.lists.specs.Lists.{header};
 ghost use Rattle.rules.specs.Nodes.{store, has_label, evict_node, added, make_room, ensured, announced};
-ghost use Rattle.rules.specs.Nodes.{is_free, pending, revision, is_worn};
+ghost use Rattle.rules.specs.Nodes.{is_free, pending, revision, is_high, is_worn};
 ghost use Rattle.query.specs.Encoding.{label_width};
 ghost use Rattle.query.specs.Shape.{Shape};
 ghost use Rattle.rules.specs.Layout.{max_nodes, max_revision, first_floor, node_count_offset, node_width};
@@ -15,6 +16,9 @@ ghost use Rattle.rules.specs.Memory.{current, store_in, with_store};
 ghost use Rattle.nodes.specs.NodeContracts.{Fit, attempt, tried, looked, placed, retirable_place, retired_at};
 
 use hall::{Hall, Refusal};
+
+// How many nodes are looked at together where all may have to be.
+const BLOCK: usize = 64;
 
 // What a look saw of a node: its revision and its pending writes.
 #[derive(Clone, Copy, Debug, PartialEq, Eq)]
@@ -200,16 +204,26 @@ pub fn retire(nodes: &mut [u32], i: usize, lift: bool)
     }
 }
 
-// Whether the floor or a revision is too high for another write. Nearly always none is, so all are looked at, with no branch.
+// Whether one of these nodes has a revision too high for another write. All are looked at, with no branch, so that the machine can look at several
+// at once.
+fn some_high(nodes: &[[u32; Hall::NODE_WIDTH]]) -> bool
+    ensures { (sh : Shape) → result ≡ list_any (is_high current sh) nodes.now }
+{
+    let highest = nodes
+        .iter()
+        .fold(0, |high, node| high.max(node[Hall::REVISION_OFFSET]));
+    Hall::WORN_ABOVE < highest
+}
+
+// Whether the floor or a revision is too high for another write. Nearly always none is; the first block of nodes that has one ends the search.
 pub fn is_worn(nodes: &[u32]) -> bool
     requires { Fit nodes.now }
     ensures { (sh : Shape) → result ≡ is_worn current sh (store_in current nodes.now) }
 {
-    let floor = nodes[Hall::FLOOR_OFFSET];
-    let highest = nodes_in(nodes)
-        .iter()
-        .fold(floor, |high, node| high.max(node[Hall::REVISION_OFFSET]));
-    Hall::WORN_ABOVE < highest
+    if Hall::WORN_ABOVE < nodes[Hall::FLOOR_OFFSET] {
+        return true;
+    }
+    nodes_in(nodes).chunks(BLOCK).any(some_high)
 }
 
 // Takes every node out; the floor is 1.

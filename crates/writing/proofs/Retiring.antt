@@ -18,7 +18,7 @@ use Rattle.query.specs.Query.{Query, write_node, write_count}
 use Rattle.query.specs.Shape.{max_columns}
 use Rattle.query.proofs.NodeLists.{write_count_most, write_nodes_differ}
 use Rattle.query.proofs.EncodingLaws.{columns_length, label_words_injective}
-use Rattle.rules.specs.Layout.{max_revision, look_room}
+use Rattle.rules.specs.Layout.{max_nodes, max_revision, look_room}
 use Rattle.rules.specs.Nodes.{Words, Store, pending, revision, node_place, is_present, node_of, is_pending}
 use Rattle.rules.specs.Nodes.{released, lifted, may_retire, retired}
 use Rattle.rules.specs.Memory.{current, store_in, with_store}
@@ -244,6 +244,15 @@ may_there lift p s h =
       marked = ltb-true 0 n (and_right x (ltb 0 n) a);
       room = λ e. ltb-true (revision (node_at i s)) (max_revision current) (rw e at (and_right (x && ltb 0 n) (not lift || r) h));
     }
+
+-- .. and 16 bits hold the place that a search gives
+pub place_small : (lift : Bool) (p : Words) (s : List ℕ) → Fit s → (r : Result ℕ Refusal) → r ≡ retirable_place lift p (store_in current s) → (i : ℕ) → r ≡ Ok i → i < max_nodes
+place_small lift p s fit r e i h =
+    let t = place_there lift p (store_in current s) r e i h in
+    let b = (may_there lift p (store_in current s) t.0).below in
+    let n = count_nodes s in
+    let f = fit.few in
+    omega arith
 
 by_places : (lift : Bool) (ps : List Words) (s : Store) → is_found (retired current lift ps s) ≡ true
     → CanTakeOff lift (places_of ps s) s × (retired current lift ps s ≡ some (taken_off lift (places_of ps s) s))

@@ -1,10 +1,18 @@
--- `nodes::is_worn` meets its contract: the highest of the floor and the nodes' revisions decides. Assumes nothing.
-use Rattle.std.proofs.Common.{◌≡◌, rules, get_or, fold, max}
+-- `nodes::is_worn` meets its contract: the floor decides, and else whether some block of the nodes has one that is too high. Assumes nothing.
+use Rattle.std.proofs.Common.{◌∙◌, rules, tests}
+use Rattle.std.specs.List.{list_any}
+use Rattle.std.proofs.lemmas.Iterator.Search.{any_from_yields_List}
+use Rattle.rules.specs.Nodes.{is_high}
 use Rattle.rules.specs.Memory.{current, store_in}
-use Rattle.nodes.proofs.NodeScans.{worn_highest}
+use Rattle.nodes.proofs.NodeBlocks.{YieldsList-from_blocks, any_blocks}
+use Rattle.nodes.proofs.NodeScans.{worn_floor, worn_nodes}
 use Rattle.nodes.proofs.is_worn.Goals as goal
+
+pub returns-then-nodes-gt-WORN_ABOVE : goal.returns-then-nodes-gt-WORN_ABOVE
+returns-then-nodes-gt-WORN_ABOVE c = λ sh. worn_floor sh c.args.nodes.now (search rules)
 
 pub returns : goal.returns
 returns c = λ sh.
-    let e : c.fold-highest.result ≡ fold (λ h n. max h (get_or n 6 0)) (get_or c.args.nodes.now 0 0) (store_in current c.args.nodes.now).nodes = search rules in
-    worn_highest sh _ _ e
+    any_from_yields_List (list_any (is_high current sh)) _ _ _ c.any.ensures.ran (YieldsList-from_blocks (store_in current c.args.nodes.now).nodes (cc) (cc)) (λ x b q k. search (rules, tests))
+    ∙ any_blocks (is_high current sh) (store_in current c.args.nodes.now).nodes
+    ∙ worn_nodes sh c.args.nodes.now (search rules)
