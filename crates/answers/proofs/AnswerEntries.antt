@@ -141,8 +141,8 @@ module _ (s : List ℕ) (fit : Fit s) where
 
   -- where one is out, or fewer are kept than may be, one more has room
   module _ (t : List ℕ) where
-    pub room_behind : (i : ℕ) → i < get_or s answer_count_offset 0 → t ≡ with_answers current s (without i (answers_in current s)) → Fit t × (get_or t answer_count_offset 0 < max_answers)
-    room_behind i h e =
+    pub room_behind : (i : ℕ) → t ≡ with_answers current s (without i (answers_in current s)) → i < get_or s answer_count_offset 0 → Fit t × (get_or t answer_count_offset 0 < max_answers)
+    room_behind i e h =
         let k = fit.few in
         let l = count_is s in
         let w = length_without i (answers_in current s) (omega arith) in

@@ -17,8 +17,8 @@ pub append-requires : goal.append-requires
 append-requires c =
     let room : Fit c.match-fetch.answers × (get_or c.match-fetch.answers answer_count_offset 0 < max_answers) =
     elim c.match-fetch.branch [
-      | in-Some w ↦ let f = fetched_some 0 c.args.entry.now (answers_in current c.args.answers.now) w.in-Some.i (sym w.in-Some.ensures) in room_behind _ c.requires.0 _ _ (omega (arith, count_is c.args.answers.now)) (w.answers-is ∙ w.evict.ensures)
-      | in-None w ↦ room_behind _ c.requires.0 _ 0 (omega (arith, w.if-answers-eq-ANSWERS.true)) (w.answers-is ∙ w.evict-in-None.ensures)
+      | in-Some w ↦ let f = fetched_some 0 c.args.entry.now (answers_in current c.args.answers.now) w.in-Some.i (sym w.in-Some.ensures) in room_behind _ c.requires.0 _ _ (w.answers-is ∙ w.evict.ensures) (omega (arith, count_is c.args.answers.now))
+      | in-None w ↦ room_behind _ c.requires.0 _ _ (w.answers-is ∙ w.evict-in-None.ensures) (omega (arith, w.if-answers-eq-ANSWERS.true))
       | in-None+else-answers-eq-ANSWERS w ↦ room_there _ c.requires.0 _ w.if-answers-eq-ANSWERS.false w.answers-is
     ] in
     (room.0, (c.requires.1, room.1))
