@@ -5,9 +5,10 @@ use mathlib.Core.Bool.{Bool, true, false, not}
 use mathlib.Core.List.{List, [], ◌∷◌, ◌++◌, append_assoc, append-nil}
 use Prim.Native.Nat.{ℕ, ◌+◌, ◌*◌, ◌-◌, ◌≤◌, ◌<◌}
 use native.Mathlib.Nat.{add-zero, add_comm, zero-mul, mul-le-mul_right}
+use native.Mathlib.Numerals.{add-one}
 use native.Mathlib.Omega.{arith}
 use lib.ListN.{length, get_or, take, drop, set, replicate, length-append, length-drop, length-replicate}
-use lib.Seq.{drop-drop, length-take-le}
+use lib.Seq.{drop-drop, length-take-le, take-length, paste, paste-zero, paste-suc}
 use borrow.Rule.Slice.PartMut.{put_mid}
 use Rattle.lists.specs.Lists.{written, flat, keep, with_entries}
 use Rattle.laws.proofs.ListLaws.{keep_next, skip_next, keep_end}
@@ -27,6 +28,18 @@ use Rattle.rules.specs.Layout.{record_count_offset}
 -- a record that stands where it is to stand
 pub settled : (s : List ℕ) (from to k : ℕ) → to ≡ from → from + k ≤ length s → s ≡ written s to (take k (drop from s))
 settled s from to k e h = rw e (sym (written_self s from k h))
+
+-- of v, which is to stand at `to`, the first i numbers stand there
+pub settle_none : (s v : List ℕ) (to : ℕ) → s ≡ paste s to v 0
+settle_none s v to = paste-zero s to v
+
+module _ (s₀ s v : List ℕ) (to i : ℕ) (e : s ≡ paste s₀ to v i) where
+  pub settle_more : to + i < length s₀ → i < length v → set s (to + i) (get_or v i 0) ≡ paste s₀ to v (i + 1)
+  settle_more h g = rw (e, add-one) (paste-suc s₀ to v i 0 h g)
+
+  pub settle_all : i ≡ length v → s ≡ written s₀ to v
+  unfolding written
+  settle_all z = rw (e, z, take-length)
 
 -- where the loop stands: of the first i records of t those that stay, j of them, lie at the front; from record i on nothing has changed
 pub record Deleting (p : Record → Bool) (t : Table) (k : ℕ) (s₀ s : List ℕ) (i j : ℕ) : Type 0 where

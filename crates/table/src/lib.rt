@@ -140,8 +140,8 @@ pub fn insert(table: &mut [u32], rec: &[u32]) -> Inserted
     Inserted::Added
 }
 
-// Copies a record of K columns to where it is to stand; while nothing has gone it stands there. It is read whole and then written, so that nothing asks
-// which of its numbers goes first.
+// Copies a record of K columns to where it is to stand; while nothing has gone it stands there. It is read whole before any of it is written: so nothing
+// has to be asked of the two places, and its numbers go together.
 #[tactic(auto, using(crate::proofs::Deleting::settled))]
 fn settle<const K: usize>(table: &mut [u32], from: usize, to: usize)
     requires { (to ≤ from) × (from + K ≤ length table.old) }
@@ -150,7 +150,9 @@ fn settle<const K: usize>(table: &mut [u32], from: usize, to: usize)
     if to != from {
         let mut rec = [0u32; K];
         rec.copy_from_slice(&table[from..from + K]);
-        words::write(table, to, &rec);
+        for i in 0..K {
+            table[to + i] = rec[i];
+        }
     }
 }
 
