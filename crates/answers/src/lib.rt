@@ -73,7 +73,8 @@ fn may_serve(e: &[u32; Hall::ENTRY_WIDTH], x: &[u32], n: usize) -> bool
 }
 
 // The place of the first entry that may be answered with. With n = 0 no revision is compared: it is the search by the key alone, for the answer
-// to the same query, wanting and range.
+// to the same query, wanting and range. Not inlined: beside what its callers go on with, the loop would carry more for each entry.
+#[inline(never)]
 #[tactic(auto, unfolding(crate::specs::AnswerContracts::fetched))]
 pub fn fetch(answers: &[u32], entry: &[u32], n: usize) -> Option<usize>
     requires { Fit answers.now × ((length entry.now ≡ entry_width) × (n ≤ look_room)) }

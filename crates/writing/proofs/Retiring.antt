@@ -18,7 +18,7 @@ use Rattle.query.specs.Query.{Query, write_node, write_count}
 use Rattle.query.specs.Shape.{max_columns}
 use Rattle.query.proofs.NodeLists.{write_count_most, write_nodes_differ}
 use Rattle.query.proofs.EncodingLaws.{columns_length, label_words_injective}
-use Rattle.rules.specs.Layout.{max_nodes, max_revision, look_room}
+use Rattle.rules.specs.Layout.{max_revision, look_room}
 use Rattle.rules.specs.Nodes.{Words, Store, pending, revision, node_place, is_present, node_of, is_pending}
 use Rattle.rules.specs.Nodes.{released, lifted, may_retire, retired}
 use Rattle.rules.specs.Memory.{current, store_in, with_store}
@@ -245,15 +245,6 @@ may_there lift p s h =
       room = λ e. ltb-true (revision (node_at i s)) (max_revision current) (rw e at (and_right (x && ltb 0 n) (not lift || r) h));
     }
 
--- .. and 16 bits hold the place that a search gives
-pub place_small : (lift : Bool) (p : Words) (s : List ℕ) → Fit s → (r : Result ℕ Refusal) → r ≡ retirable_place lift p (store_in current s) → (i : ℕ) → r ≡ Ok i → i < max_nodes
-place_small lift p s fit r e i h =
-    let t = place_there lift p (store_in current s) r e i h in
-    let b = (may_there lift p (store_in current s) t.0).below in
-    let n = count_nodes s in
-    let f = fit.few in
-    omega arith
-
 by_places : (lift : Bool) (ps : List Words) (s : Store) → is_found (retired current lift ps s) ≡ true
     → CanTakeOff lift (places_of ps s) s × (retired current lift ps s ≡ some (taken_off lift (places_of ps s) s))
 unfolding places_of taken_off CanTakeOff retired
@@ -280,6 +271,11 @@ module _
   took_off u f =
       ap (attempt (Ok tt)) (f ∙ ap (λ (m : List ℕ). with_store current s (taken_off lift m (store_in current s))) e)
       ∙ ap (tried s) (sym (by_places lift ps (store_in current s) o).1)
+
+-- where there is no node nothing is to be taken off
+pub took_nothing : (lift : Bool) (q : Query) (i n : ℕ) (s : List ℕ) → Fit s → n ≡ 0 → attempt (Ok tt) s ≡ tried s (retired current lift (labels_from q i n) (store_in current s))
+unfolding labels_from listed retired telling
+took_nothing lift q i n s f h = rw h (ap (attempt (Ok tt)) (sym (store_self s f)))
 
 pub took_none : (s : List ℕ) (o : Option Store) (e : Refusal) → false ≡ is_found o → e ≡ Unsound → (r : Result (Unit {0}) Refusal) → r ≡ Err e
     → attempt r s ≡ tried s o

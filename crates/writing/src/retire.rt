@@ -14,8 +14,7 @@ ghost use Rattle.writing.specs.WriteContracts.{labels_from, is_found, places_of,
 use columns::marked::Marked;
 use hall::{Hall, Refusal};
 
-// Where the write's n nodes from number `from` on stand, if a mark can be taken off each of them; behind the n places there are zeros. There are at
-// most 1,024 nodes, so 16 bits hold a place: what is handed on is four times smaller.
+// Where the write's n nodes from number `from` on stand, if a mark can be taken off each of them; behind the n places there are zeros.
 #[tactic(auto, using(crate::proofs::Retiring::few_nodes))]
 pub fn can_retire(
     nodes: &[u32],
@@ -23,7 +22,7 @@ pub fn can_retire(
     from: usize,
     n: usize,
     lift: bool,
-) -> Result<[u16; Hall::LOOKS], Refusal>
+) -> Result<[usize; Hall::LOOKS], Refusal>
     requires fit { Fit nodes.now }
     requires within { from + n ≤ write_count (marked_query query.now) }
     ensures found { is_ok result ≡ is_found (retired current lift (labels_from (marked_query query.now) from n) (store_in current nodes.now)) }
@@ -34,20 +33,19 @@ pub fn can_retire(
     // By numbers: a proof knows nothing of what is written by way of an adapter of `iter_mut`.
     for j in 0..n {
         let label = query.write_label(from + j);
-        let i = nodes::find_retirable(nodes, &label, lift)?;
-        places[j] = i as u16;
+        places[j] = nodes::find_retirable(nodes, &label, lift)?;
     }
     Ok(places)
 }
 
 // Takes a mark off the node at each place.
-fn take_off(nodes: &mut [u32], places: &[u16], lift: bool)
+fn take_off(nodes: &mut [u32], places: &[usize], lift: bool)
     requires fit { Fit nodes.old }
     requires can_take_off { CanTakeOff lift places.now (store_in current nodes.old) }
     ensures { nodes.new ≡ with_store current nodes.old (taken_off lift places.now (store_in current nodes.old)) }
 {
     for place in places {
-        nodes::retire(nodes, *place as usize, lift);
+        nodes::retire(nodes, *place, lift);
     }
 }
 
@@ -65,6 +63,10 @@ pub fn retire(
     requires within { from + n ≤ write_count (marked_query query.now) }
     ensures { attempt result nodes.new ≡ tried nodes.old (retired current lift (labels_from (marked_query query.now) from n) (store_in current nodes.old)) }
 {
+    // Many a write is abandoned before its first mark.
+    if n == 0 {
+        return Ok(());
+    }
     let places = can_retire(nodes, query, from, n, lift)?;
     take_off(nodes, &places[..n], lift);
     Ok(())

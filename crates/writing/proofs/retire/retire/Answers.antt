@@ -1,8 +1,11 @@
 -- `writing::retire::retire` meets its contract: the places that the test gave are those of the write's nodes. Assumes nothing.
 use Rattle.std.proofs.Common.{sym, arith, rules}
 use Rattle.std.proofs.lemmas.List.{length-take-le}
-use Rattle.writing.proofs.Retiring.{few_nodes, can_take_off, took_off, took_none}
+use Rattle.writing.proofs.Retiring.{few_nodes, can_take_off, took_off, took_nothing, took_none}
 use Rattle.writing.proofs.retire.retire.Goals as goal
+
+pub returns-then-n-eq0 : goal.returns-then-n-eq0
+returns-then-n-eq0 c = took_nothing _ _ _ _ _ c.requires.fit c.if-n-eq0.true
 
 pub returns-in_err-places : goal.returns-in_err-places
 returns-in_err-places c =
