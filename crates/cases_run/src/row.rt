@@ -1,5 +1,5 @@
 // A row of a part: what is done or looked at, and what is expected; and how it is read from the part's text. Leans on came and terms.
-ghost use Rattle.std.specs.Prelude.{◌<◌};
+ghost use Rattle.std.specs.Prelude.{◌<◌, IfSome};
 
 use crate::came::{Came, End};
 use crate::terms::Terms;
@@ -28,7 +28,7 @@ pub enum Begin {
 
 // How many steps a row makes.
 #[derive(Clone, Copy)]
-pub struct Steps {
+pub struct StepCount {
     number: u32,
     ghost few: { number < 16 },
 }
@@ -44,17 +44,17 @@ pub enum Act {
         begin: Begin,
         desk: u32,
         query: Terms,
-        steps: Steps,
+        steps: StepCount,
     },
     Step {
         desk: u32,
-        steps: Steps,
+        steps: StepCount,
         short: bool,
     },
     // An insert of each value below one.
     Fill {
         below: u32,
-        steps: Steps,
+        steps: StepCount,
     },
     // A call with no query and no steps.
     Once(Call),
@@ -99,14 +99,20 @@ fn bracketed(word: &str) -> Option<u32> {
     word.strip_prefix('(')?.strip_suffix(')')?.parse().ok()
 }
 
-impl Steps {
-    // Behind a plus; 0 where the text ends before. Of a larger number what sixteens leave.
-    fn read(words: &mut Words<'_>) -> Option<Steps> {
-        let number = match words.next() {
-            Some(word) => word.strip_prefix('+')?.parse::<u32>().ok()? % 16,
-            None => 0,
-        };
-        Some(Steps { number })
+// Behind a plus; 0 where the text ends before. Of 16 or more, what is left by sixteens.
+fn steps(words: &mut Words<'_>) -> Option<u32>
+    ensures { IfSome result (λ n. n < 16) }
+{
+    match words.next() {
+        Some(word) => Some(word.strip_prefix('+')?.parse::<u32>().ok()? % 16),
+        None => Some(0),
+    }
+}
+
+impl StepCount {
+    fn read(words: &mut Words<'_>) -> Option<StepCount> {
+        let number = steps(words)?;
+        Some(StepCount { number })
     }
 
     pub fn number(&self) -> u32
@@ -160,7 +166,7 @@ impl Act {
                 begin,
                 desk: place(words.next()?)?,
                 query: Terms::read(words.next()?)?,
-                steps: Steps::read(words)?,
+                steps: StepCount::read(words)?,
             });
         }
         if let Some(memory) = Memory::named(first) {
@@ -180,12 +186,12 @@ impl Act {
             },
             "step" | "Step" => Act::Step {
                 desk: place(words.next()?)?,
-                steps: Steps::read(words)?,
+                steps: StepCount::read(words)?,
                 short: first == "Step",
             },
             "fill" => Act::Fill {
                 below: bracketed(words.next()?)?,
-                steps: Steps::read(words)?,
+                steps: StepCount::read(words)?,
             },
             "abandon" => Act::Once(Call::Abandon {
                 client: place(words.next()?)?,
