@@ -5,7 +5,6 @@
 
 use lent::Lent;
 use row::Row;
-use std::io;
 
 mod came; // came.rt: what comes of a row
 mod lent; // lent.rt: the memories that the calls are lent
@@ -14,29 +13,37 @@ mod play; // play.rt: plays a row
 mod row; // row.rt: a row, read from its text
 mod terms; // terms.rt: the columns of a query or a label
 
-// Plays a part's rows; whether all of them came as expected.
-fn run_part(rt: &impl Print, lent: &mut Lent, part: &str) -> io::Result<bool> {
-    lent.make_noise();
-    print!(rt; "{part}; came:")?;
-    let (_, rows) = part.split_once(": ").ok_or(io::ErrorKind::InvalidData)?;
-    let mut met = true;
-    for text in rows.split("; ") {
-        let row = Row::read(text).ok_or(io::ErrorKind::InvalidData)?;
-        let came = play::play(lent, &row);
-        print!(rt; " {came};")?;
-        met = met && came == row.expected;
-    }
-    println!(rt; " {}", if met { "ok" } else { "DIFFERENT" })?;
-    Ok(met)
+// Plays a row; whether it came as expected, which a text that is no row does not.
+fn run_row(rt: &impl Print, lent: &mut Lent, text: &str) -> bool {
+    let Some(row) = Row::read(text) else {
+        return false;
+    };
+    let came = play::play(lent, &row);
+    let _ = print!(rt; " {came};");
+    came == row.expected
 }
 
-fn main(rt: HostRuntime) -> io::Result<()> {
+// Plays a part's rows; whether all of them came as expected. What cannot be written is left out, here and above: the rows are played all the same.
+fn run_part(rt: &impl Print, lent: &mut Lent, part: &str) -> bool {
+    lent.make_noise();
+    let _ = print!(rt; "{part}; came:");
+    let rows = part.split_once(": ").map_or("", |(_, rows)| rows);
+    let mut met = true;
+    for text in rows.split("; ") {
+        let came = run_row(rt, lent, text);
+        met = met && came;
+    }
+    let _ = println!(rt; " {}", if met { "ok" } else { "DIFFERENT" });
+    met
+}
+
+fn main(rt: HostRuntime) {
     let mut lent = Lent::new();
     let mut expected = 0u32;
     let mut met = 0u32;
     for part in parts::THEMES.iter().copied().flatten() {
         expected = expected.saturating_add(1);
-        met = met.saturating_add(u32::from(run_part(&rt, &mut lent, part)?));
+        met = met.saturating_add(u32::from(run_part(&rt, &mut lent, part)));
     }
-    println!(rt; "all: expected {expected}, met {met}")
+    let _ = println!(rt; "all: expected {expected}, met {met}");
 }

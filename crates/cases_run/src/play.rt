@@ -74,10 +74,10 @@ pub fn play(lent: &mut Lent, row: &Row) -> Came {
         } => {
             let call = call_of(kind, desk, lent.range());
             let (numbers, length) = query.numbers();
-            begin(lent, call, desk, &numbers[..length], steps)
+            begin(lent, call, desk, &numbers[..length], steps.number())
         }
-        Act::Step { desk, steps, short } => step(lent, desk, steps, short),
-        Act::Fill { below, steps } => fill(lent, below, steps, row.expected),
+        Act::Step { desk, steps, short } => step(lent, desk, steps.number(), short),
+        Act::Fill { below, steps } => fill(lent, below, steps.number(), row.expected),
         Act::Once(call) => Came::Ended {
             steps: 0,
             end: lent.run(call, &[], false),

@@ -1,4 +1,6 @@
 // A row of a part: what is done or looked at, and what is expected; and how it is read from the part's text. Leans on came and terms.
+ghost use Rattle.std.specs.Prelude.{◌<◌, IfSome};
+
 use crate::came::{Came, End};
 use crate::terms::Terms;
 use calls::Call;
@@ -24,6 +26,13 @@ pub enum Begin {
     Delete,
 }
 
+// How many steps a row makes.
+#[derive(Clone, Copy)]
+pub struct StepCount {
+    number: u32,
+    ghost few: { number < 16 },
+}
+
 // What is done or looked at. Where short is set, one number below the least length is lent: of the table at an opening, of the tray at a step.
 #[derive(Clone, Copy)]
 pub enum Act {
@@ -35,17 +44,17 @@ pub enum Act {
         begin: Begin,
         desk: u32,
         query: Terms,
-        steps: u32,
+        steps: StepCount,
     },
     Step {
         desk: u32,
-        steps: u32,
+        steps: StepCount,
         short: bool,
     },
     // An insert of each value below one.
     Fill {
         below: u32,
-        steps: u32,
+        steps: StepCount,
     },
     // A call with no query and no steps.
     Once(Call),
@@ -90,11 +99,26 @@ fn bracketed(word: &str) -> Option<u32> {
     word.strip_prefix('(')?.strip_suffix(')')?.parse().ok()
 }
 
-// Behind a plus; 0 where the text ends before.
-fn steps(words: &mut Words<'_>) -> Option<u32> {
+// Behind a plus; 0 where the text ends before. Of 16 or more, what is left by sixteens.
+fn steps(words: &mut Words<'_>) -> Option<u32>
+    ensures { IfSome result (λ n. n < 16) }
+{
     match words.next() {
-        Some(word) => word.strip_prefix('+')?.parse().ok(),
+        Some(word) => Some(word.strip_prefix('+')?.parse::<u32>().ok()? % 16),
         None => Some(0),
+    }
+}
+
+impl StepCount {
+    fn read(words: &mut Words<'_>) -> Option<StepCount> {
+        let number = steps(words)?;
+        Some(StepCount { number })
+    }
+
+    pub fn number(&self) -> u32
+        ensures { result < 16 }
+    {
+        self.number
     }
 }
 
@@ -142,7 +166,7 @@ impl Act {
                 begin,
                 desk: place(words.next()?)?,
                 query: Terms::read(words.next()?)?,
-                steps: steps(words)?,
+                steps: StepCount::read(words)?,
             });
         }
         if let Some(memory) = Memory::named(first) {
@@ -162,12 +186,12 @@ impl Act {
             },
             "step" | "Step" => Act::Step {
                 desk: place(words.next()?)?,
-                steps: steps(words)?,
+                steps: StepCount::read(words)?,
                 short: first == "Step",
             },
             "fill" => Act::Fill {
                 below: bracketed(words.next()?)?,
-                steps: steps(words)?,
+                steps: StepCount::read(words)?,
             },
             "abandon" => Act::Once(Call::Abandon {
                 client: place(words.next()?)?,
@@ -197,9 +221,13 @@ impl Act {
         })
     }
 
-    fn steps(&self) -> u32 {
+    fn steps(&self) -> u32
+        ensures { result < 16 }
+    {
         match self {
-            Act::Begin { steps, .. } | Act::Step { steps, .. } | Act::Fill { steps, .. } => *steps,
+            Act::Begin { steps, .. } | Act::Step { steps, .. } | Act::Fill { steps, .. } => {
+                steps.number()
+            }
             _ => 0,
         }
     }
