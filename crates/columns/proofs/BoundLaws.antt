@@ -1,7 +1,7 @@
 -- Laws of the record test with a range: a number's test by shift and limit is that it lies from the lowest to the highest; so shifts and limits
 -- of a query that names no 0 test what the query tests, and with a range laid over a wildcard, the range too, if it has a number above 0. What has
 -- not is told first (`finds_none`). Leans on the library's bits and on MaskLaws and ColumnLoops. Assumes nothing.
-use Rattle.std.proofs.Common.{◌≡◌, ℕ, zero, suc, ◌+◌, ◌-◌, ◌*◌, ◌%◌, ◌<◌, ◌≤◌, Bool, true, false, ◌&&◌, ◌||◌, eqb, ltb, leb, List, [], ◌∷◌, ◌++◌, map, length, get_or, take, drop, set, replicate, sym, refl, ap, ◌∙◌, true≢false, add-one, arith, length-set, drop_of_length-le, drop-cons, take_at, drop_at, ltb-false, ltb-true, eq-eqb, eqb-true, le-leb, leb-true}
+use Rattle.std.proofs.Common.{◌≡◌, ℕ, zero, suc, ◌+◌, ◌-◌, ◌*◌, ◌%◌, ◌<◌, ◌≤◌, Bool, true, false, ◌&&◌, ◌||◌, eqb, ltb, leb, List, [], ◌∷◌, ◌++◌, map, length, get_or, take, drop, set, replicate, sym, refl, ap, ◌∙◌, true≢false, add-one, arith, length-append, length-set, drop_of_length-le, drop-cons, take_at, drop_at, ltb-false, ltb-true, eq-eqb, eqb-true, le-leb, leb-true}
 use mathlib.Core.Bool.{and-true, and_comm}
 use lib.Bits.{bit_xor, xor_block, xor_shifted, xor_comm, xor_self, xor_zero_r}
 use Rattle.std.specs.List.{list_any}
@@ -196,6 +196,12 @@ pub bounds_words : (q : Query) (c low high : ℕ) → (bounds_of q c low high).s
 unfolding bound_words bounds_of
 bounds_words q c low high = refl
 
+pub bounds_long : (q : Query) (c low high : ℕ) → length q ≤ 4 → length (bound_words q c low high) ≡ 8
+unfolding bound_words
+bounds_long q c low high h =
+    let first : ℕ = first_of low in
+    rw (length-append, length-set (shifts_of q) c (shift_of first), length-set (limits_of q) c (limit_of (high - first)), length_shifts q h, length_limits q h)
+
 pub shifts_long : (q : Query) (c low high : ℕ) → length q ≤ 4 → length (bounds_of q c low high).shifts ≡ 4
 unfolding bounds_of
 shifts_long q c low high h = length-set (shifts_of q) c (shift_of (first_of low)) ∙ length_shifts q h
@@ -213,6 +219,11 @@ unfolding bounded
 bounded_end ss ls rec i f h = rw (drop_of_length-le rec h) (and-true f)
 
 -- ---- What makes them
+-- the shift is the one 32-bit number that takes the lowest to the highest bit
+pub shift_is : (low r : ℕ) → low < 4294967296 → r < 4294967296 → (r + low) % 4294967296 ≡ sign_bit → r ≡ shift_of low
+unfolding shift_of
+shift_is low r h g e = omega arith
+
 -- the first i values of a query are 32-bit numbers, and one more
 pub words_more : (q : Query) (i v : ℕ) (w : Column) → NamesWords i q → v ≡ column_value (get_or q i w) → v < 4294967296 → i < length q → NamesWords (i + 1) q
 words_more q i v w n e h l j m = by_test (ltb j i)

@@ -43,6 +43,15 @@ marks_in (suc k) m vs h =
     let l : m / 2 < 2 ^ k = omega (arith, pow-succ' 2 k) in
     rw (marks_cons, column_mark (m % 2) (get_or vs 0 0) (omega arith), marks_in k (m / 2) (drop 1 vs) l) (omega arith)
 
+-- marks past the columns say nothing
+pub columns_cut : (k m : ℕ) (vs : List ℕ) → columns_in k (m % 2 ^ k) vs ≡ columns_in k m vs
+unfolding columns_in
+columns_cut zero m vs = refl
+columns_cut (suc k) m vs =
+    let a : m % 2 ^ suc k % 2 ≡ m % 2 = omega (arith, low_half m k) in
+    let b : m % 2 ^ suc k / 2 ≡ m / 2 % 2 ^ k = omega (arith, low_half m k) in
+    rw (a, b, columns_cut k (m / 2) (drop 1 vs))
+
 -- ---- How many columns they name
 named_cons : (c : Column) (q : Query) → named (c ∷ q) ≡ mark_of c + named q
 unfolding named mark_of

@@ -112,6 +112,12 @@ module _ (ms vs : List ℕ) (m : Masked ms vs) where
   masks_long : length ms ≡ 4
   masks_long = ap length m.masks_are ∙ length-map (four m.query) mask_of ∙ length_four m.query m.few
 
+  pub masked_long : length (ms ++ vs) ≡ 8
+  unfolding mask_words
+  masked_long =
+      let n : length (four m.query) ≡ 4 = length_four m.query m.few in
+      ap length m.words ∙ rw (length-append, length-map (four m.query) mask_of, length-map (four m.query) sought_of, n)
+
   -- the columns are those that the numbers were made of, four with the wildcards
   under : columns_under ms vs ≡ four m.query
   under =

@@ -1,7 +1,7 @@
 -- Laws of a pass over records that stand one after another: what is kept of the records passed, and of one more; and of a pass over blocks of
 -- records, what a block adds. Leans on the laws of lists and Rows. Assumes nothing.
-use Rattle.std.proofs.Common.{◌≡◌, ℕ, suc, ◌+◌, ◌-◌, ◌*◌, ◌/◌, ◌<◌, ◌≤◌, min, Bool, true, false, cond, ◌||◌, List, [], ◌∷◌, ◌++◌, map, length, get_or, take, drop, Bor, sym, refl, ap, ◌∙◌, add-zero, add-one, append_assoc, append-nil, arith, length-append, length-drop, length-take-le, take-append-drop, take_all, drop-cons, drop_of_length-le}
-use Rattle.std.proofs.Math.Nat.{mul-div_cancel, mul-add-div_right, div-mul-le_self, zero-div, mul-le-mul_left, zero-mul, one-mul, add-mul, mul_assoc}
+use Rattle.std.proofs.Common.{◌≡◌, ℕ, zero, suc, ◌+◌, ◌-◌, ◌*◌, ◌/◌, ◌%◌, ◌<◌, ◌≤◌, min, Bool, true, false, cond, ◌||◌, List, [], ◌∷◌, ◌++◌, map, length, get_or, take, drop, Bor, sym, refl, ap, ◌∙◌, add-zero, add-one, zero-add, suc-add, append_assoc, append-nil, arith, length-append, length-drop, length-take-le, take-append-drop, take_all, drop-cons, drop-drop, drop_of_length-le}
+use Rattle.std.proofs.Math.Nat.{mul-div_cancel, mul-add-div_right, div-mul-le_self, zero-div, div-add-mod', mul-le-mul_left, zero-mul, suc-mul, one-mul, add-mul, mul_assoc}
 use Rattle.std.proofs.lemmas.List.{map-append, get_or_default}
 use mathlib.Core.Bool.{or-false, or_assoc}
 use lib.Dec.{leb}
@@ -28,6 +28,17 @@ module _ (k : ℕ) (positive : 0 < k) where
       let n : length (a ++ b) / k ≡ m + length b / k = ap (λ (x : ℕ). x / k) (length-append a b ∙ ap (λ (x : ℕ). x + length b) e) ∙ mul-add-div_right positive m (length b) in
       let w : length a / k ≡ m = ap (λ (x : ℕ). x / k) e ∙ mul-div_cancel m positive in
       rw (n, w) (rows_append k m (length b / k) a b e)
+
+-- the first i of them, and m more
+pub rows_add : (k i m : ℕ) (s : List ℕ) → rows k (i + m) s ≡ rows k i s ++ rows k m (drop (i * k) s)
+unfolding rows
+rows_add k zero m s = rw (zero-add, zero-mul)
+rows_add k (suc i) m s =
+    let e : k + i * k ≡ suc i * k = omega (arith, suc-mul i k) in
+    rw suc-add (ap (λ (t : Table). take k s ∷ t) (rows_add k i m (drop k s) ∙ ap (λ (l : List ℕ). rows k i (drop k s) ++ rows k m l) (drop-drop (i * k) k s ∙ ap (λ (n : ℕ). drop n s) e)))
+
+pub keep_add : (p : Record → Bool) (k i m : ℕ) (s : List ℕ) → keep p (rows k (i + m) s) ≡ keep p (rows k i s) ++ keep p (rows k m (drop (i * k) s))
+keep_add p k i m s = ap (keep p) (rows_add k i m s) ∙ keep_append p (rows k i s) (rows k m (drop (i * k) s))
 
 -- no number, no record
 pub none_of : (k : ℕ) (s : List ℕ) (p : Record → Bool) → length s ≡ 0 → keep p (records_of k s) ≡ []
