@@ -214,7 +214,7 @@ unfolding bounded
 bounded_on ss ls rec i f a b h =
     rw (add-one, drop-cons ss i 0 a, drop-cons ls i 0 b, drop-cons rec i 0 h) (swap f (bounded_by (get_or ss i 0) (get_or ls i 0) (get_or rec i 0)) _)
 
-pub bounded_end : (ss ls rec : List ℕ) (i : ℕ) (f : Bool) → length rec ≤ i → f && bounded (drop i ss) (drop i ls) (drop i rec) ≡ f
+pub bounded_end : (ss ls rec : List ℕ) (i : ℕ) (f : Bool) → length rec ≤ i → f && bounded ss ls (drop i rec) ≡ f
 unfolding bounded
 bounded_end ss ls rec i f h = rw (drop_of_length-le rec h) (and-true f)
 

@@ -17,6 +17,7 @@ use Rattle.query.specs.Encoding.{column_of, column_value, marks, columns_in, que
 use Rattle.query.specs.Range.{is_named, is_range, is_reversed}
 use Rattle.query.specs.Shape.{Shape, shape_of}
 use Rattle.query.proofs.EncodingLaws.{columns_length}
+use Rattle.columns.specs.ColumnContracts.{four}
 use Rattle.columns.specs.KeyContracts.{mark_of, keeps, zero_under}
 use Rattle.columns.proofs.FillLoop.{Filled, next_rest, fill_none, fill_more, fill_at, fill_end, fill_front}
 
@@ -73,8 +74,13 @@ reading_more k m values cols left i col t e h b =
     t.rest ∙ rw (d, get_or-drop i values 0 0, z, drop-drop 1 i values, e) in
     record { within = omega arith; rest = next_rest _ i _ _ f; fill = fill_more 4 Wildcard _ i _ _ _ t.fill f (omega arith) }
 
-pub reading_all : (k m : ℕ) (values : List ℕ) (cols : List Column) (left i : ℕ) → Reading k m values cols left i → k ≤ i → take k cols ≡ columns_in k m values
-reading_all k m values cols left i t h = fill_front 4 Wildcard (columns_in k m values) i cols t.fill k (columns_length k m values) h
+pub reading_all : (k m : ℕ) (values : List ℕ) (cols : List Column) (left i : ℕ) → Reading k m values cols left i → k ≤ i → cols ≡ four (columns_in k m values)
+unfolding four
+reading_all k m values cols left i t h = fill_end 4 Wildcard (columns_in k m values) i cols t.fill (omega (arith, columns_length k m values))
+
+-- and of them the first k
+pub reading_front : (k m : ℕ) (values : List ℕ) (cols : List Column) (left i : ℕ) → Reading k m values cols left i → k ≤ i → take k cols ≡ columns_in k m values
+reading_front k m values cols left i t h = fill_front 4 Wildcard (columns_in k m values) i cols t.fill k (columns_length k m values) h
 
 -- ---- Keys
 -- the values of the first i columns behind the marks

@@ -1,6 +1,6 @@
 -- Laws on the labels of nodes, over plain lists: what the sheet and a node's number say of each column, and a label in five numbers,
 -- made of all columns at once by bits. Leans on KeyLoops and MarkLaws. Assumes nothing.
-use Rattle.std.proofs.Common.{◌≡◌, ℕ, zero, suc, ◌+◌, ◌-◌, ◌*◌, ◌/◌, ◌%◌, ◌^◌, ◌<◌, ◌≤◌, min, List, [], ◌∷◌, ◌++◌, map, length, get_or, drop, replicate, sym, refl, ap, ◌∙◌, mod-lt, arith, pow_pos, lt-ltb}
+use Rattle.std.proofs.Common.{◌≡◌, ℕ, zero, suc, ◌+◌, ◌-◌, ◌*◌, ◌/◌, ◌%◌, ◌^◌, ◌<◌, ◌≤◌, min, List, [], ◌∷◌, ◌++◌, map, length, get_or, drop, replicate, sym, refl, ap, ◌∙◌, mod-lt, mod-eq_of_lt, arith, pow_pos, lt-ltb}
 use native.Mathlib.Nat.{sub-zero, pow-succ', min-le_left}
 use lib.Bits.{bit_and, and_step, and_mask, and_le_l}
 use lib.ListN.{length-map}
@@ -19,7 +19,7 @@ use Rattle.columns.specs.declared.marked.Marked.{Marked}
 use Rattle.columns.specs.MarkedContracts.{marked_query}
 use Rattle.columns.specs.declared.labels.Turned.TheVariants as turned
 use Rattle.columns.proofs.KeyLoops.{ones, marks_most}
-use Rattle.columns.proofs.MarkLaws.{low_half, marks_in, four_at}
+use Rattle.columns.proofs.MarkLaws.{low_half, columns_cut, marks_in, four_at}
 
 -- ---- A write's node: its number's bits say which columns change
 pub write_node_law : (q : Query) (n : ℕ) → write_node q n ≡ changed_node wildcard q n
@@ -90,8 +90,8 @@ unfolding sheet_entry ones
 read_node_law q look h l = rw (looks_count 4 q h, lt-ltb look (read_count q) l) (turned_node 4 q look h)
 
 -- the same in the terms of the code, by marks and values
-pub look_small : (q : Marked) (look : ℕ) → look < read_count (marked_query q) → look < 16
-look_small q look l = let z = q.few in omega (arith, read_count_most (marked_query q) (omega (arith, columns_length q.k q.marks q.values)))
+pub look_small : (k m look : ℕ) (vs : List ℕ) → k ≤ 4 → look < read_count (columns_in k m vs) → look < 16
+look_small k m look vs h l = omega (arith, read_count_most (columns_in k m vs) (omega (arith, columns_length k m vs)))
 
 pub read_words : (q : Marked) (look t : ℕ) (r : List ℕ) → r ≡ label_words (changed_node (turned_term turned.Any) (marked_query q) t) → t ≡ sheet_entry (15 - q.marks) look
     → look < read_count (marked_query q) → r ≡ label_words (read_node (marked_query q) look)
@@ -222,6 +222,10 @@ pub tag_sum : (q : Marked) (to : Turned) (b u d n g w : ℕ) → d ≡ spread 4 
     → u ≡ 2 ^ q.k - 1 → b < 2 ^ q.k → tags (changed_node (turned_term to) (marked_query q) b) + n ≡ 2 * d + g + added to * w
 tag_sum q to b u d n g w ed en eg ew e hb = rw (ed, en, eg, ew, e) (tags_all to 4 q.k q.marks b q.values q.few q.fit hb)
 
+pub spread_most : (r x : ℕ) → r ≡ spread 4 x → r ≤ 16843009
+unfolding spread
+spread_most r x e = omega arith
+
 pub added_most : (to : Turned) (x : ℕ) → added to * x ≤ x
 added_most turned.Wildcard x = omega arith
 added_most turned.Any x = omega arith
@@ -231,20 +235,32 @@ unfolding changed_node
 node_length t [] n = refl
 node_length t (c ∷ q) n = rw (node_length t q (n / 2))
 
-pub label_words_law : (q : Marked) (n u tg : ℕ) (to : Turned) (held : List ℕ) → u ≡ 2 ^ q.k - 1 → tg ≡ tags (changed_node (turned_term to) (marked_query q) (bit_and n u))
+pub label_words_law : (k m n u tg : ℕ) (to : Turned) (vs held : List ℕ) → k ≤ 4 → u ≡ 2 ^ k - 1 → tg ≡ tags (changed_node (turned_term to) (columns_in k (bit_and m u) vs) (bit_and n u))
+    → held ≡ map column_value (columns_in 4 (bit_and m u - bit_and (bit_and m u) (bit_and n u)) vs)
+    → tg ∷ get_or held 0 0 ∷ get_or held 1 0 ∷ get_or held 2 0 ∷ get_or held 3 0 ∷ [] ≡ label_words (changed_node (turned_term to) (columns_in k m vs) n)
+unfolding label_words padded
+label_words_law k m n u tg to vs held h e f g =
+    let t : Term = turned_term to in
+    let x : ℕ = m % 2 ^ k in
+    let y : ℕ = n % 2 ^ k in
+    let lx : x < 2 ^ k = mod-lt m (pow_pos k) in
+    let ly : y < 2 ^ k = mod-lt n (pow_pos k) in
+    let a : bit_and m u ≡ x = rw e (and_mask m k) in
+    let b : bit_and n u ≡ y = rw e (and_mask n k) in
+    let q : changed_node t (columns_in k x vs) y ≡ changed_node t (columns_in k m vs) n =
+    rw (columns_cut k m vs) (node_cut t (columns_in k m vs) k n (columns_length k m vs)) in
+    let l : Label = changed_node t (columns_in k m vs) n in
+    let w : tg ≡ tags l = f ∙ rw (a, b, q) in
+    let v : held ≡ map term_value l ++ replicate (4 - k) 0 =
+    g ∙ rw (a, b) (sym (values_all to 4 k x y vs h lx ly) ∙ ap (λ (z : Label). map term_value z ++ replicate (4 - k) 0) q) in
+    let d : length (map term_value l) ≡ k = length-map l term_value ∙ node_length t (columns_in k m vs) n ∙ columns_length k m vs in
+    let z : length held ≡ 4 = ap length g ∙ length-map (columns_in 4 _ vs) column_value ∙ columns_length 4 _ vs in
+    ap (λ (r : List ℕ). tg ∷ r) (four_at held z) ∙ rw (w, v, d)
+
+-- the same of a query whose marks are none past its columns
+pub marked_label_law : (q : Marked) (n u tg : ℕ) (to : Turned) (held : List ℕ) → u ≡ 2 ^ q.k - 1 → tg ≡ tags (changed_node (turned_term to) (marked_query q) (bit_and n u))
     → held ≡ map column_value (columns_in 4 (q.marks - bit_and q.marks (bit_and n u)) q.values)
     → tg ∷ get_or held 0 0 ∷ get_or held 1 0 ∷ get_or held 2 0 ∷ get_or held 3 0 ∷ [] ≡ label_words (changed_node (turned_term to) (marked_query q) n)
-unfolding label_words padded
-label_words_law q n u tg to held e f g =
-    let y : ℕ = n % 2 ^ q.k in
-    let ly : y < 2 ^ q.k = mod-lt n (pow_pos q.k) in
-    let b : bit_and n u ≡ y = rw e (and_mask n q.k) in
-    let c : changed_node (turned_term to) (marked_query q) y ≡ changed_node (turned_term to) (marked_query q) n =
-    node_cut (turned_term to) (marked_query q) q.k n (columns_length q.k q.marks q.values) in
-    let l : Label = changed_node (turned_term to) (marked_query q) n in
-    let w : tg ≡ tags l = f ∙ rw (b, c) in
-    let v : held ≡ map term_value l ++ replicate (4 - q.k) 0 =
-    g ∙ rw b (sym (values_all to 4 q.k q.marks y q.values q.few q.fit ly) ∙ ap (λ (z : Label). map term_value z ++ replicate (4 - q.k) 0) c) in
-    let d : length (map term_value l) ≡ q.k = length-map l term_value ∙ node_length (turned_term to) (marked_query q) n ∙ columns_length q.k q.marks q.values in
-    let z : length held ≡ 4 = ap length g ∙ length-map (columns_in 4 _ q.values) column_value ∙ columns_length 4 _ q.values in
-    ap (λ (t : List ℕ). tg ∷ t) (four_at held z) ∙ rw (w, v, d)
+marked_label_law q n u tg to held e f g =
+    let a : bit_and q.marks u ≡ q.marks = rw e (and_mask q.marks q.k) ∙ mod-eq_of_lt q.fit in
+    label_words_law q.k q.marks n u tg to q.values held q.few e (rw a f) (rw a g)

@@ -151,10 +151,33 @@ unfolding naming column_value
 values_all [] = refl
 values_all (v ∷ r) = ap (λ (x : Record). v ∷ x) (values_all r)
 
-pub record_words : (k u : ℕ) (vs : List ℕ) → length vs ≡ 4 → u ≡ 2 ^ k - 1 → k ≤ 4
+-- the key of a record as it is made at once
+pub record_key_words : (k u : ℕ) (vs : List ℕ) → length vs ≡ 4 → u ≡ 2 ^ k - 1 → k ≤ 4
     → u ∷ (take k vs ++ drop (1 + k - 1) (replicate 6 0)) ≡ key_words (naming (take k vs))
 unfolding key_words padded
-record_words k u vs l e h =
+record_key_words k u vs l e h =
     let r : length (take k vs) ≡ k = length-take-le k vs (omega arith) in
     let d : 1 + k - 1 ≡ k = omega arith in
     rw (marks_all (take k vs), values_all (take k vs), r, e, d, drop-replicate {X = ℕ} k 6 0)
+
+-- and by the values under its marks
+record_four : (k a b c d : ℕ) → k ≤ 4
+    → let vs : List ℕ = a ∷ b ∷ c ∷ d ∷ [] in
+    let held : List ℕ = map column_value (columns_in 4 (2 ^ k - 1) vs) in
+    (2 ^ k - 1) ∷ get_or held 0 0 ∷ get_or held 1 0 ∷ get_or held 2 0 ∷ get_or held 3 0 ∷ 0 ∷ 0 ∷ [] ≡ key_words (naming (take k vs))
+unfolding columns_in column_of column_value key_words marks naming padded
+record_four zero a b c d h = refl
+record_four (suc zero) a b c d h = refl
+record_four (suc (suc zero)) a b c d h = refl
+record_four (suc (suc (suc zero))) a b c d h = refl
+record_four (suc (suc (suc (suc zero)))) a b c d h = refl
+record_four (suc (suc (suc (suc (suc k))))) a b c d h = absurd (omega arith)
+
+pub record_words : (k u : ℕ) (vs held : List ℕ) → k ≤ 4 → u ≡ 2 ^ k - 1 → length vs ≡ 4 → held ≡ map column_value (columns_in 4 u vs)
+    → u ∷ get_or held 0 0 ∷ get_or held 1 0 ∷ get_or held 2 0 ∷ get_or held 3 0 ∷ 0 ∷ 0 ∷ [] ≡ key_words (naming (take k vs))
+record_words k u [] held h e l f = absurd (omega arith)
+record_words k u (a ∷ []) held h e l f = absurd (omega arith)
+record_words k u (a ∷ b ∷ []) held h e l f = absurd (omega arith)
+record_words k u (a ∷ b ∷ c ∷ []) held h e l f = absurd (omega arith)
+record_words k u (a ∷ b ∷ c ∷ d ∷ []) held h e l f = rw (f, e) (record_four k a b c d h)
+record_words k u (a ∷ b ∷ c ∷ d ∷ g ∷ vs) held h e l f = absurd (omega arith)

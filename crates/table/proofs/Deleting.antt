@@ -53,7 +53,7 @@ pub delete_none : (p : Record → Bool) (t : Table) (k : ℕ) (s : List ℕ) →
 unfolding keep flat
 delete_none p t k s = record { few = omega arith; count = refl; front = rw zero-mul (sym (append-nil (take 8 s))); back = refl; same = refl }
 
-module _ (p : Record → Bool) (t : Table) (k : ℕ) (s₀ s : List ℕ) (i j : ℕ) (a : Deleting p t k s₀ s i j) (h : i < length t) where
+module _ (p : Record → Bool) (t : Table) (k : ℕ) (s₀ s : List ℕ) (i j : ℕ) (a : Deleting p t k s₀ s i j) where
   abbrev from : ℕ
   from = 8 + i * k
 
@@ -70,9 +70,9 @@ module _ (p : Record → Bool) (t : Table) (k : ℕ) (s₀ s : List ℕ) (i j : 
   back_on = rw next (ap (λ (m : ℕ). drop m s) (add_comm k from) ∙ sym (drop-drop k from s) ∙ ap (drop k) a.back ∙ drop-drop k from s₀ ∙ ap (λ (m : ℕ). drop m s₀) (add_comm from k))
 
   -- x: the record that the loop stands at
-  module _ (x : Record) (y : x ≡ get_or t i []) (w : length x ≡ k) (room : from + k ≤ length s₀) (s' : List ℕ) where
-    pub turn_stays : p x ≡ true → s' ≡ written s to x → Deleting p t k s₀ s' (i + 1) (j + 1)
-    turn_stays e o =
+  module _ (h : i < length t) (x : Record) (y : x ≡ get_or t i []) (s' : List ℕ) where
+    pub turn_stays : length x ≡ k → from + k ≤ length s₀ → p x ≡ true → s' ≡ written s to x → Deleting p t k s₀ s' (i + 1) (j + 1)
+    turn_stays w room e o =
         let q : keep p (take (i + 1) t) ≡ keep p (take i t) ++ (x ∷ []) = keep_next p t i [] h (ap p (sym y) ∙ e) ∙ ap (λ (z : Record). keep p (take i t) ++ (z ∷ [])) (sym y) in
         let b = to_from in
         let c = a.same in

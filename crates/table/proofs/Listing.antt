@@ -180,9 +180,9 @@ pub searched_none : (p : Record → Bool) (k : ℕ) (s out : List ℕ) → Stret
 unfolding keep
 searched_none p k s out f = record { t = []; whole = refl; listed = listed_none p k out 0 (omega arith); stretch = f }
 
-module _ (p : Record → Bool) (k : ℕ) (s out₀ out : List ℕ) (j : ℕ) (rest : List ℕ) (a : Searched p k s out₀ out j rest) (room : length out₀ ≡ list_room) where
+module _ (p : Record → Bool) (k : ℕ) (s out₀ out : List ℕ) (j : ℕ) (rest : List ℕ) (a : Searched p k s out₀ out j rest) where
   -- `found` is what is left behind blocks without such a record, and a block ends n numbers on
-  module _ (found : List ℕ) (e : keep p (records_of k found) ≡ keep p (records_of k rest)) (f : Stretch k found) (size n : ℕ) (m : n ≡ min (length found) (size * k))
+  module _ (room : length out₀ ≡ list_room) (found : List ℕ) (e : keep p (records_of k found) ≡ keep p (records_of k rest)) (f : Stretch k found) (size n : ℕ) (m : n ≡ min (length found) (size * k))
       (c : Option ℕ) (out' : List ℕ) (x : c ≡ up_to (j + length (keep p (records_of k (take n found)))))
       (o : out' ≡ written out (j * k) (flat (take (max_list - j) (keep p (records_of k (take n found)))))) where
     abbrev u : Table

@@ -1,7 +1,7 @@
 -- Laws of a pass over records that stand one after another: what is kept of the records passed, and of one more; and of a pass over blocks of
 -- records, what a block adds. Leans on the laws of lists and Rows. Assumes nothing.
-use Rattle.std.proofs.Common.{◌≡◌, ℕ, zero, suc, ◌+◌, ◌-◌, ◌*◌, ◌/◌, ◌%◌, ◌<◌, ◌≤◌, min, Bool, true, false, cond, ◌||◌, List, [], ◌∷◌, ◌++◌, map, length, get_or, take, drop, Bor, sym, refl, ap, ◌∙◌, add-zero, add-one, zero-add, suc-add, append_assoc, append-nil, arith, length-append, length-drop, length-take-le, take-append-drop, take_all, drop-cons, drop-drop, drop_of_length-le}
-use Rattle.std.proofs.Math.Nat.{mul-div_cancel, mul-add-div_right, div-mul-le_self, zero-div, div-add-mod', mul-le-mul_left, zero-mul, suc-mul, one-mul, add-mul, mul_assoc}
+use Rattle.std.proofs.Common.{◌≡◌, ℕ, zero, suc, ◌+◌, ◌-◌, ◌*◌, ◌/◌, ◌<◌, ◌≤◌, min, Bool, true, false, cond, ◌||◌, List, [], ◌∷◌, ◌++◌, map, length, get_or, take, drop, Bor, sym, refl, ap, ◌∙◌, add-zero, add-one, zero-add, suc-add, append_assoc, append-nil, arith, length-append, length-drop, length-take-le, take-append-drop, take_all, drop-cons, drop-drop, drop_of_length-le}
+use Rattle.std.proofs.Math.Nat.{mul-div_cancel, mul-add-div_right, div-mul-le_self, zero-div, mul-le-mul_left, zero-mul, suc-mul, one-mul, add-mul, mul_assoc}
 use Rattle.std.proofs.lemmas.List.{map-append, get_or_default}
 use mathlib.Core.Bool.{or-false, or_assoc}
 use lib.Dec.{leb}

@@ -127,19 +127,20 @@ module _ (q : Query) (range : Range) (c low high : ℕ) (e : range ≡ Between c
   none_written out = rw none_listed (sym (written_nil out 0))
 
 -- ---- with a range: it is on a wildcard, and its ends are in order
-module _ (q : Query) (range : Range) (c low high : ℕ) (e : range ≡ Between c low high) (g : RangeFits (length q) q range) where
-  pub column_in : c < length q
+module _ (k : ℕ) (q : Query) (range : Range) (c low high : ℕ) (e : range ≡ Between c low high) (g : RangeFits k q range) where
+  pub column_in : c < k
   unfolding is_range
-  column_in = ltb-true c (length q) (and_left (ltb c (length q)) _ (rw e at g.there))
+  column_in = ltb-true c k (and_left (ltb c k) _ (rw e at g.there))
 
   column_free : get_or q c Wildcard ≡ Wildcard
   unfolding is_range
-  column_free = not_named _ (and_right (ltb c (length q)) _ (rw e at g.there))
+  column_free = not_named _ (and_right (ltb c k) _ (rw e at g.there))
 
   pub ends_ordered : low ≤ high
   unfolding is_reversed
   ends_ordered = ltb-false high low (rw e at g.ordered)
 
+module _ (q : Query) (range : Range) (c low high : ℕ) (e : range ≡ Between c low high) (g : RangeFits (length q) q range) where
   -- these shifts and limits are the query's and the range's
   pub kept_bounded : (b : Bounds) → b.shifts ++ b.limits ≡ bound_words q c low high → length b.shifts ≡ 4 → (s : List ℕ) → Fit (length q) s → NamesWords (length q) q
       → high < 4294967296 → finds_none q high ≡ false → Words s
@@ -151,7 +152,7 @@ module _ (q : Query) (range : Range) (c low high : ℕ) (e : range ≡ Between c
       let l = lent_long k s f in
       ap (keep (bounded_under b)) (whole_records k f.columns.0 n (lent k s) l)
       ∙ rows_kept (bounded_under b) (λ (r : Record). lies q r && within range r) k n (lent k s)
-      (λ r m fit. bounded_words b _ r w four_long ∙ rw e (bound_test q f.columns.1 r m names fit c low high column_in column_free ends_ordered small some))
+      (λ r m fit. bounded_words b _ r w four_long ∙ rw e (bound_test q f.columns.1 r m names fit c low high (column_in k q range c low high e g) (column_free k q range c low high e g) (ends_ordered k q range c low high e g) small some))
       (omega arith) (take_words (n * k) (drop 8 s) (drop_words 8 s words))
       ∙ keep_both (lies q) (within range) (rows k n (lent k s))
       ∙ ap (λ (t : Table). keep (within range) (keep (lies q) t)) (sym (whole_records k f.columns.0 n (lent k s) l) ∙ lent_records k s f)

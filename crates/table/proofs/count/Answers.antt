@@ -13,10 +13,10 @@ pub returns-then-finds_none : goal.returns-then-finds_none
 returns-then-finds_none c = none_counted _ _ _ _ _ c.in-Between.is (sym c.finds_none.ensures ∙ c.if-finds_none.true) _
 
 pub of-requires-2-clause-on : goal.of-requires-2-clause-on
-of-requires-2-clause-on c = omega (arith, column_in _ _ _ _ _ c.in-Between.is c.requires.1, c.requires.0.columns.1)
+of-requires-2-clause-on c = omega (arith, column_in _ _ _ _ _ _ c.in-Between.is c.requires.1, c.requires.0.columns.1)
 
 pub of-requires-2-clause-ordered : goal.of-requires-2-clause-ordered
-of-requires-2-clause-ordered c = ends_ordered _ _ _ _ _ c.in-Between.is c.requires.1
+of-requires-2-clause-ordered c = ends_ordered _ _ _ _ _ _ c.in-Between.is c.requires.1
 
 pub of-requires-2-clause-above : goal.of-requires-2-clause-above
 of-requires-2-clause-above c = (finds_some _ _ (sym c.finds_none.ensures ∙ c.if-finds_none.false)).1

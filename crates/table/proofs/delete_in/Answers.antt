@@ -21,8 +21,8 @@ loop-i-preserved g c =
     let r = here_room g.row.K s l.table l.i l.j _ f h c.loop-i-test.true in
     rw c.from-j.ensures
     (elim c.if-stays.branch [
-      | then-stays b ↦ rw b.if-stays.true (turn_stays _ _ _ _ _ _ _ h n x y w r _ (t ∙ ap not b.if-stays.true) (b.table-is ∙ b.settle.ensures))
-      | else-stays b ↦ rw b.if-stays.false (turn_goes _ _ _ _ _ _ _ h n x y w r _ (t ∙ ap not b.if-stays.false) b.table-is)
+      | then-stays b ↦ rw b.if-stays.true (turn_stays _ _ _ _ _ _ _ h n x y _ w r (t ∙ ap not b.if-stays.true) (b.table-is ∙ b.settle.ensures))
+      | else-stays b ↦ rw b.if-stays.false (turn_goes _ _ _ _ _ _ _ h n x y _ (t ∙ ap not b.if-stays.false) b.table-is)
     ])
 
 pub returns : goal.returns

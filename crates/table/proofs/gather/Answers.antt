@@ -23,10 +23,10 @@ returns-then-finds_none c =
     record { value = none_gathered _ _ _ _ _ c.in-Between.is n _; out_after = none_written _ _ _ _ _ c.in-Between.is n _ _ }
 
 pub of-requires-2-clause-on : goal.of-requires-2-clause-on
-of-requires-2-clause-on c = omega (arith, column_in _ _ _ _ _ c.in-Between.is c.requires.fit.1, c.requires.fit.0.columns.1)
+of-requires-2-clause-on c = omega (arith, column_in _ _ _ _ _ _ c.in-Between.is c.requires.fit.1, c.requires.fit.0.columns.1)
 
 pub of-requires-2-clause-ordered : goal.of-requires-2-clause-ordered
-of-requires-2-clause-ordered c = ends_ordered _ _ _ _ _ c.in-Between.is c.requires.fit.1
+of-requires-2-clause-ordered c = ends_ordered _ _ _ _ _ _ c.in-Between.is c.requires.fit.1
 
 pub of-requires-2-clause-above : goal.of-requires-2-clause-above
 of-requires-2-clause-above c = (finds_some _ _ (sym c.finds_none.ensures ∙ c.if-finds_none.false)).1

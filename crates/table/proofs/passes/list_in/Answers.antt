@@ -34,5 +34,5 @@ returns-in_err-j g c =
 pub returns : goal.returns
 returns g c =
     let e : length c.loop-rest.rest.now ≡ 0 = search rules in
-    let x = searched_all _ _ _ _ _ _ _ c.loop-rest.invariant c.requires.out_len e in
+    let x = searched_all _ _ _ _ _ _ _ c.loop-rest.invariant e in
     record { value = x.0; out_after = x.1 }

@@ -17,4 +17,4 @@ loop-i-preserved c =
 pub returns : goal.returns
 returns c =
     let b = c.args.self.now in
-    sym (c.loop-i.invariant ∙ bounded_end b.shifts b.limits c.args.rec.now c.loop-i.i c.loop-i.fits c.loop-i-test.false)
+    sym (c.loop-i.invariant ∙ bounded_end _ _ c.args.rec.now c.loop-i.i c.loop-i.fits c.loop-i-test.false)

@@ -8,7 +8,7 @@ pub overflow_sub-stars : goal.overflow_sub-stars
 overflow_sub-stars c = let q = c.args.self.now in omega (arith, marks_below q.k q.marks q.few q.fit)
 
 pub turned-turned-requires : goal.turned-turned-requires
-turned-turned-requires c = (omega arith, look_small c.args.self.now c.args.look c.requires)
+turned-turned-requires c = let q = c.args.self.now in (omega arith, look_small q.k q.marks c.args.look q.values q.few c.requires)
 
 pub returns : goal.returns
 returns c = read_words c.args.self.now c.args.look _ _ c.label.ensures c.turned-turned.ensures c.requires
