@@ -17,8 +17,8 @@ use Rattle.laws.proofs.EntryLaws.{with_append, with_remove, with_none}
 use Rattle.query.specs.Encoding.{counts_in}
 use Rattle.rules.specs.Answers.{Entry, length_in, is_count, list_in, is_long}
 use Rattle.lists.specs.Lists.{header}
-use Rattle.query.specs.Shape.{max_columns}
-use Rattle.rules.specs.Layout.{max_list, answer_count_offset, length_offset, list_room, entry_width, tray_least}
+use Rattle.query.specs.Shape.{shape_of, max_columns}
+use Rattle.rules.specs.Layout.{max_list, answer_count_offset, length_offset, list_offset, list_room, entry_width, tray_least}
 use Rattle.rules.specs.Memory.{current, answers_in, with_answers}
 use Rattle.rules.proofs.ClientLaws.{list_short}
 use Rattle.answers.specs.AnswerContracts.{Fit, Gave}
@@ -74,10 +74,19 @@ pub list_part : (e : Entry) (k : ℕ) → ((vs : List ℕ) → false ≡ counts_
     → get_or e length_offset 0 * k ≡ length (take (get_or e length_offset 0 * k) (take (length e - 24) (drop 24 e)))
 list_part e k h l m w = simp (length-take, length-drop) (omega (arith, plain_fits e k h l m))
 
-pub gave : (k : ℕ) (e tray part : List ℕ) → ((vs : List ℕ) → false ≡ counts_in (get_or e 0 0 ∷ vs)) → is_long e ≡ false → k ≤ max_columns → length e ≡ entry_width
+pub gave : (k : ℕ) (e tray after : List ℕ) → is_count e ≡ false
+    → after ≡ written tray 0 (take (list_offset (shape_of k) + get_or e length_offset 0 * k - list_offset (shape_of k)) (drop (list_offset (shape_of k)) e))
+    → Gave k e tray (get_or e length_offset 0) after
+unfolding length_in list_in
+gave k e tray after c h =
+    let m : list_offset (shape_of k) + get_or e length_offset 0 * k - list_offset (shape_of k) ≡ get_or e length_offset 0 * k = omega arith in
+    record { count = refl; list = rw c (rw m at h) }
+
+-- the same of the part that the code copies
+pub gave_copied : (k : ℕ) (e tray part : List ℕ) → ((vs : List ℕ) → false ≡ counts_in (get_or e 0 0 ∷ vs)) → is_long e ≡ false → k ≤ max_columns → length e ≡ entry_width
     → part ≡ take (get_or e length_offset 0 * k) (take (length e - 24) (drop 24 e)) → Gave k e tray (get_or e length_offset 0) (part ++ drop (get_or e length_offset 0 * k) tray)
 unfolding length_in list_in written
-gave k e tray part c h m w f =
+gave_copied k e tray part c h m w f =
     let n : ℕ = get_or e length_offset 0 * k in
     let b : n ≤ list_room = plain_fits e k c h m in
     let l : length (drop 24 e) ≤ length e - 24 = rw length-drop (omega arith) in

@@ -58,10 +58,10 @@ zip_same [] (y ∷ m) h = absurd (omega arith)
 zip_same (x ∷ l) [] h = absurd (omega arith)
 zip_same (x ∷ l) (y ∷ m) h = ap (λ t. eqb x y && t) (zip_same l m (omega arith))
 
-pub key_is : (e x : Entry) → length e ≡ entry_width → key_width ≤ length x → list_all (λ p. eqb p.0 p.1) (zip (take key_width e) (take key_width x)) ≡ has_key_of x e
+pub key_is : (e x : Entry) → key_width ≤ length e → key_width ≤ length x → list_all (λ p. eqb p.0 p.1) (zip (take key_width e) (take key_width x)) ≡ has_key_of x e
 unfolding has_key_of key_in
 key_is e x h l =
-    let a : length (take key_width e) ≡ key_width = length-take-le key_width e (omega arith) in
+    let a : length (take key_width e) ≡ key_width = length-take-le key_width e h in
     let b : length (take key_width x) ≡ key_width = length-take-le key_width x l in
     zip_same (take key_width e) (take key_width x) (omega arith)
 

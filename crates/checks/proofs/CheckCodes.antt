@@ -9,7 +9,7 @@ use Rattle.rules.specs.Layout.{max_clients, refused_taken, refused_idle}
 use Rattle.rules.specs.Client.{is_idle, is_bad}
 use Rattle.rules.specs.Work.{Request}
 use Rattle.rules.specs.Memory.{Mem, mem}
-use Rattle.rules.specs.Refusals.{shape, client, is_unsound, no_client, at_client}
+use Rattle.rules.specs.Refusals.{form, shape, client, is_unsound, no_client, at_client}
 use Rattle.clients.specs.ClientContracts.{client_code}
 use Rattle.checks.specs.CheckContracts.{fresh_code, desk_code}
 
@@ -30,14 +30,14 @@ begin_found false false false true r = refl
 begin_found false false false false r = refl
 
 module _ (m : Mem) (d : ℕ) (x : Request) where
-  desk_rest : desk_code m d x ≡ cond (eqb (at_client m d) 0) refused_taken (cond (eqb (at_client m d) refused_idle) (fresh_code (shape m) m.nodes x) (at_client m d))
+  desk_rest : desk_code m d x ≡ cond (eqb (at_client m d) 0) refused_taken (cond (eqb (at_client m d) refused_idle) (fresh_code (form m) (shape m) m.nodes x) (at_client m d))
   unfolding at_client desk_code
-  desk_rest = begin_found (is_unsound m) (no_client d) (is_bad (shape m) (client m d)) (is_idle (client m d)) (fresh_code (shape m) m.nodes x)
+  desk_rest = begin_found (is_unsound m) (no_client d) (is_bad (shape m) (client m d)) (is_idle (client m d)) (fresh_code (form m) (shape m) m.nodes x)
 
   pub desk_taken : at_client m d ≡ 0 → desk_code m d x ≡ refused_taken
   desk_taken h = desk_rest ∙ rw h
 
-  pub desk_free : at_client m d ≡ refused_idle → desk_code m d x ≡ fresh_code (shape m) m.nodes x
+  pub desk_free : at_client m d ≡ refused_idle → desk_code m d x ≡ fresh_code (form m) (shape m) m.nodes x
   desk_free h = desk_rest ∙ rw h
 
   pub desk_other : (at_client m d ≡ 0 → ⊥) → (at_client m d ≡ refused_idle → ⊥) → desk_code m d x ≡ at_client m d

@@ -2,14 +2,14 @@
 -- crates/rules/specs has no name for it. Leans on rules and clients. Definitions only. Assumes nothing.
 use Rattle.std.specs.Prelude.{Bool, cond, not, ◌&&◌, List, [], ℕ, eqb, leb, get_or}
 use Rattle.query.specs.declared.Range.{Range}
-use Rattle.query.specs.Shape.{Shape}
+use Rattle.query.specs.Shape.{Form, Shape}
 use Rattle.rules.specs.Layout.{answer_count_offset, node_count_offset, reads, inserts, refused_short, refused_unsound, refused_no_client, refused_taken}
 use Rattle.rules.specs.Layout.{refused_no_entry, refused_pending, refused_worn}
 use Rattle.rules.specs.Work.{Request, read_of, insert_of, delete_of, is_write, fault_of}
 use Rattle.rules.specs.Nodes.{is_worn, is_free}
 use Rattle.rules.specs.Client.{is_idle, is_bad}
 use Rattle.rules.specs.Memory.{current, Mem, store_in}
-use Rattle.rules.specs.Refusals.{shape, client, is_short, bad_columns, is_unsound, no_client, refuse, evict_answer_code, evict_node_code}
+use Rattle.rules.specs.Refusals.{form, shape, client, is_short, bad_columns, is_unsound, no_client, refuse, evict_answer_code, evict_node_code}
 use Rattle.checks.specs.declared.Request as begins
 use Rattle.checks.specs.declared.Request.TheVariants.{Read, Insert, Delete}
 use Rattle.checks.specs.declared.Kept.{Kept}
@@ -39,8 +39,8 @@ abbrev pub asked_code : Shape → Request → ℕ
 asked_code sh x = refuse (not (eqb (fault_of sh x) 0)) (fault_of sh x) (columns_code sh)
 
 -- 10 worn, by the nodes alone
-abbrev pub fresh_code : Shape → List ℕ → Request → ℕ
-fresh_code sh s x = refuse (is_write x && is_worn current sh (store_in current s)) refused_worn 0
+abbrev pub fresh_code : Form → Shape → List ℕ → Request → ℕ
+fresh_code f sh s x = refuse (is_write x && is_worn f sh (store_in f s)) refused_worn 0
 
 -- what a begin is refused with that is not short and not turned down for itself
 unfoldable pub desk_code : Mem → ℕ → Request → ℕ
@@ -48,7 +48,7 @@ desk_code m d x =
     refuse (is_unsound m) refused_unsound
     (refuse (no_client d) refused_no_client
     (refuse (is_bad (shape m) (client m d)) refused_unsound
-    (refuse (not (is_idle (client m d))) refused_taken (fresh_code (shape m) m.nodes x))))
+    (refuse (not (is_idle (client m d))) refused_taken (fresh_code (form m) (shape m) m.nodes x))))
 
 -- ---- Evictions
 abbrev pub answer_code : List ℕ → ℕ → ℕ

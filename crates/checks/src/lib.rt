@@ -7,6 +7,7 @@ ghost use Rattle.std.specs.Prelude.{◌≡◌, Bool, false, true, List, ℕ, ◌
 ghost use Rattle.query.specs.Shape.{Shape, shape_of, max_columns};
 ghost use Rattle.query.specs.Encoding.{is_query};
 ghost use Rattle.rules.specs.Work.{ask_fault, read_of, insert_of, delete_of, ask_of, key_of, work_of, kind_of};
+ghost use Rattle.rules.specs.Memory.{current};
 ghost use Rattle.rules.specs.Refusals.{shape, is_short, bad_columns, is_unsound, at_client, begin_code, step_code, abandon_code, renew_code};
 ghost use Rattle.clients.specs.ClientContracts.{IsHeld};
 ghost use Rattle.nodes.specs.NodeContracts;
@@ -205,7 +206,7 @@ fn request_key(k: u32, request: Request, asked: &[u32]) -> Result<[u32; Hall::KE
 #[tactic(auto, unfolding(rules::specs::Work::is_write))]
 fn fresh_check(nodes: &[u32], request: Request) -> Result<(), Refusal>
     requires { NodeContracts.Fit nodes.now }
-    ensures { (sh : Shape) (a : List ℕ) → code_of result ≡ fresh_code sh nodes.now (request_of request a) }
+    ensures { (sh : Shape) (a : List ℕ) → code_of result ≡ fresh_code current sh nodes.now (request_of request a) }
 {
     match request {
         Request::Read { .. } => Ok(()), // it raises no counter

@@ -3,7 +3,7 @@
 use mathlib.Core.Path.{◌≡◌, refl, sym, ap, ◌∙◌}
 use mathlib.Core.Bool.{Bool, true, false}
 use mir.Val.{bool_byte}
-use mathlib.Core.List.{List, [], ◌++◌, append-nil}
+use mathlib.Core.List.{List, [], ◌∷◌, ◌++◌, append-nil}
 use Prim.Native.Nat.{ℕ, ◌+◌, ◌-◌, ◌≤◌, ◌<◌}
 use native.Mathlib.Omega.{arith}
 use lib.ListN.{length, get_or, take, drop, set, replicate, length-set, length-drop, length-replicate, drop_of_length-le}
@@ -19,6 +19,7 @@ use Rattle.query.specs.Encoding.{key_width}
 use Rattle.query.specs.Shape.{Shape}
 use Rattle.rules.specs.Layout.{list_room, steps_offset, entry_offset, client_width, client_offset, held_length_offset, noted_offset, held_list_offset}
 use Rattle.rules.specs.Memory.{current, client_in, with_client}
+use Rattle.rules.proofs.ClientLaws.{idle_wide}
 use Rattle.rules.proofs.ClientParts.{stepped_next, holding_wide}
 use Rattle.clients.specs.ClientContracts.{Fit, begun_with, value_set}
 use Rattle.clients.proofs.ClientMemory.{client_room, length_client, with_self, client_same, with_twice, with_words, part_cleared, length_kept}
@@ -44,6 +45,11 @@ flag_byte false = refl
 pub key_behind : (x : ℕ) (key : List ℕ) → length key ≡ key_width → written (set idle 0 x) entry_offset key ≡ begun_with x key
 unfolding written idle begun_with padded
 key_behind x key n = rw n
+
+-- and behind the five numbers before it
+key_behind_head : (x : ℕ) (key : List ℕ) → length key ≡ key_width → written (written idle 0 (x ∷ 0 ∷ 0 ∷ 0 ∷ 0 ∷ [])) entry_offset key ≡ begun_with x key
+unfolding written idle begun_with padded
+key_behind_head x key n = rw n
 
 -- where no write is pending the number that says so stays
 quiet : (c : Client) (j revision pending : ℕ) → pending ≡ 0 → noted j revision pending c ≡ set (stepped c) (noted_offset j) revision
@@ -109,11 +115,22 @@ module _ (s : List ℕ) (d : ℕ) (f : Fit s d) where
       let m : at + client_width - at ≡ client_width = omega arith in
       part_cleared s at (at + client_width) t (omega arith) (omega arith) g ∙ rw (m, e)
 
-  -- c: the client before its key is written
-  pub begun_left : (s₁ : List ℕ) (c : Client) (x at : ℕ) (key : List ℕ) → s₁ ≡ with_client current s d c → length c ≡ client_width → at ≡ client_offset current d
+  pub begun_left : (s₁ s₂ : List ℕ) (x : ℕ) (key : List ℕ) → s₁ ≡ with_client current s d idle → s₂ ≡ written s₁ (client_offset current d) (x ∷ 0 ∷ 0 ∷ 0 ∷ 0 ∷ []) → length key ≡ key_width
+      → written s₂ (client_offset current d + entry_offset) key ≡ with_client current s d (begun_with x key)
+  begun_left s₁ s₂ x key e g n =
+      let head : List ℕ = x ∷ 0 ∷ 0 ∷ 0 ∷ 0 ∷ [] in
+      let c : Client = written idle 0 head in
+      let m : length c ≡ client_width = length_written idle 0 head (rw idle_wide (omega arith)) ∙ idle_wide in
+      let z : client_offset current d ≡ client_offset current d + 0 = omega arith in
+      let h : s₂ ≡ with_client current s d c =
+      g ∙ ap (λ (i : ℕ). written s₁ i head) z ∙ ap (λ (y : List ℕ). written y (client_offset current d + 0) head) e ∙ with_words s d f idle idle_wide 0 head (omega arith) in
+      rw h (with_words s d f c m entry_offset key (omega arith) ∙ ap (with_client current s d) (key_behind_head x key n))
+
+  -- the same by the part that the code writes: c is the client before its key is written
+  pub begun_behind : (s₁ : List ℕ) (c : Client) (x at : ℕ) (key : List ℕ) → s₁ ≡ with_client current s d c → length c ≡ client_width → at ≡ client_offset current d
       → length key ≡ key_width → written c entry_offset key ≡ begun_with x key
       → put_mid (at + entry_offset) (at + entry_offset + key_width - (at + entry_offset)) s₁ key ≡ with_client current s d (begun_with x key)
-  begun_left s₁ c x at key e w h n b =
+  begun_behind s₁ c x at key e w h n b =
       let m : at + entry_offset + key_width - (at + entry_offset) ≡ key_width = omega arith in
       rw (m, mid_written s₁ (at + entry_offset) key_width key n, e, h) (with_words s d f c w entry_offset key (omega arith) ∙ ap (with_client current s d) b)
 

@@ -65,7 +65,7 @@ unfolding bare_key unranged query_width is_ranged padded
 bare_seven n a b c d l h None e = rw e
 bare_seven n a b c d l h (Between i x y) e = rw e
 
-bare_rest : (key : List ℕ) → length key ≡ key_width → bare_key key ≡ get_or (bare_key key) 0 0 ∷ padded (key_width - 1) (take (query_width (range_in key)) (drop 1 key))
+pub bare_rest : (key : List ℕ) → length key ≡ key_width → bare_key key ≡ get_or (bare_key key) 0 0 ∷ padded (key_width - 1) (take (query_width (range_in key)) (drop 1 key))
 bare_rest (n ∷ a ∷ b ∷ c ∷ d ∷ l ∷ h ∷ []) e =
     let key : List ℕ = n ∷ a ∷ b ∷ c ∷ d ∷ l ∷ h ∷ [] in
     bare_seven n a b c d l h (range_in key) refl
@@ -103,12 +103,16 @@ bare_same : (key : List ℕ) → length key ≡ key_width → get_or key 0 0 % c
 bare_same [] l = absurd (omega arith)
 bare_same (x ∷ key) l = bare_first x key
 
--- an entry's first number
-module _ (e : List ℕ) (w : length e ≡ entry_width) where
-  key_first : get_or e 0 0 ≡ get_or (key_in e) 0 0
-  unfolding key_in
-  key_first = sym (get_or-take key_width e 0 0 (omega arith))
+-- an entry's first number, and a client's
+key_first : (e : List ℕ) → get_or e 0 0 ≡ get_or (key_in e) 0 0
+unfolding key_in
+key_first e = sym (get_or-take key_width e 0 0 (omega arith))
 
+pub first_read : (c : Client) → get_or c entry_offset 0 ≡ get_or (key_in (entry_of c)) 0 0
+unfolding entry_of
+first_read c = sym (get_or-drop entry_offset c 0 0) ∙ key_first (drop entry_offset c)
+
+module _ (e : List ℕ) (w : length e ≡ entry_width) where
   key_long : length (key_in e) ≡ key_width
   unfolding key_in
   key_long = length-take-le key_width e (omega arith)
@@ -148,12 +152,12 @@ four_at s i h =
 module _ (c : Client) (e : List ℕ) (own : e ≡ entry_of c) (w : length e ≡ entry_width) where
   pub marks_read : (n : ℕ) → ((vs : List ℕ) → n ≡ get_or (bare_key (get_or e 0 0 ∷ vs)) 0 0) → n ≡ get_or (bare_key (key_in (entry_of c))) 0 0
   marks_read n f =
-      f [] ∙ sym (bare_first (get_or e 0 0) []) ∙ ap (λ (x : ℕ). x % count_bit) (key_first e w) ∙ bare_same (key_in e) (key_long e w)
+      f [] ∙ sym (bare_first (get_or e 0 0) []) ∙ ap (λ (x : ℕ). x % count_bit) (key_first e) ∙ bare_same (key_in e) (key_long e w)
       ∙ ap (λ (l : List ℕ). get_or (bare_key (key_in l)) 0 0) own
 
   pub counts_read : (r : Bool) → ((vs : List ℕ) → r ≡ counts_in (get_or e 0 0 ∷ vs)) → r ≡ is_count (entry_of c)
   unfolding is_count counts_in
-  counts_read r f = f [] ∙ ap (λ (x : ℕ). eqb (x / count_bit % 2) 1) (key_first e w) ∙ ap is_count own
+  counts_read r f = f [] ∙ ap (λ (x : ℕ). eqb (x / count_bit % 2) 1) (key_first e) ∙ ap is_count own
 
   -- its first four values, one by one
   pub four_read : (get_or e 1 0 ∷ get_or e 2 0 ∷ get_or e 3 0 ∷ get_or e 4 0 ∷ []) ≡ take max_columns (drop 1 (key_in (entry_of c)))

@@ -24,7 +24,8 @@ use Rattle.rules.proofs.ClientLaws.{writes_at, asked_counts, steps_at, look_coun
 use Rattle.columns.specs.declared.marked.Marked.{Marked}
 use Rattle.columns.specs.MarkedContracts.{marked_query}
 use Rattle.clients.specs.declared.Held.{Held}
-use Rattle.clients.specs.ClientContracts.{IsHeld, held_query, At}
+use Rattle.clients.specs.declared.Numbers.{Numbers}
+use Rattle.clients.specs.ClientContracts.{IsNumbers, IsHeld, held_query, At}
 use Rattle.clients.proofs.ClientReads.{bare_values}
 
 -- ---- The query
@@ -36,13 +37,21 @@ columns_take (suc k) m zero vs h = absurd (omega arith)
 columns_take (suc k) m (suc n) [] h = refl
 columns_take (suc k) m (suc n) (v ∷ vs) h = ap (λ (q : Query). column_of (m % 2) v ∷ q) (columns_take k (m / 2) n vs (omega arith))
 
+-- of any client's numbers
+pub numbers_law : (k m : ℕ) (vs : List ℕ) (c : Client) → k ≤ max_columns → m ≡ get_or (bare_key (key_in (entry_of c))) 0 0
+    → vs ≡ take max_columns (drop 1 (key_in (entry_of c))) → columns_in k m vs ≡ query_at (shape_of k) c
+unfolding query_at query_in
+numbers_law k m vs c few b v =
+    let key : List ℕ = key_in (entry_of c) in
+    rw (b, v, ← bare_values key) (columns_take k (get_or (bare_key key) 0 0) max_columns (drop 1 (bare_key key)) few)
+
+pub numbers_query_law : (n : Numbers) (s : List ℕ) (d : ℕ) → IsNumbers n s d → n.columns ≤ max_columns → columns_in n.columns n.marks n.values ≡ query_at (shape_in s) (client_in current s d)
+numbers_query_law n s d i few = rw (← i.columns) (numbers_law n.columns n.marks n.values (client_in current s d) few i.marks i.values)
+
+-- of what is held of one
 pub query_law : (q : Marked) (k : ℕ) (c : Client) → q.k ≡ k → q.marks ≡ get_or (bare_key (key_in (entry_of c))) 0 0
     → q.values ≡ take max_columns (drop 1 (key_in (entry_of c))) → marked_query q ≡ query_at (shape_of k) c
-unfolding query_at query_in
-query_law q k c a b v =
-    let key : List ℕ = key_in (entry_of c) in
-    let few : k ≤ max_columns = (let z = q.few in omega arith) in
-    rw (a, b, v, ← bare_values key) (columns_take k (get_or (bare_key key) 0 0) max_columns (drop 1 (bare_key key)) few)
+query_law q k c a b v = rw a (numbers_law k q.marks q.values c (let z = q.few in omega arith) b v)
 
 pub held_query_law : (h : Held) (s : List ℕ) (d : ℕ) → IsHeld h s d → held_query h ≡ query_at (shape_in s) (client_in current s d)
 held_query_law h s d i = query_law h.query _ _ i.columns i.marks i.values

@@ -61,7 +61,7 @@ module _ (n : Node) (p : Words) where
       ∙ rw (w 0 (omega arith), w 1 (omega arith), w 2 (omega arith), w 3 (omega arith), w 4 (omega arith), a, b, c, d, e) (sym (five p k)))
 
   -- the first two agree, so the last three decide
-  pub label_decided : length n ≡ node_width → length p ≡ label_width → bit_or (bit_xor (get_or n 0 0) (get_or p 0 0)) (bit_xor (get_or n 1 0) (get_or p 1 0)) ≡ 0
+  pub label_decided : label_width ≤ length n → length p ≡ label_width → bit_or (bit_xor (get_or n 0 0) (get_or p 0 0)) (bit_xor (get_or n 1 0) (get_or p 1 0)) ≡ 0
       → eqb (bit_or (bit_or (bit_xor (get_or n 2 0) (get_or p 2 0)) (bit_xor (get_or n 3 0) (get_or p 3 0))) (bit_xor (get_or n 4 0) (get_or p 4 0))) 0
       ≡ has_label p n
   unfolding has_label label_in
@@ -72,7 +72,7 @@ module _ (n : Node) (p : Words) where
       by_test (eqb (bit_or x y) 0)
       (λ e. let b = or_both x y (eqb-true (bit_or x y) 0 e) in
       let c = or_both _ _ b.0 in
-      e ∙ sym (label_agrees (omega arith) k (xor_same _ _ a.0) (xor_same _ _ a.1) (xor_same _ _ c.0) (xor_same _ _ c.1) (xor_same _ _ b.1)))
+      e ∙ sym (label_agrees h k (xor_same _ _ a.0) (xor_same _ _ a.1) (xor_same _ _ c.0) (xor_same _ _ c.1) (xor_same _ _ b.1)))
       (λ e. e ∙ sym (ne_same (take label_width n) p
       (λ r. eqb-false (bit_or x y) 0 e
       (or_none x y (or_none _ _ (xor_none _ _ (word_same 2 (omega arith) r)) (xor_none _ _ (word_same 3 (omega arith) r))) (xor_none _ _ (word_same 4 (omega arith) r))))))

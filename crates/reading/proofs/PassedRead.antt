@@ -19,16 +19,20 @@ use Rattle.clients.specs.declared.Held.{Held}
 use Rattle.clients.specs.ClientContracts.{IsHeld, Reader, asked_at}
 use Rattle.reading.specs.ReadContracts.{Steps}
 
+-- a client of this kind is at work on what it asks
+pub asks_there : (tb nd an cl : List ℕ) (d : ℕ) → kind (client_in current cl d) ≡ reads
+    → work_at (shape (mem tb nd an cl)) (client (mem tb nd an cl) d) ≡ asking (asked_at cl d)
+unfolding work_at work_in ask_at client
+asks_there tb nd an cl d x = rw (eq-eqb (kind (client_in current cl d)) reads x)
+
 -- h: what was read of the client
 module _ (tb nd an cl : List ℕ) (d : ℕ) {h : Held} (i : IsHeld h cl d) (x : h.kind ≡ Read) where
   -- the memories of the call
   abbrev m : Mem
   m = mem tb nd an cl
 
-  -- it is at work on what it asks
   pub asks : work_at (shape m) (client m d) ≡ asking (asked_at cl d)
-  unfolding work_at work_in ask_at client
-  asks = rw (eq-eqb (kind (client_in current cl d)) reads (sym i.kind ∙ ap kind_number x))
+  asks = asks_there tb nd an cl d (sym i.kind ∙ ap kind_number x)
 
   -- and sound and busy, where the call's refusals have passed
   pub reader_at : AtWork m d → Reader h cl d

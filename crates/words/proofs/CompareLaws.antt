@@ -38,10 +38,10 @@ alike : (x y : ℕ) → x ≡ y → (ltb x y ≡ false) × ((eqb x y ≡ true) �
 alike x y h = (le-ltb x y (omega arith), (eq-eqb x y h, le-ltb y x (omega arith)))
 
 -- number by number: x and y are what stands n numbers on
-module _ (a b : List ℕ) (n x y : ℕ) (t : (n < length a) × (n < length b) × ((d : ℕ) → x ≡ get_or a n d) × ((d : ℕ) → y ≡ get_or b n d)) where
+module _ (a b : List ℕ) (n x y : ℕ) (t : (n < length a) × (n < length b) × (x ≡ get_or a n 0) × (y ≡ get_or b n 0)) where
   step : order_of (drop n a) (drop n b) ≡ cond (ltb x y) Less (cond (ltb y x) Greater (order_of (drop (n + 1) a) (drop (n + 1) b)))
   unfolding order_of
-  step = rw (add-one, drop-cons a n 0 t.0, drop-cons b n 0 t.1, ← t.2 0, ← t.3 0)
+  step = rw (add-one, drop-cons a n 0 t.0, drop-cons b n 0 t.1, ← t.2, ← t.3)
 
   pub order_before : x < y → Less ≡ order_of (drop n a) (drop n b)
   order_before h = let t = less x y h in rw (step, t.0)

@@ -28,13 +28,12 @@ reads_read Read e = refl
 reads_read Insert e = absurd (omega arith)
 reads_read Delete e = absurd (omega arith)
 
--- h is what was read of the client
 -- the table has as many columns as were read
-pub table_held : (m : Mem) (d : ℕ) (h : Held) → IsHeld h m.clients d → Sound m → TableContracts.Fit h.query.k m.table
-table_held m d h i s =
-    let e = i.columns in
+pub table_held : (m : Mem) (k : ℕ) → k ≡ (shape m).columns → Sound m → TableContracts.Fit k m.table
+table_held m k e s =
     record { columns = (let l = s.least in omega arith, let l = s.most in omega arith); long = s.long.table; few = s.records }
 
+-- h is what was read of the client
 module _ (tb nd an cl : List ℕ) (d : ℕ) (h : Held) (i : IsHeld h cl d) (x : h.kind ≡ Read → ⊥) where
   -- the memories of the call
   abbrev m : Mem

@@ -15,6 +15,7 @@ use Rattle.std.proofs.Common.{Result, Ok, Err, is_ok, IfErr}
 use Rattle.lists.specs.Lists.{same, listed}
 use Rattle.laws.proofs.ListLaws.{ne_same, and_left, and_right, listed_snoc}
 use Rattle.query.specs.Query.{Query, write_node, write_count}
+use Rattle.query.specs.Encoding.{columns_in}
 use Rattle.query.specs.Shape.{max_columns}
 use Rattle.query.proofs.NodeLists.{write_count_most, write_nodes_differ}
 use Rattle.query.proofs.EncodingLaws.{columns_length, label_words_injective}
@@ -148,11 +149,14 @@ module _ (q : Query) (i : ℕ) (s : Store) where
       ∙ ap (λ (ps : List Words). places_of ps s) (sym (listed_snoc (label_at q) i j))
 
 -- at most 16 nodes
-pub few_nodes : (q : Marked) → write_count (marked_query q) ≤ look_room
-few_nodes q =
-    let w : length (marked_query q) ≡ q.k = columns_length q.k q.marks q.values in
-    let f : q.k ≤ max_columns = q.few in
-    write_count_most (marked_query q) (omega arith)
+pub few_nodes : (k m : ℕ) (vs : List ℕ) (n : ℕ) → n ≤ write_count (columns_in k m vs) → k ≤ max_columns → n ≤ look_room
+few_nodes k m vs n e l =
+    let w : length (columns_in k m vs) ≡ k = columns_length k m vs in
+    let most : write_count (columns_in k m vs) ≤ look_room = write_count_most (columns_in k m vs) (omega arith) in
+    omega arith
+
+pub few_marked : (q : Marked) → write_count (marked_query q) ≤ look_room
+few_marked q = few_nodes q.k q.marks q.values (write_count (marked_query q)) (omega arith) q.few
 
 -- ---- one taken off each
 -- after the first j: what is left to do leads where all would have led

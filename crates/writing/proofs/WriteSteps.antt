@@ -259,7 +259,7 @@ module _
 
 -- ---- the table step
 -- what an insert and a delete say
-insert_said : (r : Record) (t : Table) → report_of (inserted_as r t) ≡ reported (insert r) t
+pub insert_said : (r : Record) (t : Table) → report_of (inserted_as r t) ≡ reported (insert r) t
 unfolding reported
 insert_said r t = rw (full_no_room r t, added_changes r t) (go (inserted_as r t))
   where
@@ -268,7 +268,7 @@ insert_said r t = rw (full_no_room r t, added_changes r t) (go (inserted_as r t)
     go Present = refl
     go NoRoom = refl
 
-delete_said : (q : Query) (t : Table) → cond (eqb (gone q t) 0) Unchanged Changed ≡ reported (delete q) t
+pub delete_said : (q : Query) (t : Table) → cond (eqb (gone q t) 0) Unchanged Changed ≡ reported (delete q) t
 unfolding reported
 delete_said q t = rw (delete_no_room q t, gone_changes q t) (go (eqb (gone q t) 0))
   where
@@ -345,11 +345,11 @@ pub held_length : (h : Held) → length (held_query h) ≡ h.query.k
 held_length h = columns_length h.query.k h.query.marks h.query.values
 
 module _ (h : Held) (t : List ℕ) where
-  pub change_insert : eqb (kind_number h.kind) inserts ≡ true → (r : Record) → length r ≡ h.query.k → r ≡ take h.query.k h.query.values
-      → (report_of (inserted_as r (records_in (length r) t)) ≡ reported (held_change h) (records_in h.query.k t))
-      × (with_records (length r) t (effect (insert r) (records_in (length r) t)) ≡ with_records h.query.k t (effect (held_change h) (records_in h.query.k t)))
+  pub change_insert : eqb (kind_number h.kind) inserts ≡ true → (r : Record) → r ≡ take h.query.k h.query.values
+      → (report_of (inserted_as r (records_in h.query.k t)) ≡ reported (held_change h) (records_in h.query.k t))
+      × (with_records h.query.k t (effect (insert r) (records_in h.query.k t)) ≡ with_records h.query.k t (effect (held_change h) (records_in h.query.k t)))
   unfolding held_change
-  change_insert x r l e = rw (x, ← e, ← l) (insert_said r (records_in (length r) t), refl)
+  change_insert x r e = rw (x, ← e) (insert_said r (records_in h.query.k t), refl)
 
   pub change_delete : eqb (kind_number h.kind) inserts ≡ false → (q : Query) → q ≡ held_query h
       → (cond (eqb (gone q (records_in (length q) t)) 0) Unchanged Changed ≡ reported (held_change h) (records_in h.query.k t))

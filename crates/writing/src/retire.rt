@@ -15,7 +15,7 @@ use columns::marked::Marked;
 use hall::{Hall, Refusal};
 
 // Where the write's n nodes from number `from` on stand, if a mark can be taken off each of them; behind the n places there are zeros.
-#[tactic(auto, using(crate::proofs::Retiring::few_nodes))]
+#[tactic(auto, using(crate::proofs::Retiring::few_marked))]
 pub fn can_retire(
     nodes: &[u32],
     query: &Marked,
@@ -51,7 +51,7 @@ fn take_off(nodes: &mut [u32], places: &[usize], lift: bool)
 
 // Takes a mark off each of the write's n nodes from number `from` on. Refused, and nothing is altered, where one of them is missing, has none,
 // or its revision is to be lifted and is the largest.
-#[tactic(auto, using(crate::proofs::Retiring::few_nodes))]
+#[tactic(auto, using(crate::proofs::Retiring::few_marked))]
 pub fn retire(
     nodes: &mut [u32],
     query: &Marked,

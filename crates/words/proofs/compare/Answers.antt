@@ -11,17 +11,17 @@ loop-x-init c = refl
 pub returns-then-x-y : goal.returns-then-x-y
 returns-then-x-y c =
     let t = zip_turn c.args.a.now c.args.b.now c.loop-x.yielded c.into_iter-x-iterator.result c.loop-x.x-iterator c.next.new.self c.next.result (cc) (cc) c.loop-x.yielded_by _ c.in-Some.is c.next.ensures.steps in
-    order_before _ _ _ _ _ t c.if-x-y.true ∙ sym c.loop-x.invariant
+    order_before _ _ _ _ _ (t.0, t.1, t.2 0, t.3 0) c.if-x-y.true ∙ sym c.loop-x.invariant
 
 pub returns-then-y-x : goal.returns-then-y-x
 returns-then-y-x c =
     let t = zip_turn c.args.a.now c.args.b.now c.loop-x.yielded c.into_iter-x-iterator.result c.loop-x.x-iterator c.next.new.self c.next.result (cc) (cc) c.loop-x.yielded_by _ c.in-Some.is c.next.ensures.steps in
-    order_after _ _ _ _ _ t c.if-y-x.true ∙ sym c.loop-x.invariant
+    order_after _ _ _ _ _ (t.0, t.1, t.2 0, t.3 0) c.if-y-x.true ∙ sym c.loop-x.invariant
 
 pub loop-x-preserved : goal.loop-x-preserved
 loop-x-preserved c =
     let t = zip_turn c.args.a.now c.args.b.now c.loop-x.yielded c.into_iter-x-iterator.result c.loop-x.x-iterator c.next.new.self c.next.result (cc) (cc) c.loop-x.yielded_by _ c.in-Some.is c.next.ensures.steps in
-    rw length_push (c.loop-x.invariant ∙ order_on _ _ _ _ _ t c.if-x-y.false c.if-y-x.false)
+    rw length_push (c.loop-x.invariant ∙ order_on _ _ _ _ _ (t.0, t.1, t.2 0, t.3 0) c.if-x-y.false c.if-y-x.false)
 
 pub returns : goal.returns
 returns c =

@@ -1,5 +1,5 @@
 -- `writing::change` meets its contract, for an insert and for a delete. Assumes nothing.
-use Rattle.std.proofs.Common.{◌≡◌, Bool, eqb, cond, length, sym, ap, ◌∙◌, refl, rules}
+use Rattle.std.proofs.Common.{◌≡◌, Bool, eqb, cond, length, take, sym, ap, ◌∙◌, refl, rules}
 use Rattle.std.proofs.lemmas.List.{length-take-le}
 use denote.Enum.Bare.{sameb}
 use borrow.Author.Tests.{eq-eqb, ne_eqb}
@@ -21,8 +21,9 @@ by_number Delete = refl
 pub returns-then-eq : goal.returns-then-eq
 returns-then-eq c =
     let said = c.insert.ensures in
-    let x = change_insert c.args.h c.args.table.now (by_number c.args.h.kind ∙ sym c.eq.ensures ∙ c.if-eq.true) _ (length-take-le _ _ (search rules)) refl in
-    record { said = c.from.ensures ∙ ap report_of said.value ∙ x.0; left = said.table_after ∙ x.1 }
+    let x = change_insert c.args.h c.args.table.now (by_number c.args.h.kind ∙ sym c.eq.ensures ∙ c.if-eq.true) _ refl in
+    let l : length (take c.args.h.query.k c.args.h.query.values) ≡ c.args.h.query.k = length-take-le _ _ (search rules) in
+    record { said = c.from.ensures ∙ ap report_of (rw l at said.value) ∙ x.0; left = (rw l at said.table_after) ∙ x.1 }
 
 pub delete-requires : goal.delete-requires
 delete-requires c = fit_wide (ap length c.query.ensures ∙ held_length c.args.h) c.requires

@@ -1,7 +1,8 @@
 -- `calls::desks::try_abandon` meets its contract: each way out cites what the passed check tells. Assumes nothing.
-use Rattle.std.proofs.Common.{◌∙◌}
+use Rattle.std.proofs.Common.{sym, ap, ◌∙◌}
 use Rattle.rules.specs.Refusals.{abandon_code}
 use Rattle.rules.proofs.PassedChecks.{abandon_passed}
+use Rattle.hall.specs.Kind.{kind_number}
 use Rattle.writing.proofs.PassedWrite.{gives_up, abandon_due}
 use Rattle.checks.proofs.SoundMemories.{nodes_fit, client_fit}
 use Rattle.calls.proofs.CallLaws.{passed, held_there, reader_gives_up}
@@ -15,7 +16,7 @@ set_idle-requires c =
 pub returns-in-Read-clause-leaves : goal.returns-in-Read-clause-leaves
 returns-in-Read-clause-leaves c =
     let z = passed c.view.ensures (λ m. abandon_code m c.args.client) c.in_ok-held.ensures.code in
-    reader_gives_up _ _ _ _ _ z (held_there c.view.ensures _ c.in_ok-held.ensures.ok) c.in-Read.is _ c.set_idle.ensures
+    reader_gives_up _ _ _ _ _ z (sym (held_there c.view.ensures _ c.in_ok-held.ensures.ok).kind ∙ ap kind_number c.in-Read.is) _ c.set_idle.ensures
 
 pub abandon_write-requires-clause-writer : goal.abandon_write-requires-clause-writer
 abandon_write-requires-clause-writer c =

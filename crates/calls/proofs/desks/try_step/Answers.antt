@@ -32,7 +32,7 @@ write_step-requires-clause-fit c =
 pub write_step-requires-clause-fit_2 : goal.write_step-requires-clause-fit_2
 write_step-requires-clause-fit_2 c =
     let z = passed c.view.ensures (λ m. step_code m c.args.tray.now c.args.client) c.in_ok-held.ensures.code in
-    table_held (lent_mut c.args.memories.now) _ _ (held_there c.view.ensures _ c.in_ok-held.ensures.ok) (step_passed _ _ _ z).1.0
+    table_held (lent_mut c.args.memories.now) _ (held_there c.view.ensures _ c.in_ok-held.ensures.ok).columns (step_passed _ _ _ z).1.0
 
 pub returns-in_default-clause-leaves : goal.returns-in_default-clause-leaves
 returns-in_default-clause-leaves c =

@@ -1,5 +1,5 @@
 -- `tallied::would::abandon_would` meets its contract: by what is under way. Assumes nothing.
-use Rattle.std.proofs.Common.{sym, refl, ap}
+use Rattle.std.proofs.Common.{sym, refl, ap, ◌∙◌}
 use Rattle.rules.specs.Tally.{count_of}
 use Rattle.rules.proofs.PassedChecks.{abandon_passed}
 use Rattle.writing.proofs.PassedWrite.{reads_read, gives_up, abandon_due}
@@ -14,7 +14,7 @@ pub returns-in-Read : goal.returns-in-Read
 unfolding count_of
 returns-in-Read c =
     let f = c.in-Ok.ensures in
-    abandon_raises _ _ (reader_gives_up _ _ _ _ _ (sym f.code) f.ok c.in-Read.is _ refl) refl (λ x l. reader_left _ _ _ f.ok.kind (ap kind_number c.in-Read.is)) refl
+    abandon_raises _ _ (reader_gives_up _ _ _ _ _ (sym f.code) (sym f.ok.kind ∙ ap kind_number c.in-Read.is) _ refl) refl (λ x l. reader_left _ _ _ f.ok.kind (ap kind_number c.in-Read.is)) refl
 
 pub abandon_would-requires-clause-writer : goal.abandon_would-requires-clause-writer
 abandon_would-requires-clause-writer c = let f = c.in-Ok.ensures in gives_up _ _ _ _ _ _ f.ok c.in_default-kind.not-Read (sym f.code)

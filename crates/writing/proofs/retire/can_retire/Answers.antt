@@ -1,7 +1,7 @@
 -- `writing::retire::can_retire` meets its contract: what the search of a label gives goes on, and its place is kept. Assumes nothing.
 use Rattle.std.proofs.Common.{refl, arith, rules}
 use Rattle.std.proofs.lemmas.List.{length-set}
-use Rattle.writing.proofs.Retiring.{test_start, test_next, test_stop, test_end, place_there, place_missing, goes_on, goes_unsound, kept_none, kept_more, few_nodes}
+use Rattle.writing.proofs.Retiring.{test_start, test_next, test_stop, test_end, place_there, place_missing, goes_on, goes_unsound, kept_none, kept_more, few_marked}
 use Rattle.writing.proofs.retire.can_retire.Goals as goal
 
 pub loop-j-init : goal.loop-j-init
@@ -21,7 +21,7 @@ loop-j-preserved c =
     let x = place_there _ _ _ _ c.find_retirable.ensures _ c.in_ok-places.was in
     record {
       left = test_next _ _ _ _ _ _ _ c.loop-j.invariant.left _ _ c.write_label-label.ensures refl (omega arith) x.0;
-      kept = kept_more _ _ _ _ _ c.loop-j.invariant.kept (omega (arith, few_nodes c.args.query.now)) _ _ c.write_label-label.ensures x.1;
+      kept = kept_more _ _ _ _ _ c.loop-j.invariant.kept (omega (arith, few_marked c.args.query.now)) _ _ c.write_label-label.ensures x.1;
       size = search (rules, length-set);
     }
 

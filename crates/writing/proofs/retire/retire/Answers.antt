@@ -1,7 +1,7 @@
 -- `writing::retire::retire` meets its contract: the places that the test gave are those of the write's nodes. Assumes nothing.
 use Rattle.std.proofs.Common.{sym, arith, rules}
 use Rattle.std.proofs.lemmas.List.{length-take-le}
-use Rattle.writing.proofs.Retiring.{few_nodes, can_take_off, took_off, took_nothing, took_none}
+use Rattle.writing.proofs.Retiring.{few_marked, can_take_off, took_off, took_nothing, took_none}
 use Rattle.writing.proofs.retire.retire.Goals as goal
 
 pub returns-then-n-eq0 : goal.returns-then-n-eq0
@@ -14,7 +14,7 @@ returns-in_err-places c =
 
 -- no more nodes than places
 pub slice_bounds-take_off-end : goal.slice_bounds-take_off-end
-slice_bounds-take_off-end c = sym (length-take-le _ _ (omega (arith, few_nodes c.args.query.now)))
+slice_bounds-take_off-end c = sym (length-take-le _ _ (omega (arith, few_marked c.args.query.now)))
 
 pub take_off-requires-clause-can_take_off : goal.take_off-requires-clause-can_take_off
 take_off-requires-clause-can_take_off c =
