@@ -5,7 +5,7 @@ ghost use Rattle.query.specs.Query.{naming, read_count};
 ghost use Rattle.query.specs.Encoding.{key_width};
 ghost use Rattle.query.specs.Shape.{shape_of, max_columns};
 ghost use Rattle.query.specs.declared.Column.TheVariants.{Wildcard};
-ghost use Rattle.query.specs.Encoding.{column_of, columns_in, column_value, key_words, is_key, range_unit, range_of, bare_key};
+ghost use Rattle.query.specs.Encoding.{column_of, columns_in, column_value, key_words, names_all, is_key, range_unit, range_of, bare_key};
 ghost use Rattle.query.specs.Range.{is_ranged, is_named, is_range, is_reversed};
 ghost use Rattle.columns.specs.KeyContracts.{keeps, zero_under, query_width};
 
@@ -37,6 +37,14 @@ pub fn look_count(k: usize, marks: u32) -> usize
     ensures { (vs : List ℕ) → result ≡ read_count (columns_in k marks vs) }
 {
     usize::from(LOOKS[marks as usize])
+}
+
+// Whether a query names every column, by its marks.
+pub fn names_all(k: usize, marks: u32) -> bool
+    requires { (k ≤ max_columns) × (marks < 2 ^ k) }
+    ensures { (vs : List ℕ) → result ≡ names_all (columns_in k marks vs) }
+{
+    marks == all_marks(k)
 }
 
 // A value where its mark is odd, else 0: a choice without a branch.

@@ -66,7 +66,7 @@ impl Marked {
     pub fn names_all(&self) -> bool
         ensures { result ≡ names_all (marked_query self.now) }
     {
-        self.marks == keys::all_marks(self.k)
+        keys::names_all(self.k, self.marks)
     }
 
     // Whether a begin would turn a range beside it down: its column is past the last, or named too, or its ends are reversed.
