@@ -85,14 +85,15 @@ gave k e tray after c h =
 -- the same of the part that the code copies
 pub gave_copied : (k : ℕ) (e tray part : List ℕ) → ((vs : List ℕ) → false ≡ counts_in (get_or e 0 0 ∷ vs)) → is_long e ≡ false → k ≤ max_columns → length e ≡ entry_width
     → part ≡ take (get_or e length_offset 0 * k) (take (length e - 24) (drop 24 e)) → Gave k e tray (get_or e length_offset 0) (part ++ drop (get_or e length_offset 0 * k) tray)
-unfolding length_in list_in written
+unfolding written
 gave_copied k e tray part c h m w f =
     let n : ℕ = get_or e length_offset 0 * k in
     let b : n ≤ list_room = plain_fits e k c h m in
     let l : length (drop 24 e) ≤ length e - 24 = rw length-drop (omega arith) in
     let g : part ≡ take n (drop 24 e) = rw (take_all (length e - 24) (drop 24 e) l) at f in
     let q : length (take n (drop 24 e)) ≡ n = simp (length-take, length-drop) (omega arith) in
-    record { count = refl; list = rw (← counts_first e false c, g, q, zero-add) }
+    let z : list_offset (shape_of k) + n - list_offset (shape_of k) ≡ n = omega arith in
+    gave k e tray (part ++ drop n tray) (sym (counts_first e false c)) (rw (z, g, q, zero-add) refl)
 
 -- a count leaves the tray
 pub gave_count : (k : ℕ) (e tray : List ℕ) → ((vs : List ℕ) → true ≡ counts_in (get_or e 0 0 ∷ vs)) → Gave k e tray (get_or e length_offset 0) tray
