@@ -1,6 +1,6 @@
 -- Laws of the scans over the nodes: the nodes as the library cuts them out of the memory, a label compared with the five numbers of a node, the
 -- tests of a node, and the first that passes one. Leans on the rules' definitions and on the laws of lists and searches. Assumes nothing.
-use Rattle.std.proofs.Common.{◌≡◌, sym, ap, ◌∙◌, true, false, not, List, [], ℕ, ◌+◌, ◌*◌, ◌-◌, ◌/◌, ◌≤◌, ◌<◌, arith, length, get_or, take, drop, fold, max}
+use Rattle.std.proofs.Common.{◌≡◌, sym, ap, ◌∙◌, true, false, not, List, [], ℕ, ◌+◌, ◌*◌, ◌-◌, ◌/◌, ◌≤◌, ◌<◌, arith, length, get_or, take, drop, fold, max, ◌||◌}
 use lib.Bits.{bit_or, bit_xor, xor_self, xor_add_and, or_add_and, and_le_l, and_le_r}
 use lib.Dec.{eqb, ltb}
 use lib.Seq.{get_or-take, length-take-le}
@@ -100,6 +100,15 @@ pub high_highest : (sh : Shape) (ns : List Node) (h : ℕ) → h ≡ fold (λ x 
 unfolding is_high revision
 high_highest sh ns h e = rw e (above_largest revision (worn_above current sh) 0 ns)
 
+-- by the highest of the floor and all revisions
+pub worn_highest : (sh : Shape) (s : List ℕ) (h : ℕ) → h ≡ fold (λ x n. max x (get_or n revision_offset 0)) (get_or s floor_offset 0) (store_in current s).nodes
+    → ltb (worn_above current sh) h ≡ is_worn current sh (store_in current s)
+unfolding is_worn is_high revision
+worn_highest sh s h e =
+    rw (e, floor_in s) (above_largest revision (worn_above current sh) (get_or s floor_offset 0) (store_in current s).nodes
+    ∙ ap (λ b. ltb (worn_above current sh) (get_or s floor_offset 0) || b) (any_place (is_high current sh) (store_in current s).nodes))
+
+-- by the floor, and where it is low enough by the nodes
 module _ (sh : Shape) (s : List ℕ) where
   pub worn_floor : worn_above current sh < get_or s floor_offset 0 → true ≡ is_worn current sh (store_in current s)
   unfolding is_worn

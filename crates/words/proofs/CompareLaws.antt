@@ -1,6 +1,6 @@
 -- Laws of the comparisons: std's `==` and a fold of tests in the words of lists, and what `order_of` tells of `same` and `before`.
 -- Leans on the library's lists and tests. Assumes nothing.
-use Rattle.std.proofs.Common.{◌≡◌, ℕ, ◌+◌, ◌<◌, ◌≤◌, ◌⊎◌, inl, inr, ⊎_elim, refl, sym, ap, ◌∙◌, Bool, true, false, true≢false, ◌&&◌, List, [], ◌∷◌, length, get_or, drop, replicate, cond, eqb, ltb, nat_eq, fold, Ordering, Less, Equal, Greater, is_lt, is_eq, is_gt, add-one, drop-cons, drop_of_length-le, arith, ltb-true, ltb-false, lt-ltb, le-ltb, eq-eqb, ne_eqb}
+use Rattle.std.proofs.Common.{◌≡◌, ℕ, ◌+◌, ◌<◌, ◌≤◌, ◌⊎◌, inl, inr, ⊎_elim, refl, sym, ap, ◌∙◌, Bool, true, false, true≢false, ◌&&◌, List, [], ◌∷◌, length, get_or, drop, replicate, cond, eqb, ltb, nat_eq, nat_cmp, fold, Ordering, Less, Equal, Greater, is_lt, is_eq, is_gt, add-one, drop-cons, drop_of_length-le, arith, ltb-true, ltb-false, lt-ltb, le-ltb, eq-eqb, ne_eqb}
 use mathlib.Core.Bool.{and_assoc, and-true}
 use Rattle.std.specs.Cmp.Lexicographic.{pointwise}
 use Rattle.lists.specs.Lists.{same, before}
@@ -51,6 +51,21 @@ module _ (a b : List ℕ) (n x y : ℕ) (t : (n < length a) × (n < length b) ×
 
   pub order_on : y ≤ x → x ≤ y → order_of (drop n a) (drop n b) ≡ order_of (drop (n + 1) a) (drop (n + 1) b)
   order_on h g = let t = alike x y (omega arith) in rw (step, t.0, t.1.1)
+
+-- the same by the order of the two numbers, of x and y that are there whatever is taken for a place past the end
+module _ (a b : List ℕ) (n x y : ℕ) (t : (n < length a) × (n < length b) × ((d : ℕ) → x ≡ get_or a n d) × ((d : ℕ) → y ≡ get_or b n d)) where
+  there : (n < length a) × (n < length b) × (x ≡ get_or a n 0) × (y ≡ get_or b n 0)
+  there = (t.0, t.1, t.2 0, t.3 0)
+
+  pub order_differs : (x ≡ y → ⊥) → nat_cmp x y ≡ order_of (drop n a) (drop n b)
+  order_differs e =
+      ⊎_elim (λ h. let l = less x y h in rw l.0 (order_before a b n x y there h))
+      (⊎_elim (λ h. absurd (e h))
+      (λ h. let l = less y x h in rw (l.1.1, ne_eqb x y e) (order_after a b n x y there h)))
+      (three x y)
+
+  pub order_alike : x ≡ y → order_of (drop n a) (drop n b) ≡ order_of (drop (n + 1) a) (drop (n + 1) b)
+  order_alike e = order_on a b n x y there (omega arith) (omega arith)
 
 pub order_end : (a b : List ℕ) (n : ℕ) → length a ≡ length b → length a ≤ n → Equal ≡ order_of (drop n a) (drop n b)
 unfolding order_of
