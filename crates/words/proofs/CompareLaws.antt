@@ -52,7 +52,7 @@ module _ (a b : List ℕ) (n x y : ℕ) (t : (n < length a) × (n < length b) ×
   pub order_on : y ≤ x → x ≤ y → order_of (drop n a) (drop n b) ≡ order_of (drop (n + 1) a) (drop (n + 1) b)
   order_on h g = let t = alike x y (omega arith) in rw (step, t.0, t.1.1)
 
--- the same by the order of the two numbers, of x and y that are there whatever is taken for a place past the end
+-- the same in std's order of two numbers, with x and y as a loop over both lists is handed them: by any default d
 module _ (a b : List ℕ) (n x y : ℕ) (t : (n < length a) × (n < length b) × ((d : ℕ) → x ≡ get_or a n d) × ((d : ℕ) → y ≡ get_or b n d)) where
   there : (n < length a) × (n < length b) × (x ≡ get_or a n 0) × (y ≡ get_or b n 0)
   there = (t.0, t.1, t.2 0, t.3 0)
